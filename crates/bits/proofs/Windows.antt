@@ -1,0 +1,64 @@
+-- A window is a field of 64 bits that starts with a byte: it is eight bytes joined, and each field that lies in it is cut out of it.
+-- Assumes nothing.
+use mathlib.Core.Path.{_≡_, refl, sym, ap, _∙_}
+use mathlib.Core.List.{List}
+use Prim.Native.Nat.{ℕ, zero, suc, _+_, _-_, _*_, _/_, _%_, _^_, _≤_, _<_}
+use native.Mathlib.Nat.{add-zero, mul-add, mul-mod-left, mul-assoc, add-mul}
+use native.Mathlib.Omega.{arith}
+use lib.Bits.{bitOr, or-shifted}
+use lib.ListN.{getD}
+use lib.Pow.{high, low, pow-pos, pow-add, shr-shr, shl-shr, mod-pow-add, shl-lt}
+use lib.Pow as Pow
+use Rattle.bits.specs.Places.{field}
+use Rattle.bits.proofs.Fields.{field-lt, field-add, field-byte}
+
+-- every element is a byte
+abbrev pub Bytes : List ℕ → Type 0
+Bytes bs = (k : ℕ) → getD bs k 0 < 256
+
+module _ (bs : List ℕ) (small : Bytes bs) (i : ℕ) where
+  -- one byte more
+  grow : (k : ℕ) → field bs (8 * i) (8 * k + 8) ≡ field bs (8 * i) (8 * k) * 256 + getD bs (i + k) 0
+  grow k =
+      field-add bs (8 * i) (8 * k) 8
+      ∙ ap (λ (x : ℕ). field bs (8 * i) (8 * k) * 256 + x)
+        (ap (λ (p : ℕ). field bs p 8) (sym (mul-add 8 i k)) ∙ field-byte bs (i + k) (small (i + k)))
+
+  pub eight :
+    field bs (8 * i) 64
+      ≡ getD bs i 0 * 2 ^ 56 + getD bs (i + 1) 0 * 2 ^ 48 + getD bs (i + 2) 0 * 2 ^ 40 + getD bs (i + 3) 0 * 2 ^ 32
+        + getD bs (i + 4) 0 * 2 ^ 24 + getD bs (i + 5) 0 * 2 ^ 16 + getD bs (i + 6) 0 * 2 ^ 8 + getD bs (i + 7) 0
+  eight = omega (arith, field-byte bs i (small i), grow 1, grow 2, grow 3, grow 4, grow 5, grow 6, grow 7)
+
+-- one byte more, k bits above the lowest place
+glue : (x b k : ℕ) → b < 256 → 8 + k ≤ 64 → bitOr (x * 2 ^ (8 + k)) (b * 2 ^ k % 2 ^ 64) ≡ (x * 256 + b) * 2 ^ k
+glue x b k small room =
+    rw (Pow.shl-exact 8 k 64 small room, or-shifted x (8 + k) (b * 2 ^ k) (shl-lt 8 k small), pow-add 2 8 k)
+    (sym (add-mul (x * 256) b (2 ^ k) ∙ ap (λ (y : ℕ). y + b * 2 ^ k) (mul-assoc x 256 (2 ^ k))))
+
+pub joined :
+  (a b c d e f g h : ℕ)
+  → a < 256 → b < 256 → c < 256 → d < 256 → e < 256 → f < 256 → g < 256 → h < 256
+  → bitOr (bitOr (bitOr (bitOr (bitOr (bitOr (bitOr (a * 2 ^ 56 % 2 ^ 64) (b * 2 ^ 48 % 2 ^ 64)) (c * 2 ^ 40 % 2 ^ 64)) (d * 2 ^ 32 % 2 ^ 64)) (e * 2 ^ 24 % 2 ^ 64)) (f * 2 ^ 16 % 2 ^ 64)) (g * 2 ^ 8 % 2 ^ 64)) h
+    ≡ a * 2 ^ 56 + b * 2 ^ 48 + c * 2 ^ 40 + d * 2 ^ 32 + e * 2 ^ 24 + f * 2 ^ 16 + g * 2 ^ 8 + h
+joined a b c d e f g h ha hb hc hd he hf hg hh =
+    let top : a * 2 ^ 56 % 2 ^ 64 ≡ a * 2 ^ 56 = omega arith in
+    let x1 : ℕ = a * 256 + b in
+    let x2 : ℕ = x1 * 256 + c in
+    let x3 : ℕ = x2 * 256 + d in
+    let x4 : ℕ = x3 * 256 + e in
+    let x5 : ℕ = x4 * 256 + f in
+    let x6 : ℕ = x5 * 256 + g in
+    rw (top, glue a b 48 hb (omega arith), glue x1 c 40 hc (omega arith), glue x2 d 32 hd (omega arith), glue x3 e 24 he (omega arith), glue x4 f 16 hf (omega arith), glue x5 g 8 hg (omega arith), or-shifted x6 8 h hh)
+    (omega arith)
+
+-- a shift left drops what leaves the m bits, so with the shift right after it w bits are left, those with t bits below them
+pub shifted : (y s w t m : ℕ) → m ≡ (w + t) + s → y * 2 ^ s % 2 ^ m / 2 ^ (s + t) ≡ y / 2 ^ t % 2 ^ w
+shifted y s w t m e =
+    rw (e, mod-pow-add (y * 2 ^ s) (w + t) s, shl-shr y s, mul-mod-left y (2 ^ s), ← (shr-shr (y % 2 ^ (w + t) * 2 ^ s + 0) s t), high (y % 2 ^ (w + t)) s (pow-pos s))
+    (Pow.field y w t)
+
+-- the w bits after the first s of a window
+pub in-window : (bs : List ℕ) (place s w t : ℕ) → s + w + t ≡ 64 → field bs place 64 / 2 ^ t % 2 ^ w ≡ field bs (place + s) w
+in-window bs place s w t e =
+    rw (← e, field-add bs place (s + w) t, high (field bs place (s + w)) t (field-lt bs (place + (s + w)) t), field-add bs place s w, low (field bs place s) w (field-lt bs (place + s) w))

@@ -1,0 +1,3 @@
+// Bit fields of a byte string: most significant bit first, places counted from 0.
+pub mod read;
+mod window;
