@@ -56,7 +56,7 @@ pub field-byte : (bs : List ℕ) (i : ℕ) → getD bs i 0 < 256 → field bs (8
 field-byte bs i small = top bs i 8 0 small (omega arith) ∙ omega arith
 
 -- places counted from a byte on
-bit-drop : (bs : List ℕ) (i place : ℕ) → bitAt (drop i bs) place ≡ bitAt bs (8 * i + place)
+pub bit-drop : (bs : List ℕ) (i place : ℕ) → bitAt (drop i bs) place ≡ bitAt bs (8 * i + place)
 unfolding bitAt
 bit-drop bs i place =
     let q : (8 * i + place) / 8 ≡ i + place / 8 = omega arith in

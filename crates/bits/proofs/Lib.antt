@@ -1,2 +1,4 @@
 pub mod Fields
 pub mod Windows
+pub mod BitLists
+pub mod Bridge
