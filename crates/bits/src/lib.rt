@@ -1,3 +1,4 @@
 // Bit fields of a byte string: most significant bit first, places counted from 0.
 pub mod read;
+pub mod part;
 mod window;
