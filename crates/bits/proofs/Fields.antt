@@ -3,11 +3,11 @@
 use mathlib.Core.Path.{_≡_, refl, sym, ap, _∙_}
 use mathlib.Core.List.{List}
 use Prim.Native.Nat.{ℕ, zero, suc, _+_, _-_, _*_, _/_, _%_, _^_, _≤_, _<_}
-use native.Mathlib.Nat.{add-zero, add-suc, add-assoc, pow-zero, pow-suc, mod-lt, mul-one, mul-assoc}
+use native.Mathlib.Nat.{zero-mul, zero-div, add-zero, add-suc, add-assoc, pow-zero, pow-suc, mod-lt, mul-one, mul-assoc}
 use native.Mathlib.Omega.{arith}
 use lib.ListN.{getD, drop}
 use lib.Seq.{getD-drop}
-use lib.Pow.{high, low, pow-pos, split, shr-shr}
+use lib.Pow.{shr-shr, shl-shr}
 use Rattle.bits.specs.Places.{bitAt, field}
 
 pub bit-lt : (bs : List ℕ) (place : ℕ) → bitAt bs place < 2
@@ -68,3 +68,27 @@ unfolding field
 field-drop bs i place zero = refl
 field-drop bs i place (suc w) =
     rw (field-drop bs i place w, bit-drop bs i (place + w), ← (add-assoc (8 * i) place w))
+
+-- ---- all zero
+
+-- bits from a place on that are all zero, and after them more such bits
+pub zero-more : (bs : List ℕ) (place at w : ℕ) → place ≤ at → field bs place (at - place) ≡ 0 → field bs at w ≡ 0 → field bs place (at + w - place) ≡ 0
+zero-more bs place at w order first next =
+    let here : place + (at - place) ≡ at = omega arith in
+    let all : at + w - place ≡ (at - place) + w = omega arith in
+    rw (all, field-add bs place (at - place) w, here, first, next, zero-mul (2 ^ w))
+
+high-zero : (n k r : ℕ) → n * 2 ^ k + r ≡ 0 → n ≡ 0
+high-zero n k r e =
+    let z : n * 2 ^ k ≡ 0 = omega arith in
+    sym (shl-shr n k) ∙ rw (z, zero-div (2 ^ k))
+
+-- where bits from a place to the end are all zero, so are those of a part
+pub zero-part : (bs : List ℕ) (place end at w : ℕ) → place ≤ at → at + w ≤ end → field bs place (end - place) ≡ 0 → field bs at w ≡ 0
+zero-part bs place end at w order inside e =
+    let here : place + (at - place) ≡ at = omega arith in
+    let all : end - place ≡ (at - place) + (w + (end - at - w)) = omega arith in
+    let cut : field bs (place + (at - place)) (w + (end - at - w)) ≡ 0 =
+          omega (arith, field-add bs place (at - place) (w + (end - at - w)), ap (field bs place) all) in
+    let tail : field bs at (w + (end - at - w)) ≡ 0 = rw here at cut in
+    high-zero (field bs at w) (end - at - w) (field bs (at + w) (end - at - w)) (sym (field-add bs at w (end - at - w)) ∙ tail)

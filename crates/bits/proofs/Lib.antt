@@ -2,3 +2,4 @@ pub mod Fields
 pub mod Windows
 pub mod BitLists
 pub mod Bridge
+pub mod Short

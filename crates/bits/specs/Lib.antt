@@ -1,3 +1,4 @@
 pub mod Places
 pub mod BitLists
 pub mod Parts
+pub mod Short

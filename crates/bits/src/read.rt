@@ -3,6 +3,7 @@ use crate::window;
 ghost use mathlib.Core.Path.{_≡_};
 ghost use Prim.Native.Nat.{_+_, _-_, _*_, _/_, _%_, _^_, _≤_, _<_};
 ghost use Rattle.bits.specs.Places.{field};
+ghost use Rattle.bits.specs.Short.{takenAt};
 
 // The w bits after the first skip of a window.
 fn cut(window: u64, skip: usize, w: usize) -> u64
@@ -18,4 +19,30 @@ pub fn read_field(bytes: &[u8], place: usize, w: usize) -> u64
     ensures { λ r. ⌜ r ≡ field (now (bytes .entry)) place w ⌝ }
 {
     cut(window::load(bytes, place), place % 8, w)
+}
+
+// How many bits lie between a place and the end: none where the place is past it.
+pub fn bits_left(end: usize, place: usize) -> usize
+    ensures { λ r. ⌜ r ≡ end - place ⌝ }
+{
+    if place < end { end - place } else { 0 }
+}
+
+// A field that is there, or how many of its bits are missing.
+pub enum Taken {
+    Whole(u64),
+    Short(usize),
+}
+
+// The number in w bits at a place of a string whose bits end at end, or how many of them lie past it.
+pub fn take_field(bytes: &[u8], end: usize, place: usize, w: usize) -> Taken
+    requires { ⌜ w ≤ 56 ⌝ }
+    ensures { λ r. ⌜ r ≡ takenAt (now (bytes .entry)) end place w ⌝ }
+{
+    let left = bits_left(end, place);
+    if w <= left {
+        Taken::Whole(read_field(bytes, place, w))
+    } else {
+        Taken::Short(w - left)
+    }
 }
