@@ -56,7 +56,7 @@ eqb-digit false = refl
 bit-below : (w j h n : ℕ) → (h * 2 ^ (w + suc j) + n) / 2 ^ w % 2 ≡ n / 2 ^ w % 2
 bit-below w j h n =
     let above : h * 2 ^ (w + suc j) ≡ (h * 2 ^ j * 2) * 2 ^ w =
-          rw (add-comm w (suc j), pow-add 2 (suc j) w, pow-suc, ← (mul-assoc h (2 ^ j * 2) (2 ^ w)), ← (mul-assoc h (2 ^ j) 2)) in
+    rw (add-comm w (suc j), pow-add 2 (suc j) w, pow-suc, ← (mul-assoc h (2 ^ j * 2) (2 ^ w)), ← (mul-assoc h (2 ^ j) 2)) in
     rw (above, add-comm (h * 2 ^ j * 2 * 2 ^ w) n, add-mul-div-right n (h * 2 ^ j * 2) (pow-pos w)) (omega arith)
 
 spell-below : (w k h n : ℕ) → spell w (h * 2 ^ (w + k) + n) ≡ spell w n
@@ -81,7 +81,7 @@ unfolding spell
 spell-append zero w h n small = rw zero-add (spell-low w h n)
 spell-append (suc u) w h n small =
     let top : (h * 2 ^ w + n) / 2 ^ (u + w) ≡ h / 2 ^ u =
-          rw (add-comm u w, ← (shr-shr (h * 2 ^ w + n) w u), high h w small) in
+    rw (add-comm u w, ← (shr-shr (h * 2 ^ w + n) w u), high h w small) in
     rw (suc-add u w) (ap₂ _∷_ (ap (λ (x : ℕ). eqb (x % 2) 1) top) (spell-append u w h n small))
 
 -- the bit at k of a spelling

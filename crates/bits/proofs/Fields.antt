@@ -89,6 +89,6 @@ zero-part bs place end at w order inside e =
     let here : place + (at - place) ≡ at = omega arith in
     let all : end - place ≡ (at - place) + (w + (end - at - w)) = omega arith in
     let cut : field bs (place + (at - place)) (w + (end - at - w)) ≡ 0 =
-          omega (arith, field-add bs place (at - place) (w + (end - at - w)), ap (field bs place) all) in
+    omega (arith, field-add bs place (at - place) (w + (end - at - w)), ap (field bs place) all) in
     let tail : field bs at (w + (end - at - w)) ≡ 0 = rw here at cut in
     high-zero (field bs at w) (end - at - w) (field bs (at + w) (end - at - w)) (sym (field-add bs at w (end - at - w)) ∙ tail)

@@ -3,3 +3,4 @@ pub mod Windows
 pub mod BitLists
 pub mod Bridge
 pub mod Short
+pub mod Complement

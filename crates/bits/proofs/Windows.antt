@@ -22,12 +22,12 @@ module _ (bs : List ℕ) (small : Bytes bs) (i : ℕ) where
   grow k =
       field-add bs (8 * i) (8 * k) 8
       ∙ ap (λ (x : ℕ). field bs (8 * i) (8 * k) * 256 + x)
-        (ap (λ (p : ℕ). field bs p 8) (sym (mul-add 8 i k)) ∙ field-byte bs (i + k) (small (i + k)))
+      (ap (λ (p : ℕ). field bs p 8) (sym (mul-add 8 i k)) ∙ field-byte bs (i + k) (small (i + k)))
 
   pub eight :
-    field bs (8 * i) 64
+      field bs (8 * i) 64
       ≡ getD bs i 0 * 2 ^ 56 + getD bs (i + 1) 0 * 2 ^ 48 + getD bs (i + 2) 0 * 2 ^ 40 + getD bs (i + 3) 0 * 2 ^ 32
-        + getD bs (i + 4) 0 * 2 ^ 24 + getD bs (i + 5) 0 * 2 ^ 16 + getD bs (i + 6) 0 * 2 ^ 8 + getD bs (i + 7) 0
+      + getD bs (i + 4) 0 * 2 ^ 24 + getD bs (i + 5) 0 * 2 ^ 16 + getD bs (i + 6) 0 * 2 ^ 8 + getD bs (i + 7) 0
   eight = omega (arith, field-byte bs i (small i), grow 1, grow 2, grow 3, grow 4, grow 5, grow 6, grow 7)
 
 -- one byte more, k bits above the lowest place
@@ -37,9 +37,9 @@ glue x b k small room =
     (sym (add-mul (x * 256) b (2 ^ k) ∙ ap (λ (y : ℕ). y + b * 2 ^ k) (mul-assoc x 256 (2 ^ k))))
 
 pub joined :
-  (a b c d e f g h : ℕ)
-  → a < 256 → b < 256 → c < 256 → d < 256 → e < 256 → f < 256 → g < 256 → h < 256
-  → bitOr (bitOr (bitOr (bitOr (bitOr (bitOr (bitOr (a * 2 ^ 56 % 2 ^ 64) (b * 2 ^ 48 % 2 ^ 64)) (c * 2 ^ 40 % 2 ^ 64)) (d * 2 ^ 32 % 2 ^ 64)) (e * 2 ^ 24 % 2 ^ 64)) (f * 2 ^ 16 % 2 ^ 64)) (g * 2 ^ 8 % 2 ^ 64)) h
+    (a b c d e f g h : ℕ)
+    → a < 256 → b < 256 → c < 256 → d < 256 → e < 256 → f < 256 → g < 256 → h < 256
+    → bitOr (bitOr (bitOr (bitOr (bitOr (bitOr (bitOr (a * 2 ^ 56 % 2 ^ 64) (b * 2 ^ 48 % 2 ^ 64)) (c * 2 ^ 40 % 2 ^ 64)) (d * 2 ^ 32 % 2 ^ 64)) (e * 2 ^ 24 % 2 ^ 64)) (f * 2 ^ 16 % 2 ^ 64)) (g * 2 ^ 8 % 2 ^ 64)) h
     ≡ a * 2 ^ 56 + b * 2 ^ 48 + c * 2 ^ 40 + d * 2 ^ 32 + e * 2 ^ 24 + f * 2 ^ 16 + g * 2 ^ 8 + h
 joined a b c d e f g h ha hb hc hd he hf hg hh =
     let top : a * 2 ^ 56 % 2 ^ 64 ≡ a * 2 ^ 56 = omega arith in

@@ -1,5 +1,6 @@
 // Bit fields of a byte string: most significant bit first, places counted from 0.
-pub mod read;
 pub mod part;
+pub mod read;
 pub mod rest;
+pub mod signed;
 mod window;

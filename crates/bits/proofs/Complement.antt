@@ -1,0 +1,134 @@
+-- Two's complement: both ways are inverse to each other on their ranges, over the width; and the shifts and the sum by which code goes them.
+-- An integer is in the range of w bits where twice its magnitude (`mag`: n for n and for -(n + 1)) is below 2 ^ w.
+-- Assumes nothing.
+use mathlib.Core.Path.{_≡_, refl, sym, ap, _∙_}
+use mathlib.Core.Bool.{cond}
+use Prim.Native.Nat.{ℕ, zero, suc, _+_, _-_, _*_, _/_, _%_, _^_, _≤_, _<_}
+use native.Mathlib.Nat.{pow-suc, mul-right-comm, mul-le-mul-right, add-mul, suc-mul, one-mul, mod-eq-of-lt, add-mod-right, lt-of-lt-of-le, mul-lt-mul-of-pos-right}
+use native.Mathlib.Decide.{decLt}
+use native.Mathlib.Omega.{arith}
+use borrow.Author.Tests.{lt-ltb, le-ltb}
+use lib.IntN.{ℤ, pos, negsuc, subℕ, _+ℤ_}
+use lib.Pow.{pow-pos, pow-mono, pow-add, high, shl-shr}
+use lib.Signed.{mag, shrZ}
+use mir.Facts.{toZ-ofZ, toZ-pos, toZ-neg, sfits-widen}
+use mir.Syntax.{w32, w64}
+use mir.Val.{SFits, toZ, ofZ}
+use Rattle.bits.specs.Signed.{signed, unsigned}
+
+-- ---- the definition's two cases
+
+pub signed-pos : (w n : ℕ) → n * 2 < 2 ^ w → signed w n ≡ pos n
+unfolding signed
+signed-pos w n h = rw (lt-ltb (n * 2) (2 ^ w) h)
+
+pub signed-neg : (w n : ℕ) → 2 ^ w ≤ n * 2 → n < 2 ^ w → signed w n ≡ negsuc (2 ^ w - suc n)
+unfolding signed
+signed-neg w n h small = rw (le-ltb (n * 2) (2 ^ w) h, lt-ltb n (2 ^ w) small)
+
+-- ---- the ranges, and the two ways
+
+pub signed-range : (w n : ℕ) → n < 2 ^ w → mag (signed w n) * 2 < 2 ^ w
+signed-range w n small = go (decLt (n * 2) (2 ^ w))
+  where
+    go : Dec (n * 2 < 2 ^ w) → mag (signed w n) * 2 < 2 ^ w
+    go (yes h) = rw (signed-pos w n h) h
+    go (no h) = rw (signed-neg w n (omega arith) small) (omega arith)
+
+pub unsigned-range : (w : ℕ) (z : ℤ) → mag z * 2 < 2 ^ w → unsigned w z < 2 ^ w
+unfolding unsigned
+unsigned-range w (pos n) h = omega arith
+unsigned-range w (negsuc n) h = omega arith
+
+pub unsigned-signed : (w n : ℕ) → n < 2 ^ w → unsigned w (signed w n) ≡ n
+unfolding unsigned
+unsigned-signed w n small = go (decLt (n * 2) (2 ^ w))
+  where
+    go : Dec (n * 2 < 2 ^ w) → unsigned w (signed w n) ≡ n
+    go (yes h) = rw (signed-pos w n h)
+    go (no h) = rw (signed-neg w n (omega arith) small) (omega arith)
+
+even : (w : ℕ) → 1 ≤ w → 2 ^ w ≡ 2 ^ (w - 1) * 2
+even w wide =
+    let e : w ≡ suc (w - 1) = omega arith in
+    ap (λ (k : ℕ). 2 ^ k) e ∙ pow-suc 2 (w - 1)
+
+pub signed-unsigned : (w : ℕ) (z : ℤ) → 1 ≤ w → mag z * 2 < 2 ^ w → signed w (unsigned w z) ≡ z
+unfolding unsigned
+signed-unsigned w (pos n) wide h = signed-pos w n h
+signed-unsigned w (negsuc n) wide h =
+    signed-neg w (2 ^ w - suc n) (omega (arith, even w wide)) (omega arith) ∙ ap negsuc (omega arith)
+
+-- ---- from w bits: the sign bit is moved to the highest place, and copied down
+
+-- half of 2 ^ 64, as the two shifts see it
+power : (w up : ℕ) → w + up ≡ 64 → 2 ^ w * 2 ^ up ≡ 2 ^ 64
+power w up e = sym (pow-add 2 w up) ∙ ap (λ (k : ℕ). 2 ^ k) e
+
+scaled : (w up n : ℕ) → w + up ≡ 64 → n < 2 ^ w → n * 2 ^ up < 2 ^ 64
+scaled w up n e small = rw (power w up e) at (mul-lt-mul-of-pos-right small (pow-pos up))
+
+-- the complement of the moved bits, moved back
+complement : (w up n : ℕ) → w + up ≡ 64 → n < 2 ^ w → (2 ^ 64 - suc (n * 2 ^ up)) / 2 ^ up ≡ 2 ^ w - suc n
+complement w up n e small =
+    let m : ℕ = 2 ^ w - suc n in
+    let u : ℕ = 2 ^ up in
+    let parts : m + suc n ≡ 2 ^ w = omega arith in
+    let sum : 2 ^ 64 ≡ m * u + (n * u + u) = sym (power w up e) ∙ ap (λ (x : ℕ). x * u) (sym parts) ∙ add-mul m (suc n) u ∙ ap (λ (x : ℕ). m * u + x) (suc-mul n u) in
+    let split : 2 ^ 64 - suc (n * u) ≡ m * u + (u - 1) = omega (arith, pow-pos up) in
+    rw split (high m up (omega (arith, pow-pos up)))
+
+pub moved : (w up n : ℕ) → w + up ≡ 64 → 1 ≤ w → n < 2 ^ w → shrZ (toZ w64 (n * 2 ^ up % 2 ^ 64)) (2 ^ up) ≡ signed w n
+moved w up n e wide small = rw (mod-eq-of-lt (scaled w up n e small)) (go (decLt (n * 2) (2 ^ w)))
+  where
+    doubled : n * 2 * 2 ^ up ≡ n * 2 ^ up * 2
+    doubled = mul-right-comm n 2 (2 ^ up)
+
+    not-lt : ¬ (n * 2 < 2 ^ w) → 2 ^ w ≤ n * 2
+    not-lt h = omega arith
+
+    go : Dec (n * 2 < 2 ^ w) → shrZ (toZ w64 (n * 2 ^ up)) (2 ^ up) ≡ signed w n
+    go (yes h) =
+        let below : n * 2 ^ up < 2 ^ 63 = omega (arith, doubled, scaled w up (n * 2) e h) in
+        rw (toZ-pos w64 below, shl-shr n up, signed-pos w n h)
+    go (no h) =
+        let k : ℕ = 2 ^ 64 - suc (n * 2 ^ up) in
+        let half : 2 ^ 64 ≤ n * 2 ^ up * 2 = omega (arith, doubled, power w up e, mul-le-mul-right (2 ^ up) (not-lt h)) in
+        let bits : 2 ^ 64 - suc k ≡ n * 2 ^ up = omega (arith, scaled w up n e small) in
+        ap (λ (x : ℕ). shrZ (toZ w64 x) (2 ^ up)) (sym bits) ∙ ap (λ (z : ℤ). shrZ z (2 ^ up)) (toZ-neg w64 k (omega arith))
+        ∙ ap negsuc (complement w up n e small) ∙ sym (signed-neg w n (not-lt h) small)
+
+-- ---- to w bits: 2 ^ w is added, and what reaches it taken off again
+
+unfoldable pub lifted : ℕ → ℤ → ℕ
+lifted w (pos n) = n + 2 ^ w
+lifted w (negsuc n) = 2 ^ w - suc n
+
+lift : (w : ℕ) (z : ℤ) → 1 ≤ w → mag z * 2 < 2 ^ w → z +ℤ pos (2 ^ w) ≡ pos (lifted w z)
+unfolding lifted
+lift w (pos n) wide h = refl
+lift w (negsuc n) wide h = rw (le-ltb (2 ^ w) (suc n) (omega (arith, even w wide)))
+
+pub lifted-lt : (w : ℕ) (z : ℤ) → w ≤ 32 → mag z * 2 < 2 ^ w → lifted w z < 2 ^ 33
+unfolding lifted
+lifted-lt w (pos n) narrow h = omega (arith, pow-mono narrow)
+lifted-lt w (negsuc n) narrow h = omega (arith, pow-mono narrow)
+
+pub lifted-mod : (w : ℕ) (z : ℤ) → mag z * 2 < 2 ^ w → lifted w z % 2 ^ w ≡ unsigned w z
+unfolding lifted unsigned
+lifted-mod w (pos n) h = add-mod-right n (2 ^ w) ∙ mod-eq-of-lt (omega arith)
+lifted-mod w (negsuc n) h = mod-eq-of-lt (omega arith)
+
+-- 2 ^ w as a shift makes it
+pub shifted-one : (w : ℕ) → w ≤ 32 → 1 * 2 ^ w % 2 ^ 64 ≡ 2 ^ w
+shifted-one w narrow =
+    let small : 1 * 2 ^ w < 2 ^ 64 = omega (arith, pow-mono narrow) in
+    mod-eq-of-lt small ∙ one-mul (2 ^ w)
+
+-- the sum that code makes
+pub lifts :
+    (w : ℕ) (z : ℤ) → SFits w32 z → 1 ≤ w → w ≤ 32 → mag z * 2 < 2 ^ w
+    → toZ w64 (ofZ w64 (toZ w32 (ofZ w32 z))) +ℤ toZ w64 (1 * 2 ^ w % 2 ^ 64) ≡ pos (lifted w z)
+lifts w z fits wide narrow h =
+    let room : 2 ^ w < 2 ^ 63 = omega (arith, pow-mono narrow) in
+    rw (toZ-ofZ fits, toZ-ofZ (sfits-widen {w′ = w64} tt fits), shifted-one w narrow, toZ-pos w64 room) (lift w z wide h)

@@ -1,0 +1,47 @@
+-- `bits::signed::from_signed` meets its contract. Assumes nothing.
+use mathlib.Core.Path.{_≡_, refl, _∙_, ap}
+use Prim.Native.Nat.{ℕ, _*_, _%_, _^_, _<_}
+use native.Mathlib.Omega.{arith}
+use borrow.Author.Needs.{needs}
+use lib.IntN.{ℤ, pos, natAbs, _+ℤ_}
+use lib.Pow.{pow-pos, pow-mono}
+use mir.Facts.{toZ-ofZ, toZ-pos, sfits-widen}
+use mir.Syntax.{w32, w64}
+use mir.Val.{SFits, toZ, ofZ}
+use Rattle.bits.proofs.Complement.{lifted, lifted-lt, lifted-mod, shifted-one, lifts}
+use Rattle.bits.proofs.signed.from_signed.Statement.{statement}
+use Rattle.bits.proofs.signed.from_signed.Tie as tie
+
+cast-lifted : tie.Need-cast-lifted
+cast-lifted c = rw (toZ-ofZ (c .fits .z)) (sfits-widen tt (c .fits .z))
+
+cast-lifted-2 : tie.Need-cast-lifted-2
+cast-lifted-2 c = record { sfits = rw (shifted-one (c .args .w) (omega arith)) (omega (arith, pow-mono (c .pre .1))) }
+
+-- the sum, as code has it
+sum : (c : tie.Start) → toZ w64 (ofZ w64 (toZ w32 (ofZ w32 (c .args .z)))) +ℤ toZ w64 (1 * 2 ^ (c .args .w) % 2 ^ 64) ≡ pos (lifted (c .args .w) (c .args .z))
+sum c = lifts (c .args .w) (c .args .z) (c .fits .z) (c .pre .0) (c .pre .1) (c .pre .2)
+
+small : (c : tie.Start) → lifted (c .args .w) (c .args .z) < 2 ^ 33
+small c = lifted-lt (c .args .w) (c .args .z) (c .pre .1) (c .pre .2)
+
+add-lifted : tie.Need-add-lifted
+add-lifted c = rw (sum c) (record { sfits = omega (arith, small c) })
+
+cast-lifted-3 : tie.Need-cast-lifted-3
+cast-lifted-3 c =
+    let room : lifted (c .args .w) (c .args .z) < 2 ^ 63 = omega (arith, small c) in
+    rw (sum c, toZ-pos w64 room) (tt, omega arith)
+
+rem-result : tie.Need-rem-result
+rem-result c = rw (shifted-one (c .args .w) (omega arith)) (pow-pos (c .args .w))
+
+returns : tie.Need-returns
+returns c =
+    let room : lifted (c .args .w) (c .args .z) < 2 ^ 63 = omega (arith, small c) in
+    rw (sum c, toZ-pos w64 room, shifted-one (c .args .w) (c .pre .1)) (lifted-mod (c .args .w) (c .args .z) (c .pre .2))
+
+pub from-signed-spec : {M : Type 1} → statement M
+from-signed-spec =
+    tie.close
+    (tie.spec (λ c. search needs) cast-lifted cast-lifted-2 add-lifted cast-lifted-3 rem-result returns)

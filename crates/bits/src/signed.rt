@@ -1,0 +1,25 @@
+// Two's complement.
+ghost use mathlib.Core.Path.{_≡_};
+ghost use Prim.Native.Nat.{_*_, _^_, _≤_, _<_};
+ghost use lib.Signed.{mag};
+ghost use Rattle.bits.specs.Signed.{signed, unsigned};
+
+// The integer that w bits mean. The sign bit is moved to the highest place, and from there copied down.
+pub fn to_signed(n: u64, w: usize) -> i32
+    requires { ⌜ (1 ≤ w) × (w ≤ 32) × (n < 2 ^ w) ⌝ }
+    ensures { λ r. ⌜ r ≡ signed w n ⌝ }
+{
+    let up = 64 - w;
+    let z = ((n as i64) << up) >> up;
+    z as i32
+}
+
+// The w bits that mean an integer in their range, from -2 ^ (w - 1) up to but not including 2 ^ (w - 1).
+pub fn from_signed(z: i32, w: usize) -> u64
+    requires { ⌜ (1 ≤ w) × (w ≤ 32) × (mag z * 2 < 2 ^ w) ⌝ }
+    ensures { λ r. ⌜ r ≡ unsigned w z ⌝ }
+{
+    let all = 1u64 << w;
+    let lifted = ((z as i64) + (all as i64)) as u64;
+    lifted % all
+}
