@@ -31,7 +31,7 @@ bytes (suc count) l = number (take 8 l) ∷ bytes count (drop 8 l)
 
 -- a list of bits with those from a place on replaced by others
 unfoldable pub setBits : List Bool → ℕ → List Bool → List Bool
-setBits l place new = take place l ++ new ++ drop (place + length new) l
+setBits l place new = take place l ++ (new ++ drop (place + length new) l)
 
 -- the byte string after bits from a place on were set
 unfoldable pub setBytes : List ℕ → ℕ → List Bool → List ℕ

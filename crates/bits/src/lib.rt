@@ -4,3 +4,4 @@ pub mod read;
 pub mod rest;
 pub mod signed;
 mod window;
+pub mod write;

@@ -6,7 +6,7 @@ ghost use Rattle.bits.specs.Places.{field};
 ghost use Rattle.bits.specs.Short.{takenAt};
 
 // The w bits after the first skip of a window.
-fn cut(window: u64, skip: usize, w: usize) -> u64
+pub fn cut(window: u64, skip: usize, w: usize) -> u64
     requires { ⌜ skip + w < 64 ⌝ }
     ensures { λ r. ⌜ r ≡ window / 2 ^ (64 - skip - w) % 2 ^ w ⌝ }
 {

@@ -1,8 +1,9 @@
 // A window: the eight bytes from some byte on, as one number, the first byte highest. Bytes past the
 // end count as zero, so a window is there at every byte, and one formula serves all of a string.
 ghost use mathlib.Core.Path.{_≡_};
-ghost use Prim.Native.Nat.{_+_, _*_, _/_, _^_, _≤_};
+ghost use Prim.Native.Nat.{_+_, _*_, _/_, _^_, _≤_, _<_};
 ghost use lib.ListN.{length, getD};
+ghost use Rattle.bits.specs.BitLists.{bytes, spell, setField};
 ghost use Rattle.bits.specs.Places.{field};
 
 // Eight bytes as one number. Written with shifts and `|`, which LLVM makes one load and one swap
@@ -62,4 +63,52 @@ pub fn load(bytes: &[u8], place: usize) -> u64
         );
     }
     last_window(bytes, i)
+}
+
+// The eight bytes of a window.
+fn split(window: u64) -> [u8; 8]
+    ensures { λ r. ⌜ r ≡ bytes 8 (spell 64 window) ⌝ }
+{
+    [
+        (window / 0x0100_0000_0000_0000 % 256) as u8,
+        (window / 0x0001_0000_0000_0000 % 256) as u8,
+        (window / 0x0100_0000_0000 % 256) as u8,
+        (window / 0x0001_0000_0000 % 256) as u8,
+        (window / 0x0100_0000 % 256) as u8,
+        (window / 0x0001_0000 % 256) as u8,
+        (window / 0x0100 % 256) as u8,
+        (window % 256) as u8,
+    ]
+}
+
+// Sets the window at the start where fewer than eight bytes are there: as much of it as there is.
+fn store_last(bytes: &mut [u8], window: u64)
+    requires { ⌜ length (now bytes) < 8 ⌝ }
+    ensures { λ _. ⌜ now (bytes .exit) ≡ setField (now (bytes .entry)) 0 64 window ⌝ }
+{
+    let new = split(window);
+    let mut i = 0;
+    while i < bytes.len() {
+        bytes[i] = new[i];
+        i += 1;
+    }
+}
+
+// Sets the window at the start.
+pub fn store(bytes: &mut [u8], window: u64)
+    ensures { λ _. ⌜ now (bytes .exit) ≡ setField (now (bytes .entry)) 0 64 window ⌝ }
+{
+    if bytes.len() < 8 {
+        store_last(bytes, window);
+        return;
+    }
+    let new = split(window);
+    bytes[0] = new[0];
+    bytes[1] = new[1];
+    bytes[2] = new[2];
+    bytes[3] = new[3];
+    bytes[4] = new[4];
+    bytes[5] = new[5];
+    bytes[6] = new[6];
+    bytes[7] = new[7];
 }
