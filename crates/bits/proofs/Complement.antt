@@ -2,15 +2,16 @@
 -- An integer is in the range of w bits where twice its magnitude (`mag`: n for n and for -(n + 1)) is below 2 ^ w.
 -- Assumes nothing.
 use mathlib.Core.Path.{_≡_, refl, sym, ap, _∙_}
-use mathlib.Core.Bool.{cond}
+use mathlib.Core.Bool.{Bool, true, false}
 use Prim.Native.Nat.{ℕ, zero, suc, _+_, _-_, _*_, _/_, _%_, _^_, _≤_, _<_}
 use native.Mathlib.Nat.{pow-suc, mul-right-comm, mul-le-mul-right, add-mul, suc-mul, one-mul, mod-eq-of-lt, add-mod-right, lt-of-lt-of-le, mul-lt-mul-of-pos-right}
 use native.Mathlib.Decide.{decLt}
 use native.Mathlib.Omega.{arith}
-use borrow.Author.Tests.{lt-ltb, le-ltb}
-use lib.IntN.{ℤ, pos, negsuc, subℕ, _+ℤ_}
+use borrow.Author.Tests.{lt-ltb, le-ltb, ltb-true}
+use lib.Dec.{T}
+use lib.IntN.{natAbs, ℤ, pos, negsuc, subℕ, _+ℤ_, _-ℤ_}
 use lib.Pow.{pow-pos, pow-mono, pow-add, high, shl-shr}
-use lib.Signed.{mag, shrZ}
+use lib.Signed.{mag, ltZ, nonNeg, shrZ}
 use mir.Facts.{toZ-ofZ, toZ-pos, toZ-neg, sfits-widen}
 use mir.Syntax.{w32, w64}
 use mir.Val.{SFits, toZ, ofZ}
@@ -132,3 +133,13 @@ pub lifts :
 lifts w z fits wide narrow h =
     let room : 2 ^ w < 2 ^ 63 = omega (arith, pow-mono narrow) in
     rw (toZ-ofZ fits, toZ-ofZ (sfits-widen {w′ = w64} tt fits), shifted-one w narrow, toZ-pos w64 room) (lift w z wide h)
+
+-- ---- a magnitude, by the sign
+
+pub below-zero : (z : ℤ) → ltZ z (pos 0) ≡ true → negsuc 0 -ℤ z ≡ pos (mag z)
+below-zero (pos n) e = absurd (omega (arith, ltb-true n 0 e))
+below-zero (negsuc n) e = rw (le-ltb (suc n) 1 (omega arith)) (ap pos (omega arith))
+
+pub from-zero : (z : ℤ) → ltZ z (pos 0) ≡ false → T (nonNeg z) × (natAbs z ≡ mag z)
+from-zero (pos n) e = (tt, refl)
+from-zero (negsuc n) e = absurd (let z : _≡_ {A = ℕ} 0 1 = cc in omega arith)
