@@ -16,6 +16,7 @@ use mir.Facts.{toZ-ofZ, toZ-pos, toZ-neg, sfits-widen}
 use mir.Syntax.{w32, w64}
 use mir.Val.{SFits, toZ, ofZ}
 use Rattle.bits.specs.Signed.{signed, unsigned}
+use Rattle.bits.proofs.Windows.{one-shifted}
 
 -- ---- the definition's two cases
 
@@ -120,19 +121,13 @@ unfolding lifted unsigned
 lifted-mod w (pos n) h = add-mod-right n (2 ^ w) ∙ mod-eq-of-lt (omega arith)
 lifted-mod w (negsuc n) h = mod-eq-of-lt (omega arith)
 
--- 2 ^ w as a shift makes it
-pub shifted-one : (w : ℕ) → w ≤ 32 → 1 * 2 ^ w % 2 ^ 64 ≡ 2 ^ w
-shifted-one w narrow =
-    let small : 1 * 2 ^ w < 2 ^ 64 = omega (arith, pow-mono narrow) in
-    mod-eq-of-lt small ∙ one-mul (2 ^ w)
-
 -- the sum that code makes
 pub lifts :
     (w : ℕ) (z : ℤ) → SFits w32 z → 1 ≤ w → w ≤ 32 → mag z * 2 < 2 ^ w
     → toZ w64 (ofZ w64 (toZ w32 (ofZ w32 z))) +ℤ toZ w64 (1 * 2 ^ w % 2 ^ 64) ≡ pos (lifted w z)
 lifts w z fits wide narrow h =
     let room : 2 ^ w < 2 ^ 63 = omega (arith, pow-mono narrow) in
-    rw (toZ-ofZ fits, toZ-ofZ (sfits-widen {w′ = w64} tt fits), shifted-one w narrow, toZ-pos w64 room) (lift w z wide h)
+    rw (toZ-ofZ fits, toZ-ofZ (sfits-widen {w′ = w64} tt fits), one-shifted w (omega arith), toZ-pos w64 room) (lift w z wide h)
 
 -- ---- a magnitude, by the sign
 

@@ -3,7 +3,7 @@
 use mathlib.Core.Path.{_≡_, refl, sym, ap, _∙_}
 use mathlib.Core.List.{List}
 use Prim.Native.Nat.{ℕ, zero, suc, _+_, _-_, _*_, _/_, _%_, _^_, _≤_, _<_}
-use native.Mathlib.Nat.{add-zero, mul-add, mul-mod-left, mul-assoc, add-mul}
+use native.Mathlib.Nat.{add-zero, mul-add, mul-mod-left, mul-assoc, add-mul, one-mul, mod-eq-of-lt}
 use native.Mathlib.Omega.{arith}
 use lib.Bits.{bitOr, or-shifted}
 use lib.ListN.{getD}
@@ -62,3 +62,7 @@ shifted y s w t m e =
 pub in-window : (bs : List ℕ) (place s w t : ℕ) → s + w + t ≡ 64 → field bs place 64 / 2 ^ t % 2 ^ w ≡ field bs (place + s) w
 in-window bs place s w t e =
     rw (← e, field-add bs place (s + w) t, high (field bs place (s + w)) t (field-lt bs (place + (s + w)) t), field-add bs place s w, low (field bs place s) w (field-lt bs (place + s) w))
+
+-- 2 ^ w as a shift makes it
+pub one-shifted : (w : ℕ) → w < 64 → 1 * 2 ^ w % 2 ^ 64 ≡ 2 ^ w
+one-shifted w narrow = rw (one-mul (2 ^ w)) (mod-eq-of-lt (Pow.pow-lt narrow))

@@ -8,7 +8,8 @@ use lib.Pow.{pow-pos, pow-mono}
 use mir.Facts.{toZ-ofZ, toZ-pos, sfits-widen}
 use mir.Syntax.{w32, w64}
 use mir.Val.{SFits, toZ, ofZ}
-use Rattle.bits.proofs.Complement.{lifted, lifted-lt, lifted-mod, shifted-one, lifts}
+use Rattle.bits.proofs.Complement.{lifted, lifted-lt, lifted-mod, lifts}
+use Rattle.bits.proofs.Windows.{one-shifted}
 use Rattle.bits.proofs.signed.from_signed.Statement.{statement}
 use Rattle.bits.proofs.signed.from_signed.Tie as tie
 
@@ -16,7 +17,7 @@ cast-lifted : tie.Need-cast-lifted
 cast-lifted c = rw (toZ-ofZ (c .fits .z)) (sfits-widen tt (c .fits .z))
 
 cast-lifted-2 : tie.Need-cast-lifted-2
-cast-lifted-2 c = record { sfits = rw (shifted-one (c .args .w) (omega arith)) (omega (arith, pow-mono (c .pre .1))) }
+cast-lifted-2 c = record { sfits = rw (one-shifted (c .args .w) (omega arith)) (omega (arith, pow-mono (c .pre .1))) }
 
 -- the sum, as code has it
 sum : (c : tie.Start) → toZ w64 (ofZ w64 (toZ w32 (ofZ w32 (c .args .z)))) +ℤ toZ w64 (1 * 2 ^ (c .args .w) % 2 ^ 64) ≡ pos (lifted (c .args .w) (c .args .z))
@@ -34,12 +35,12 @@ cast-lifted-3 c =
     rw (sum c, toZ-pos w64 room) (tt, omega arith)
 
 rem-result : tie.Need-rem-result
-rem-result c = rw (shifted-one (c .args .w) (omega arith)) (pow-pos (c .args .w))
+rem-result c = rw (one-shifted (c .args .w) (omega arith)) (pow-pos (c .args .w))
 
 returns : tie.Need-returns
 returns c =
     let room : lifted (c .args .w) (c .args .z) < 2 ^ 63 = omega (arith, small c) in
-    rw (sum c, toZ-pos w64 room, shifted-one (c .args .w) (c .pre .1)) (lifted-mod (c .args .w) (c .args .z) (c .pre .2))
+    rw (sum c, toZ-pos w64 room, one-shifted (c .args .w) (omega arith)) (lifted-mod (c .args .w) (c .args .z) (c .pre .2))
 
 pub from-signed-spec : {M : Type 1} → statement M
 from-signed-spec =

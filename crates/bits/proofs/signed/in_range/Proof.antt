@@ -6,7 +6,7 @@ use borrow.Author.Needs.{needs}
 use lib.Dec.{ltb}
 use lib.Signed.{mag}
 use mir.Facts.{toZ-ofZ}
-use Rattle.bits.proofs.Complement.{shifted-one}
+use Rattle.bits.proofs.Windows.{one-shifted}
 use Rattle.bits.proofs.signed.in_range.Statement.{statement}
 use Rattle.bits.proofs.signed.in_range.Tie as tie
 
@@ -17,7 +17,7 @@ mul-result : tie.Need-mul-result
 mul-result c = omega (arith, found c, c .before .fits .z .sfits)
 
 returns : tie.Need-returns
-returns c = ap₂ (λ (m p : ℕ). ltb (m * 2) p) (found c) (shifted-one (c .before .args .w) (c .before .pre))
+returns c = ap₂ (λ (m p : ℕ). ltb (m * 2) p) (found c) (one-shifted (c .before .args .w) (omega arith))
 
 pub in-range-spec : {M : Type 1} → statement M
 in-range-spec = tie.close (tie.spec (λ c κs. search needs) mul-result (λ c. search needs) returns)

@@ -1,0 +1,15 @@
+-- `probe::hundurzek_read_field` meets its contract. Assumes nothing.
+use mathlib.Core.Path.{_≡_}
+use borrow.Author.Needs.{needs}
+use borrow.Author.Tests.{le-leb, lt-leb}
+use Rattle.probe.proofs.hundurzek_read_field.Statement.{statement}
+use Rattle.probe.proofs.hundurzek_read_field.Tie as tie
+
+returns : tie.Need-returns
+returns c = simp (lt-leb _ _ (c .if1 .taken))
+
+returns-2 : tie.Need-returns-2
+returns-2 c = simp (le-leb _ _ (c .before .if1 .left)) (c .read-field .ensures)
+
+pub hundurzek-read-field-spec : {M : Type 1} → statement M
+hundurzek-read-field-spec = tie.close (tie.spec returns (λ c κs. search needs) returns-2)

@@ -1,0 +1,43 @@
+-- What the functions for C answer for every number there is.
+use mathlib.Core.Bool.{Bool, true, false, cond, _&&_}
+use mathlib.Core.List.{List}
+use Prim.Native.Nat.{ℕ, _+_, _-_, _*_, _^_}
+use lib.Dec.{leb, ltb}
+use lib.IntN.{ℤ, pos}
+use lib.ListN.{length}
+use lib.Signed.{mag}
+use Rattle.bits.specs.Places.{field}
+use Rattle.bits.specs.BitLists.{setField}
+use Rattle.bits.specs.Signed.{signed, unsigned}
+use Rattle.bits.specs.Short.{takenAt}
+use Rattle.bits.specs.declared.read.Taken.{Taken}
+use Rattle.bits.specs.declared.read.Taken.the-variants.{Whole, Short}
+use Rattle.probe.specs.declared.Probed.{Probed}
+use Rattle.probe.specs.declared.Meant.{Meant}
+
+-- all ones
+abbrev pub none : ℕ
+none = 2 ^ 64 - 1
+
+abbrev pub readOr : List ℕ → ℕ → ℕ → ℕ
+readOr bs place w = cond (leb w 56) (field bs place w) none
+
+abbrev pub probedOf : Taken → Probed
+probedOf (Whole n) = record { value = n; missing = 0 }
+probedOf (Short m) = record { value = 0; missing = m }
+
+abbrev pub takenOr : List ℕ → ℕ → ℕ → ℕ → Probed
+takenOr bs end place w = cond (leb w 56) (probedOf (takenAt bs end place w)) (record { value = none; missing = none })
+
+abbrev pub writable : ℕ → ℕ → ℕ → ℕ → Bool
+writable count skip w n = ltb skip 8 && (leb w 56 && (leb (skip + w) (8 * count) && ltb n (2 ^ w)))
+
+abbrev pub writtenOr : List ℕ → ℕ → ℕ → ℕ → List ℕ
+writtenOr bs skip w n = cond (writable (length bs) skip w n) (setField bs skip w n) bs
+
+abbrev pub meantOr : ℕ → ℕ → Meant
+meantOr n w =
+    cond (leb 1 w && (leb w 32 && ltb n (2 ^ w))) (record { good = true; value = signed w n }) (record { good = false; value = pos 0 })
+
+abbrev pub bitsOr : ℤ → ℕ → ℕ
+bitsOr z w = cond (leb 1 w && (leb w 32 && ltb (mag z * 2) (2 ^ w))) (unsigned w z) none

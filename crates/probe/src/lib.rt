@@ -1,0 +1,133 @@
+// Crate bits for C: each function takes every number there is, and refuses what crate bits asks its
+// callers to have tested. tests/fields.c compares these with a bit-by-bit program, bench/ counts them.
+use bits::read::Taken;
+ghost use mathlib.Core.Path.{_≡_};
+ghost use Prim.Native.Nat.{_-_, _^_};
+ghost use lib.Dec.{eqb};
+ghost use lib.ListN.{length};
+ghost use Rattle.bits.specs.Places.{field};
+ghost use Rattle.probe.specs.Probes.{readOr, takenOr, writable, writtenOr, meantOr, bitsOr};
+
+// The number in w bits at a place; all ones, which no field of 56 bits or fewer is, for a wider one.
+#[no_mangle]
+pub extern "C" fn hundurzek_read_field(bytes: &[u8], place: usize, w: usize) -> u64
+    ensures { λ r. ⌜ r ≡ readOr (now (bytes .entry)) place w ⌝ }
+{
+    if 56 < w {
+        return 0xffff_ffff_ffff_ffff;
+    }
+    bits::read::read_field(bytes, place, w)
+}
+
+// A field of a string whose bits end at end, and how many of its bits are missing: the number counts
+// where none is. A wider field than 56 bits has all ones for both.
+#[repr(C)]
+pub struct Probed {
+    pub value: u64,
+    pub missing: usize,
+}
+
+#[no_mangle]
+pub extern "C" fn hundurzek_take_field(bytes: &[u8], end: usize, place: usize, w: usize) -> Probed
+    ensures { λ r. ⌜ r ≡ takenOr (now (bytes .entry)) end place w ⌝ }
+{
+    if 56 < w {
+        return Probed {
+            value: 0xffff_ffff_ffff_ffff,
+            missing: 0xffff_ffff_ffff_ffff,
+        };
+    }
+    let taken = bits::read::take_field(bytes, end, place, w);
+    match taken {
+        Taken::Whole(value) => Probed { value, missing: 0 },
+        Taken::Short(missing) => Probed { value: 0, missing },
+    }
+}
+
+// Whether a field and its number can be written into a part of so many bytes.
+fn can_write(count: usize, skip: usize, w: usize, value: u64) -> bool
+    ensures { λ r. ⌜ r ≡ writable count skip w value ⌝ }
+{
+    if 8 <= skip {
+        return false;
+    }
+    if 56 < w {
+        return false;
+    }
+    if count < (skip + w + 7) / 8 {
+        return false;
+    }
+    value < (1u64 << w)
+}
+
+// Sets w bits after the first skip to a number; false, and nothing changed, where that cannot be.
+#[no_mangle]
+pub extern "C" fn hundurzek_write_field(part: &mut [u8], skip: usize, w: usize, value: u64) -> bool
+    ensures { λ r. ⌜ r ≡ writable (length (now (part .entry))) skip w value ⌝ }
+    ensures { λ _. ⌜ now (part .exit) ≡ writtenOr (now (part .entry)) skip w value ⌝ }
+{
+    if can_write(part.len(), skip, w, value) {
+        bits::write::write_field(part, skip, w, value);
+        return true;
+    }
+    false
+}
+
+// Whether every bit from a place to the end is zero.
+#[no_mangle]
+pub extern "C" fn hundurzek_zero_from(bytes: &[u8], end: usize, place: usize) -> bool
+    ensures { λ r. ⌜ r ≡ eqb (field (now (bytes .entry)) place (end - place)) 0 ⌝ }
+{
+    bits::rest::zero_from(bytes, end, place)
+}
+
+// The integer that w bits mean; not good, and 0, where the width is not from 1 to 32 or the number
+// has more bits.
+#[repr(C)]
+pub struct Meant {
+    pub good: bool,
+    pub value: i32,
+}
+
+#[no_mangle]
+pub extern "C" fn hundurzek_to_signed(n: u64, w: usize) -> Meant
+    ensures { λ r. ⌜ r ≡ meantOr n w ⌝ }
+{
+    if w < 1 {
+        return Meant {
+            good: false,
+            value: 0,
+        };
+    }
+    if 32 < w {
+        return Meant {
+            good: false,
+            value: 0,
+        };
+    }
+    if (1u64 << w) <= n {
+        return Meant {
+            good: false,
+            value: 0,
+        };
+    }
+    let value = bits::signed::to_signed(n, w);
+    Meant { good: true, value }
+}
+
+// The w bits that mean an integer; all ones where the width is not from 1 to 32 or they cannot.
+#[no_mangle]
+pub extern "C" fn hundurzek_from_signed(z: i32, w: usize) -> u64
+    ensures { λ r. ⌜ r ≡ bitsOr z w ⌝ }
+{
+    if w < 1 {
+        return 0xffff_ffff_ffff_ffff;
+    }
+    if 32 < w {
+        return 0xffff_ffff_ffff_ffff;
+    }
+    if bits::signed::in_range(z, w) {
+        return bits::signed::from_signed(z, w);
+    }
+    0xffff_ffff_ffff_ffff
+}
