@@ -5,7 +5,7 @@ use mathlib.Core.List.{List}
 use Prim.Native.Nat.{ℕ, zero, suc, _+_, _-_, _*_, _/_, _%_, _^_, _≤_, _<_}
 use native.Mathlib.Nat.{zero-mul, zero-div, add-zero, add-suc, add-assoc, pow-zero, pow-suc, mod-lt, mul-one, mul-assoc}
 use native.Mathlib.Omega.{arith}
-use lib.ListN.{getD, drop}
+use lib.ListN.{length, getD, drop, List·getD-eq-default}
 use lib.Seq.{getD-drop}
 use lib.Pow.{shr-shr, shl-shr}
 use Rattle.bits.specs.Places.{bitAt, field}
@@ -68,6 +68,16 @@ unfolding field
 field-drop bs i place zero = refl
 field-drop bs i place (suc w) =
     rw (field-drop bs i place w, bit-drop bs i (place + w), ← (add-assoc (8 * i) place w))
+
+-- past the last byte there is nothing
+bit-past : (bs : List ℕ) (place : ℕ) → 8 * length bs ≤ place → bitAt bs place ≡ 0
+unfolding bitAt
+bit-past bs place past = rw (List·getD-eq-default bs 0 {n = place / 8} (omega arith), zero-div (2 ^ (7 - place % 8)))
+
+pub field-past : (bs : List ℕ) (place w : ℕ) → 8 * length bs ≤ place → field bs place w ≡ 0
+unfolding field
+field-past bs place zero past = refl
+field-past bs place (suc w) past = rw (field-past bs place w past, bit-past bs (place + w) (omega arith))
 
 -- ---- all zero
 

@@ -167,7 +167,7 @@ module _ (s : List ℕ) (skip w t n : ℕ) (whole : skip + w + t ≡ 64) (room :
       )
 
   -- setting the field is storing the new window
-  pub replaces : setField s 0 64 new ≡ setField s skip w n
+  replaces : setField s 0 64 new ≡ setField s skip w n
   unfolding setField setBytes setBits
   replaces = rw (length-spell 64 new, length-spell w n) (go (decLt (8 * length s) 64))
     where
@@ -177,3 +177,11 @@ module _ (s : List ℕ) (skip w t n : ℕ) (whole : skip + w + t ≡ 64) (room :
       go : Dec (8 * length s < 64) → bytes (length s) (spell 64 new ++ drop 64 (bits s)) ≡ bytes (length s) set-bits
       go (yes h) = ap (bytes (length s)) (short h .1) ∙ bytes-cut (length s) set-bits (short h .0) long-enough
       go (no h) = ap (bytes (length s)) (long (omega arith))
+
+-- setting a field is storing the window with it replaced, as code replaces it
+pub set-in-window :
+    (s : List ℕ) (skip w n : ℕ) → skip + w ≤ 64 → skip + w ≤ 8 * length s → n < 2 ^ w
+    → setField s 0 64 (field s 0 64 - field s 0 64 / 2 ^ (64 - skip - w) % 2 ^ w * 2 ^ (64 - skip - w) + n * 2 ^ (64 - skip - w)) ≡ setField s skip w n
+set-in-window s skip w n inside room small =
+    let t : ℕ = 64 - skip - w in
+    rw (in-window s 0 skip w t (omega arith), zero-add skip) (replaces s skip w t n (omega arith) room small)

@@ -6,11 +6,11 @@ use Prim.Native.Nat.{ℕ, zero, suc, _+_, _-_, _*_, _/_, _%_, _^_, _≤_, _<_}
 use native.Mathlib.Nat.{add-zero, mul-add, mul-mod-left, mul-assoc, add-mul, one-mul, mod-eq-of-lt}
 use native.Mathlib.Omega.{arith}
 use lib.Bits.{bitOr, or-shifted}
-use lib.ListN.{getD}
+use lib.ListN.{length, getD}
 use lib.Pow.{high, low, pow-pos, pow-add, shr-shr, shl-shr, mod-pow-add, shl-lt}
 use lib.Pow as Pow
 use Rattle.bits.specs.Places.{field}
-use Rattle.bits.proofs.Fields.{field-lt, field-add, field-byte}
+use Rattle.bits.proofs.Fields.{field-lt, field-add, field-byte, field-past}
 
 -- every element is a byte
 abbrev pub Bytes : List ℕ → Type 0
@@ -18,17 +18,24 @@ Bytes bs = (k : ℕ) → getD bs k 0 < 256
 
 module _ (bs : List ℕ) (small : Bytes bs) (i : ℕ) where
   -- one byte more
-  grow : (k : ℕ) → field bs (8 * i) (8 * k + 8) ≡ field bs (8 * i) (8 * k) * 256 + getD bs (i + k) 0
+  pub grow : (k : ℕ) → field bs (8 * i) (8 * k + 8) ≡ field bs (8 * i) (8 * k) * 256 + getD bs (i + k) 0
   grow k =
       field-add bs (8 * i) (8 * k) 8
       ∙ ap (λ (x : ℕ). field bs (8 * i) (8 * k) * 256 + x)
       (ap (λ (p : ℕ). field bs p 8) (sym (mul-add 8 i k)) ∙ field-byte bs (i + k) (small (i + k)))
 
-  pub eight :
+  pub eight-bytes :
       field bs (8 * i) 64
       ≡ getD bs i 0 * 2 ^ 56 + getD bs (i + 1) 0 * 2 ^ 48 + getD bs (i + 2) 0 * 2 ^ 40 + getD bs (i + 3) 0 * 2 ^ 32
       + getD bs (i + 4) 0 * 2 ^ 24 + getD bs (i + 5) 0 * 2 ^ 16 + getD bs (i + 6) 0 * 2 ^ 8 + getD bs (i + 7) 0
-  eight = omega (arith, field-byte bs i (small i), grow 1, grow 2, grow 3, grow 4, grow 5, grow 6, grow 7)
+  eight-bytes = omega (arith, field-byte bs i (small i), grow 1, grow 2, grow 3, grow 4, grow 5, grow 6, grow 7)
+
+-- the n bytes that are left, moved up to the front of a window
+pub moved-up : (bs : List ℕ) (i n t : ℕ) → i + n ≡ length bs → 8 * n + t ≡ 64 → field bs (8 * i) (8 * n) * 2 ^ t % 2 ^ 64 ≡ field bs (8 * i) 64
+moved-up bs i n t end whole =
+    let none : field bs (8 * i + 8 * n) t ≡ 0 = field-past bs (8 * i + 8 * n) t (omega arith) in
+    Pow.shl-exact (8 * n) t 64 (field-lt bs (8 * i) (8 * n)) (omega arith)
+    ∙ omega (arith, none, field-add bs (8 * i) (8 * n) t, ap (field bs (8 * i)) whole)
 
 -- one byte more, k bits above the lowest place
 glue : (x b k : ℕ) → b < 256 → 8 + k ≤ 64 → bitOr (x * 2 ^ (8 + k)) (b * 2 ^ k % 2 ^ 64) ≡ (x * 256 + b) * 2 ^ k
@@ -62,6 +69,12 @@ shifted y s w t m e =
 pub in-window : (bs : List ℕ) (place s w t : ℕ) → s + w + t ≡ 64 → field bs place 64 / 2 ^ t % 2 ^ w ≡ field bs (place + s) w
 in-window bs place s w t e =
     rw (← e, field-add bs place (s + w) t, high (field bs place (s + w)) t (field-lt bs (place + (s + w)) t), field-add bs place s w, low (field bs place s) w (field-lt bs (place + s) w))
+
+-- the w bits at a place, cut out of the window at their first byte
+pub at-place : (bs : List ℕ) (place w : ℕ) → w ≤ 56 → field bs (8 * (place / 8)) 64 / 2 ^ (64 - place % 8 - w) % 2 ^ w ≡ field bs place w
+at-place bs place w narrow =
+    let e : 8 * (place / 8) + place % 8 ≡ place = omega arith in
+    in-window bs (8 * (place / 8)) (place % 8) w (64 - place % 8 - w) (omega arith) ∙ ap (λ (p : ℕ). field bs p w) e
 
 -- 2 ^ w as a shift makes it
 pub one-shifted : (w : ℕ) → w < 64 → 1 * 2 ^ w % 2 ^ 64 ≡ 2 ^ w

@@ -18,7 +18,12 @@ pub fn read_field(bytes: &[u8], place: usize, w: usize) -> u64
     requires { ⌜ w ≤ 56 ⌝ }
     ensures { λ r. ⌜ r ≡ field (now (bytes .entry)) place w ⌝ }
 {
-    cut(window::load(bytes, place), place % 8, w)
+    let i = place / 8;
+    let skip = place % 8;
+    if bytes.len() < i + 8 {
+        return cut(window::fewer(bytes, i), skip, w);
+    }
+    cut(window::eight(bytes, i), skip, w)
 }
 
 // How many bits lie between a place and the end: none where the place is past it.

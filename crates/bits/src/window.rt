@@ -21,48 +21,38 @@ fn join(a: u8, b: u8, c: u8, d: u8, e: u8, f: u8, g: u8, h: u8) -> u64
         | (h as u64)
 }
 
-// The byte at i, and 0 past the end.
-fn byte_at(bytes: &[u8], i: usize) -> u8
-    ensures { λ r. ⌜ r ≡ getD (now (bytes .entry)) i 0 ⌝ }
-{
-    if i < bytes.len() { bytes[i] } else { 0 }
-}
-
-// The window at byte i where fewer than eight bytes are left.
-fn last_window(bytes: &[u8], i: usize) -> u64
-    requires { ⌜ i ≤ 2 ^ 61 ⌝ }
+// The window at byte i where eight bytes are left.
+pub fn eight(bytes: &[u8], i: usize) -> u64
+    requires { ⌜ i + 8 ≤ length (now bytes) ⌝ }
     ensures { λ r. ⌜ r ≡ field (now (bytes .entry)) (8 * i) 64 ⌝ }
 {
     join(
-        byte_at(bytes, i),
-        byte_at(bytes, i + 1),
-        byte_at(bytes, i + 2),
-        byte_at(bytes, i + 3),
-        byte_at(bytes, i + 4),
-        byte_at(bytes, i + 5),
-        byte_at(bytes, i + 6),
-        byte_at(bytes, i + 7),
+        bytes[i],
+        bytes[i + 1],
+        bytes[i + 2],
+        bytes[i + 3],
+        bytes[i + 4],
+        bytes[i + 5],
+        bytes[i + 6],
+        bytes[i + 7],
     )
 }
 
-// The window that holds the bit at a place in its first byte.
-pub fn load(bytes: &[u8], place: usize) -> u64
-    ensures { λ r. ⌜ r ≡ field (now (bytes .entry)) (8 * (place / 8)) 64 ⌝ }
+// The window at byte i where fewer are left: those, moved up to its front.
+pub fn fewer(bytes: &[u8], i: usize) -> u64
+    requires { ⌜ length (now bytes) < i + 8 ⌝ }
+    ensures { λ r. ⌜ r ≡ field (now (bytes .entry)) (8 * i) 64 ⌝ }
 {
-    let i = place / 8;
-    if i + 8 <= bytes.len() {
-        return join(
-            bytes[i],
-            bytes[i + 1],
-            bytes[i + 2],
-            bytes[i + 3],
-            bytes[i + 4],
-            bytes[i + 5],
-            bytes[i + 6],
-            bytes[i + 7],
-        );
+    if bytes.len() <= i {
+        return 0;
     }
-    last_window(bytes, i)
+    let mut sum: u64 = 0;
+    let mut at = i;
+    while at < bytes.len() {
+        sum = sum * 256 + (bytes[at] as u64);
+        at += 1;
+    }
+    sum << (64 - 8 * (bytes.len() - i))
 }
 
 // The eight bytes of a window.
@@ -81,27 +71,11 @@ fn split(window: u64) -> [u8; 8]
     ]
 }
 
-// Sets the window at the start where fewer than eight bytes are there: as much of it as there is.
-fn store_last(bytes: &mut [u8], window: u64)
-    requires { ⌜ length (now bytes) < 8 ⌝ }
+// Sets the window at the start where eight bytes are there.
+pub fn store_eight(bytes: &mut [u8], window: u64)
+    requires { ⌜ 8 ≤ length (now bytes) ⌝ }
     ensures { λ _. ⌜ now (bytes .exit) ≡ setField (now (bytes .entry)) 0 64 window ⌝ }
 {
-    let new = split(window);
-    let mut i = 0;
-    while i < bytes.len() {
-        bytes[i] = new[i];
-        i += 1;
-    }
-}
-
-// Sets the window at the start.
-pub fn store(bytes: &mut [u8], window: u64)
-    ensures { λ _. ⌜ now (bytes .exit) ≡ setField (now (bytes .entry)) 0 64 window ⌝ }
-{
-    if bytes.len() < 8 {
-        store_last(bytes, window);
-        return;
-    }
     let new = split(window);
     bytes[0] = new[0];
     bytes[1] = new[1];
@@ -111,4 +85,17 @@ pub fn store(bytes: &mut [u8], window: u64)
     bytes[5] = new[5];
     bytes[6] = new[6];
     bytes[7] = new[7];
+}
+
+// Sets as much of the window as there is where fewer are.
+pub fn store_fewer(bytes: &mut [u8], window: u64)
+    requires { ⌜ length (now bytes) < 8 ⌝ }
+    ensures { λ _. ⌜ now (bytes .exit) ≡ setField (now (bytes .entry)) 0 64 window ⌝ }
+{
+    let new = split(window);
+    let mut i = 0;
+    while i < bytes.len() {
+        bytes[i] = new[i];
+        i += 1;
+    }
 }

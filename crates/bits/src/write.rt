@@ -25,6 +25,11 @@ pub fn write_field(part: &mut [u8], skip: usize, w: usize, value: u64)
     if w == 0 {
         return;
     }
-    let old = window::load(part, 0);
-    window::store(part, replaced(old, skip, w, value));
+    if 8 <= part.len() {
+        let old = window::eight(part, 0);
+        window::store_eight(part, replaced(old, skip, w, value));
+        return;
+    }
+    let old = window::fewer(part, 0);
+    window::store_fewer(part, replaced(old, skip, w, value));
 }

@@ -8,9 +8,9 @@ ghost use lib.ListN.{length};
 ghost use Rattle.bits.specs.Places.{field};
 ghost use Rattle.probe.specs.Probes.{readOr, takenOr, writable, writtenOr, meantOr, bitsOr};
 
-// The number in w bits at a place; all ones, which no field of 56 bits or fewer is, for a wider one.
+// The number in w bits at a place (in this order, which leaves x86-64 fewer moves); all ones, which no field of 56 bits or fewer is, for a wider one.
 #[no_mangle]
-pub extern "C" fn hundurzek_read_field(bytes: &[u8], place: usize, w: usize) -> u64
+pub extern "C" fn hundurzek_read_field(bytes: &[u8], w: usize, place: usize) -> u64
     ensures { λ r. ⌜ r ≡ readOr (now (bytes .entry)) place w ⌝ }
 {
     if 56 < w {

@@ -1,24 +1,25 @@
 -- `bits::read::read_field` meets its contract. Assumes nothing.
-use mathlib.Core.Path.{_≡_, _∙_, ap}
-use mathlib.Core.List.{List}
-use Prim.Native.Nat.{ℕ, _+_, _-_, _*_, _/_, _%_, _^_}
+use mathlib.Core.Path.{_∙_, ap}
+use Prim.Native.Nat.{ℕ, _-_, _/_, _%_, _^_}
 use native.Mathlib.Omega.{arith}
 use borrow.Author.Needs.{needs}
-use Rattle.bits.specs.Places.{field}
-use Rattle.bits.proofs.Windows.{in-window}
+use Rattle.bits.proofs.Windows.{at-place}
 use Rattle.bits.proofs.read.read_field.Statement.{statement}
 use Rattle.bits.proofs.read.read_field.Tie as tie
 
 returns : tie.Need-returns
 returns c =
-    let x = c .before .before .before .args in
-    let bs : List ℕ = x .bytes .now in
-    let at : ℕ = x .place in
-    let w : ℕ = x .w in
-    let t : ℕ = 64 - at % 8 - w in
-    let e : 8 * (at / 8) + at % 8 ≡ at = omega arith in
-    c .cut .ensures ∙ ap (λ (y : ℕ). y / 2 ^ t % 2 ^ w) (c .before .load .ensures)
-    ∙ in-window bs (8 * (at / 8)) (at % 8) w t (omega arith) ∙ ap (λ (p : ℕ). field bs p w) e
+    let x = c .before .before .before .before .args in
+    c .cut .ensures ∙ ap (λ (y : ℕ). y / 2 ^ (64 - x .place % 8 - x .w) % 2 ^ x .w) (c .before .fewer .ensures)
+    ∙ at-place (x .bytes .now) (x .place) (x .w) (omega arith)
+
+returns-2 : tie.Need-returns-2
+returns-2 c =
+    let x = c .before .before .before .before .args in
+    c .cut2 .ensures ∙ ap (λ (y : ℕ). y / 2 ^ (64 - x .place % 8 - x .w) % 2 ^ x .w) (c .before .eight .ensures)
+    ∙ at-place (x .bytes .now) (x .place) (x .w) (omega arith)
 
 pub read-field-spec : {M : Type 1} → statement M
-read-field-spec = tie.close (tie.spec (λ c κs. search needs) (λ c κs. search needs) returns)
+read-field-spec =
+    tie.close
+    (tie.spec (λ c. search needs) (λ c κs. search needs) (λ c κs. search needs) returns (λ c κs. search needs) (λ c κs. search needs) returns-2)

@@ -1,4 +1,4 @@
--- `bits::window::store_last` meets its contract. The loop's invariant: as many of the window's bytes are set as were passed.
+-- `bits::window::store_fewer` meets its contract. The loop's invariant: as many of the window's bytes are set as were passed.
 -- Assumes nothing.
 use mathlib.Core.Path.{_≡_, refl, sym, ap, _∙_}
 use mathlib.Core.List.{List}
@@ -12,8 +12,8 @@ use lib.Seq.{sets}
 use Rattle.bits.specs.BitLists.{spell}
 use Rattle.bits.proofs.BitLists.{length-bytes}
 use Rattle.bits.proofs.Stores.{stored, sets-suc, sets-all}
-use Rattle.bits.proofs.window.store_last.Statement.{statement}
-use Rattle.bits.proofs.window.store_last.Tie as tie
+use Rattle.bits.proofs.window.store_fewer.Statement.{statement}
+use Rattle.bits.proofs.window.store_fewer.Tie as tie
 
 abbrev Inv-loop : tie.InvT-loop
 Inv-loop bytes₀ window new i₀ bytes i =
@@ -41,8 +41,8 @@ returns c =
     c .before .loop .inv .2 ∙ ap (λ (k : ℕ). sets s 0 (take k (c .before .before .split .result))) all ∙ sets-all s (c .before .before .split .result)
     ∙ ap (sets s 0) (c .before .before .split .ensures) ∙ stored s (x .window) (λ k. c .before .before .before .slice-known .given k .fits)
 
-pub store-last-spec : {M : Type 1} → statement M
-store-last-spec =
+pub store-fewer-spec : {M : Type 1} → statement M
+store-fewer-spec =
     tie.close
     (tie.spec
     Inv-loop

@@ -1,0 +1,14 @@
+-- `bits::window::eight` meets its contract. Assumes nothing.
+use native.Mathlib.Omega.{arith}
+use borrow.Author.Needs.{needs}
+use Rattle.bits.proofs.Windows.{eight-bytes}
+use Rattle.bits.proofs.window.eight.Statement.{statement}
+use Rattle.bits.proofs.window.eight.Tie as tie
+
+returns : tie.Need-returns
+returns c =
+    let s = c .before .before .before .before .before .before .before .before .before in
+    omega (arith, eight-bytes (s .before .args .bytes .now) (λ k. s .shared-slice-known .given k .fits) (s .before .args .i))
+
+pub eight-spec : {M : Type 1} → statement M
+eight-spec = tie.close (tie.spec (λ c. search needs) (λ c. search needs) (λ c. search needs) (λ c. search needs) (λ c. search needs) (λ c. search needs) (λ c. search needs) (λ c. search needs) (λ c. search needs) (λ c. search needs) (λ c. search needs) (λ c. search needs) (λ c. search needs) (λ c. search needs) (λ c. search needs) (λ c κs. search needs) returns)
