@@ -8,15 +8,16 @@ ghost use lib.ListN.{length};
 ghost use Rattle.bits.specs.Places.{field};
 ghost use Rattle.probe.specs.Probes.{readOr, takenOr, writable, writtenOr, meantOr, bitsOr};
 
-// The number in w bits at a place (in this order, which leaves x86-64 fewer moves); all ones, which no field of 56 bits or fewer is, for a wider one.
+// The number in w bits at a place; all ones, which no field of 56 bits or fewer is, for a wider one.
+// The width comes before the place, which leaves x86-64 fewer moves.
 #[no_mangle]
 pub extern "C" fn hundurzek_read_field(bytes: &[u8], w: usize, place: usize) -> u64
     ensures { λ r. ⌜ r ≡ readOr (now (bytes .entry)) place w ⌝ }
 {
-    if 56 < w {
-        return 0xffff_ffff_ffff_ffff;
+    if w <= 56 {
+        return bits::read::read_field(bytes, place, w);
     }
-    bits::read::read_field(bytes, place, w)
+    0xffff_ffff_ffff_ffff
 }
 
 // A field of a string whose bits end at end, and how many of its bits are missing: the number counts

@@ -1,0 +1,41 @@
+/* Crate probe for C: fields of a byte string, most significant bit first, places counted from 0.
+   A slice is a pointer and a count. Each function takes every number there is; crates/probe/src/lib.rt
+   states what it answers. */
+#ifndef HUNDURZEK_PROBE_H
+#define HUNDURZEK_PROBE_H
+
+#include <stdbool.h>
+#include <stddef.h>
+#include <stdint.h>
+
+/* The number in w bits at a place, bits past the last byte being 0; UINT64_MAX where w is over 56. */
+uint64_t hundurzek_read_field(const uint8_t *bytes, size_t count, size_t w, size_t place);
+
+typedef struct {
+  uint64_t value;
+  size_t missing;
+} hundurzek_probed;
+
+/* The same where the bits end at end: missing is how many of the w lie past it, and value counts where
+   that is 0. Both are UINT64_MAX where w is over 56. */
+hundurzek_probed hundurzek_take_field(const uint8_t *bytes, size_t count, size_t end, size_t place, size_t w);
+
+/* Sets the w bits after the first skip to a number. False, and nothing changed, where skip is over 7,
+   w over 56, the part too short or the number too large. */
+bool hundurzek_write_field(uint8_t *part, size_t count, size_t skip, size_t w, uint64_t value);
+
+/* Whether every bit from a place to end is zero. */
+bool hundurzek_zero_from(const uint8_t *bytes, size_t count, size_t end, size_t place);
+
+typedef struct {
+  bool good;
+  int32_t value;
+} hundurzek_meant;
+
+/* Two's complement of w bits, 1 to 32: not good, and 0, for another width or a number of more bits. */
+hundurzek_meant hundurzek_to_signed(uint64_t n, size_t w);
+
+/* The w bits, 1 to 32, that mean an integer; UINT64_MAX for another width or an integer out of their range. */
+uint64_t hundurzek_from_signed(int32_t z, size_t w);
+
+#endif
