@@ -3,14 +3,14 @@
 use mathlib.Core.Path.{_≡_, refl, sym, ap, ap₂, _∙_}
 use mathlib.Core.Bool.{Bool, true, false}
 use mathlib.Core.List.{List, [], _∷_, _++_, append-assoc}
-use Prim.Native.Nat.{ℕ, zero, suc, _+_, _-_, _*_, _/_, _%_, _^_, _≤_, _<_}
-use native.Mathlib.Nat.{add-mul-div-right, zero-add, add-zero, add-suc, suc-add, add-comm, add-assoc, mul-zero, mul-add, mul-suc, add-mul, mul-assoc, pow-suc, pow-zero, mod-lt, mod-eq-of-lt, le-of-suc-le-suc}
+use Prim.Native.Nat.{ℕ, zero, suc, _+_, _-_, _*_, _/_, _%_, _^_, _<_}
+use native.Mathlib.Nat.{add-mul-div-right, zero-add, add-zero, suc-add, add-comm, add-mul, mul-assoc, pow-suc, mod-lt, mod-eq-of-lt, le-of-suc-le-suc}
 use native.Mathlib.Numerals.{one-add}
 use native.Mathlib.Omega.{arith}
 use lib.Dec.{eqb}
 use lib.ListN.{length, getD, take, drop, length-append, length-drop, take-append-drop}
 use lib.Seq.{take-at, drop-at, take-nil, drop-nil, take-append-add, drop-append-add, length-take-le}
-use lib.Pow.{high, low, pow-pos, pow-add, shr-shr, mod-pow-add}
+use lib.Pow.{high, pow-pos, pow-add, shr-shr, mod-pow-add}
 use Rattle.bits.specs.BitLists.{digit, number, spell, bits, bytes}
 use Rattle.bits.proofs.Windows.{Bytes}
 

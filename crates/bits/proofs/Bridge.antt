@@ -1,18 +1,18 @@
 -- The bridge between places and bit lists: the bit at a place, and w bits at a place.
 -- Assumes nothing.
 use mathlib.Core.Path.{_≡_, refl, sym, ap, _∙_}
-use mathlib.Core.Bool.{Bool, true, false}
-use mathlib.Core.List.{List, [], _∷_, _++_, append-nil}
+use mathlib.Core.Bool.{Bool, false}
+use mathlib.Core.List.{List, [], _∷_, _++_}
 use Prim.Native.Nat.{ℕ, zero, suc, _+_, _-_, _*_, _/_, _%_, _^_, _≤_, _<_}
-use native.Mathlib.Nat.{add-zero, add-suc, suc-add, mod-eq-of-lt, zero-add, zero-div}
+use native.Mathlib.Nat.{mod-eq-of-lt, zero-add, zero-div}
 use native.Mathlib.Numerals.{add-one}
 use native.Mathlib.Decide.{decLt}
 use native.Mathlib.Omega.{arith}
 use lib.Dec.{eqb}
-use lib.ListN.{length, getD, take, drop, length-append, length-drop, List·getD-append}
-use lib.Seq.{take-suc, getD-drop, getD-append-add, take-take, drop-drop}
+use lib.ListN.{length, getD, take, drop, length-drop, List·getD-append}
+use lib.Seq.{take-suc, getD-drop, getD-append-add}
 use Rattle.bits.specs.Places.{bitAt, field}
-use Rattle.bits.specs.BitLists.{digit, number, spell, bits, bytes}
+use Rattle.bits.specs.BitLists.{number, spell, bits}
 use Rattle.bits.proofs.Fields.{bit-lt, bit-in, bit-drop, field-lt}
 use Rattle.bits.proofs.BitLists.{length-spell, spell-at, spell-append, number-spell, length-bits}
 

@@ -2,14 +2,14 @@
 -- An integer is in the range of w bits where twice its magnitude (`mag`: n for n and for -(n + 1)) is below 2 ^ w.
 -- Assumes nothing.
 use mathlib.Core.Path.{_≡_, refl, sym, ap, _∙_}
-use mathlib.Core.Bool.{Bool, true, false}
-use Prim.Native.Nat.{ℕ, zero, suc, _+_, _-_, _*_, _/_, _%_, _^_, _≤_, _<_}
-use native.Mathlib.Nat.{pow-suc, mul-right-comm, mul-le-mul-right, add-mul, suc-mul, one-mul, mod-eq-of-lt, add-mod-right, lt-of-lt-of-le, mul-lt-mul-of-pos-right}
+use mathlib.Core.Bool.{true, false}
+use Prim.Native.Nat.{ℕ, suc, _+_, _-_, _*_, _/_, _%_, _^_, _≤_, _<_}
+use native.Mathlib.Nat.{pow-suc, mul-right-comm, mul-le-mul-right, add-mul, suc-mul, mod-eq-of-lt, add-mod-right, mul-lt-mul-of-pos-right}
 use native.Mathlib.Decide.{decLt}
 use native.Mathlib.Omega.{arith}
 use borrow.Author.Tests.{lt-ltb, le-ltb, ltb-true}
 use lib.Dec.{T}
-use lib.IntN.{natAbs, ℤ, pos, negsuc, subℕ, _+ℤ_, _-ℤ_}
+use lib.IntN.{natAbs, ℤ, pos, negsuc, _+ℤ_, _-ℤ_}
 use lib.Pow.{pow-pos, pow-mono, pow-add, high, shl-shr}
 use lib.Signed.{mag, ltZ, nonNeg, shrZ}
 use mir.Facts.{toZ-ofZ, toZ-pos, toZ-neg, sfits-widen}

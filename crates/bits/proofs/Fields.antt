@@ -3,7 +3,7 @@
 use mathlib.Core.Path.{_≡_, refl, sym, ap, _∙_}
 use mathlib.Core.List.{List}
 use Prim.Native.Nat.{ℕ, zero, suc, _+_, _-_, _*_, _/_, _%_, _^_, _≤_, _<_}
-use native.Mathlib.Nat.{zero-mul, zero-div, add-zero, add-suc, add-assoc, pow-zero, pow-suc, mod-lt, mul-one, mul-assoc}
+use native.Mathlib.Nat.{zero-mul, zero-div, add-zero, add-suc, add-assoc, pow-zero, pow-suc, mod-lt, mul-assoc}
 use native.Mathlib.Omega.{arith}
 use lib.ListN.{length, getD, drop, List·getD-eq-default}
 use lib.Seq.{getD-drop}

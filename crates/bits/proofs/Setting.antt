@@ -1,20 +1,20 @@
 -- Laws of setting bits: what was set is there, every other bit and the length are as they were, setting what is there changes nothing,
 -- one setting after another is one, and a setting within a part. Assumes nothing.
-use mathlib.Core.Path.{_≡_, refl, sym, ap, ap₂, _∙_}
-use mathlib.Core.Bool.{Bool, true, false}
-use mathlib.Core.List.{List, [], _∷_, _++_, append-assoc, append-nil}
-use Prim.Native.Nat.{ℕ, zero, suc, _+_, _-_, _*_, _%_, _^_, _≤_, _<_}
-use native.Mathlib.Nat.{add-zero, zero-add, add-assoc, mod-eq-of-lt, lt-of-lt-of-le}
+use mathlib.Core.Path.{_≡_, refl, sym, ap, _∙_}
+use mathlib.Core.Bool.{Bool, false}
+use mathlib.Core.List.{List, [], _∷_, _++_, append-assoc}
+use Prim.Native.Nat.{ℕ, zero, suc, _+_, _-_, _*_, _^_, _≤_, _<_}
+use native.Mathlib.Nat.{add-zero, zero-add, suc-add, add-assoc, mod-eq-of-lt, lt-of-lt-of-le}
 use native.Mathlib.Omega.{arith}
 use lib.Dec.{eqb}
-use lib.ListN.{length, getD, take, drop, length-append, length-take, length-drop, take-append-drop, List·getD-append}
+use lib.ListN.{length, getD, take, drop, length-append, length-take, length-drop, take-append-drop}
 use lib.Pow.{pow-mono}
-use lib.Seq.{take-at, drop-at, take-add, drop-drop, take-take, length-take-le, getD-take, getD-drop, getD-append-add, drop-append-add, take-append-add}
+use lib.Seq.{take-at, drop-at, drop-drop, length-take-le, getD-take, getD-drop, drop-append-add, take-append-add, take-append-le, drop-append-le}
 use Rattle.bits.specs.Places.{bitAt, field}
 use Rattle.bits.specs.BitLists.{number, spell, bits, bytes, setBits, setBytes, setField}
 use Rattle.bits.proofs.Fields.{bit-lt}
 use Rattle.bits.proofs.Windows.{Bytes}
-use Rattle.bits.proofs.BitLists.{number-lt, length-spell, number-spell, length-bits, length-bytes, bits-bytes, bytes-bits, bits-take, bits-drop, bits-append}
+use Rattle.bits.proofs.BitLists.{number-lt, length-spell, number-spell, length-bits, length-bytes, bits-bytes, bytes-bits, bits-append}
 use Rattle.bits.proofs.Bridge.{bit-bits, spell-field, field-number}
 
 -- ---- bit lists
@@ -109,6 +109,43 @@ module _ (bs : List ℕ) (place : ℕ) (new : List Bool) (room : place + length 
 pub setBytes-same : (bs : List ℕ) (place k : ℕ) → Bytes bs → place + k ≤ 8 * length bs → setBytes bs place (take k (drop place (bits bs))) ≡ bs
 unfolding setBytes
 setBytes-same bs place k small room = ap (bytes (length bs)) (setBits-same (bits bs) place k (rw (length-bits bs) room)) ∙ bytes-bits bs small
+
+take-small : (bs : List ℕ) → Bytes bs → (i : ℕ) → Bytes (take i bs)
+take-small bs small zero k = omega arith
+take-small [] small (suc i) k = omega arith
+take-small (b ∷ bs) small (suc i) zero = small 0
+take-small (b ∷ bs) small (suc i) (suc k) = take-small bs (λ j. small (suc j)) i k
+
+-- ---- a part: setting bits of the bytes from some byte on sets those of the string, 8 places to a byte further on
+
+bytes-append : (count more : ℕ) (l m : List Bool) → length l ≡ 8 * count → bytes (count + more) (l ++ m) ≡ bytes count l ++ bytes more m
+unfolding bytes
+bytes-append zero more [] m e = ap (λ (n : ℕ). bytes n m) (zero-add more)
+bytes-append zero more (b ∷ l) m e = absurd (omega arith)
+bytes-append (suc count) more l m e =
+    let room : 8 ≤ length l = omega arith in
+    rw (suc-add count more, take-append-le 8 l m room, drop-append-le 8 l m room)
+    (ap (λ (r : List ℕ). number (take 8 l) ∷ r) (bytes-append count more (drop 8 l) m (length-drop 8 l ∙ omega arith)))
+
+setBits-part : (l m : List Bool) (place : ℕ) (new : List Bool) → setBits (l ++ m) (length l + place) new ≡ l ++ setBits m place new
+unfolding setBits
+setBits-part l m place new =
+    rw (take-append-add l m place, add-assoc (length l) place (length new), drop-append-add l m (place + length new))
+    (append-assoc l (take place m) (new ++ drop (place + length new) m))
+
+pub setBytes-part :
+    (bs : List ℕ) (i place : ℕ) (new : List Bool) → Bytes bs → i ≤ length bs
+    → setBytes bs (8 * i + place) new ≡ take i bs ++ setBytes (drop i bs) place new
+unfolding setBytes
+setBytes-part bs i place new small room =
+    let l : List Bool = bits (take i bs) in
+    let m : List Bool = bits (drop i bs) in
+    let front : length (take i bs) ≡ i = length-take-le i bs room in
+    let n : length l ≡ 8 * i = length-bits (take i bs) ∙ ap (λ (k : ℕ). 8 * k) front in
+    let whole : bits bs ≡ l ++ m = ap bits (sym (take-append-drop i bs)) ∙ bits-append (take i bs) (drop i bs) in
+    let count : length bs ≡ i + length (drop i bs) = rw (length-drop i bs) (omega arith) in
+    let own : bytes i l ≡ take i bs = rw front at (bytes-bits (take i bs) (λ k. take-small bs small i k)) in
+    rw (whole, count, ← n, setBits-part l m place new) (bytes-append i (length (drop i bs)) l (setBits m place new) n ∙ ap (λ (r : List ℕ). r ++ bytes (length (drop i bs)) (setBits m place new)) own)
 
 -- ---- fields
 

@@ -1,12 +1,11 @@
 -- When a field is whole, and by how much it is short. Assumes nothing.
-use mathlib.Core.Path.{_≡_, sym, _∙_}
+use mathlib.Core.Path.{_≡_}
 use mathlib.Core.List.{List}
-use Prim.Native.Nat.{ℕ, zero, suc, _-_, _≤_, _<_}
+use Prim.Native.Nat.{ℕ, zero, _-_, _≤_, _<_}
 use native.Mathlib.Nat.{suc-pred-eq-of-pos}
 use native.Mathlib.Omega.{arith}
 use Rattle.bits.specs.Places.{field}
 use Rattle.bits.specs.Short.{missing, unlessShort, takenAt}
-use Rattle.bits.specs.declared.read.Taken.{Taken}
 use Rattle.bits.specs.declared.read.Taken.the-variants.{Whole, Short}
 
 pub taken-whole : (bs : List ℕ) (end place w : ℕ) → w ≤ end - place → takenAt bs end place w ≡ Whole (field bs place w)

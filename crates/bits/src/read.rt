@@ -1,7 +1,7 @@
 // Reading a field.
 use crate::window;
 ghost use mathlib.Core.Path.{_≡_};
-ghost use Prim.Native.Nat.{_+_, _-_, _*_, _/_, _%_, _^_, _≤_, _<_};
+ghost use Prim.Native.Nat.{_+_, _-_, _/_, _%_, _^_, _≤_, _<_};
 ghost use Rattle.bits.specs.Places.{field};
 ghost use Rattle.bits.specs.Short.{takenAt};
 

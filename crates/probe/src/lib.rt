@@ -2,7 +2,7 @@
 // callers to have tested. tests/fields.c compares these with a bit-by-bit program, bench/ counts them.
 use bits::read::Taken;
 ghost use mathlib.Core.Path.{_≡_};
-ghost use Prim.Native.Nat.{_-_, _^_};
+ghost use Prim.Native.Nat.{_-_};
 ghost use lib.Dec.{eqb};
 ghost use lib.ListN.{length};
 ghost use Rattle.bits.specs.Places.{field};

@@ -1,14 +1,12 @@
 -- `probe::hundurzek_from_signed` meets its contract. Assumes nothing.
-use mathlib.Core.Path.{_≡_, ap, _∙_, sym}
+use mathlib.Core.Path.{_≡_, _∙_, sym}
 use mathlib.Core.Bool.{true, false}
-use Prim.Native.Nat.{_*_, _^_, _≤_, _<_}
-use native.Mathlib.Omega.{arith}
+use Prim.Native.Nat.{_*_, _^_}
 use borrow.Author.Needs.{needs}
 use borrow.Author.Tests.{le-leb, lt-leb, ltb-true}
 use lib.Dec.{ltb}
 use lib.Signed.{mag}
 use mir.Facts.{toZ-ofZ}
-use Rattle.bits.specs.Signed.{unsigned}
 use Rattle.probe.proofs.hundurzek_from_signed.Statement.{statement}
 use Rattle.probe.proofs.hundurzek_from_signed.Tie as tie
 

@@ -1,5 +1,4 @@
 -- `probe::hundurzek_read_field` meets its contract. Assumes nothing.
-use mathlib.Core.Path.{_≡_}
 use borrow.Author.Needs.{needs}
 use borrow.Author.Tests.{le-leb, lt-leb}
 use Rattle.probe.proofs.hundurzek_read_field.Statement.{statement}

@@ -1,13 +1,13 @@
 -- `bits::signed::from_signed` meets its contract. Assumes nothing.
-use mathlib.Core.Path.{_≡_, refl, _∙_, ap}
-use Prim.Native.Nat.{ℕ, _*_, _%_, _^_, _<_}
+use mathlib.Core.Path.{_≡_}
+use Prim.Native.Nat.{_*_, _%_, _^_, _<_}
 use native.Mathlib.Omega.{arith}
 use borrow.Author.Needs.{needs}
-use lib.IntN.{ℤ, pos, natAbs, _+ℤ_}
+use lib.IntN.{pos, _+ℤ_}
 use lib.Pow.{pow-pos, pow-mono}
 use mir.Facts.{toZ-ofZ, toZ-pos, sfits-widen}
 use mir.Syntax.{w32, w64}
-use mir.Val.{SFits, toZ, ofZ}
+use mir.Val.{toZ, ofZ}
 use Rattle.bits.proofs.Complement.{lifted, lifted-lt, lifted-mod, lifts}
 use Rattle.bits.proofs.Windows.{one-shifted}
 use Rattle.bits.proofs.signed.from_signed.Statement.{statement}

@@ -1,13 +1,13 @@
 -- `bits::signed::to_signed` meets its contract. Assumes nothing.
-use mathlib.Core.Path.{_≡_, _∙_, ap}
-use Prim.Native.Nat.{ℕ, _-_, _*_, _%_, _^_, _<_}
+use mathlib.Core.Path.{_≡_}
+use Prim.Native.Nat.{_-_, _*_, _%_, _^_}
 use native.Mathlib.Omega.{arith}
 use borrow.Author.Needs.{needs}
 use lib.Pow.{pow-mono}
-use lib.Signed.{mag, shrZ}
+use lib.Signed.{shrZ}
 use mir.Facts.{toZ-ofZ}
 use mir.Syntax.{w32, w64}
-use mir.Val.{SFits, toZ, ofZ}
+use mir.Val.{SFits, toZ}
 use Rattle.bits.specs.Signed.{signed}
 use Rattle.bits.proofs.Complement.{moved, signed-range}
 use Rattle.bits.proofs.signed.to_signed.Statement.{statement}

@@ -1,15 +1,14 @@
 -- `bits::window::fewer` meets its contract. The loop's invariant: the sum is the number in the bytes passed.
 -- Assumes nothing.
-use mathlib.Core.Path.{_≡_, refl, sym, ap, _∙_}
+use mathlib.Core.Path.{_≡_, sym, ap, _∙_}
 use mathlib.Core.List.{List}
 use Prim.Native.Nat.{ℕ, _+_, _-_, _*_, _%_, _^_, _≤_, _<_}
 use native.Mathlib.Omega.{arith}
-use borrow.Author.Needs.{needs}
 use lib.ListN.{length, getD}
 use lib.Pow.{pow-mono}
 use Rattle.bits.specs.Places.{field}
 use Rattle.bits.proofs.Fields.{field-lt, field-past}
-use Rattle.bits.proofs.Windows.{Bytes, grow, moved-up}
+use Rattle.bits.proofs.Windows.{grow, moved-up}
 use Rattle.bits.proofs.window.fewer.Statement.{statement}
 use Rattle.bits.proofs.window.fewer.Tie as tie
 
