@@ -1,7 +1,7 @@
 -- When a field is whole, and by how much it is short. Assumes nothing.
 use mathlib.Core.Path.{_≡_}
 use mathlib.Core.List.{List}
-use Prim.Native.Nat.{ℕ, zero, _-_, _≤_, _<_}
+use Prim.Native.Nat.{ℕ, zero, suc, _-_, _≤_, _<_}
 use native.Mathlib.Nat.{suc-pred-eq-of-pos}
 use native.Mathlib.Omega.{arith}
 use Rattle.bits.specs.Places.{field}
@@ -19,3 +19,15 @@ unfolding takenAt missing unlessShort
 taken-short bs end place w over =
     let some : zero < w - (end - place) = omega arith in
     rw (← (suc-pred-eq-of-pos some))
+
+some-missing : (whole n m : ℕ) → unlessShort (Whole whole) n ≡ Short m → 0 < m
+unfolding unlessShort
+some-missing whole zero m e = absurd (let z : _≡_ {A = ℕ} 0 1 = cc in omega arith)
+some-missing whole (suc n) m e =
+    let same : suc n ≡ m = cc in
+    omega arith
+
+-- what is short misses one bit at least
+pub short-some : (bs : List ℕ) (end place w m : ℕ) → takenAt bs end place w ≡ Short m → 0 < m
+unfolding takenAt
+short-some bs end place w m e = some-missing (field bs place w) (missing end place w) m e
