@@ -1,0 +1,14 @@
+pub mod Programs
+pub mod Assigned
+pub mod Masks
+pub mod Rows
+pub mod Answers
+pub mod Messages
+pub mod Same
+pub mod Spelling
+pub mod Table
+pub mod Good
+pub mod Reading
+pub mod Walking
+pub mod Writing
+pub mod Saved

@@ -1,0 +1,78 @@
+-- Reading one message: the reader's order 1, 2, 12, 0, then field by field.
+use mathlib.Core.Bool.{Bool, cond, _&&_}
+use mathlib.Core.List.{List, _++_, flatten}
+use Prim.Native.Nat.{ℕ, _+_, _*_}
+use lib.Dec.{leb}
+use lib.IntN.{ℤ}
+use lib.ListN.{length, take, drop}
+use Rattle.bits.specs.BitLists.{bits}
+use Rattle.format.specs.declared.Answer.{Answer}
+use Rattle.format.specs.declared.Answer.the-variants as Answers
+use Rattle.format.specs.declared.Refusal.{Refusal}
+use Rattle.format.specs.declared.Refusal.the-variants.{Room, Place, Value}
+use Rattle.format.specs.Assigned.{blank}
+use Rattle.format.specs.Masks.{Held}
+use Rattle.format.specs.Table.{Message, message}
+use Rattle.format.specs.Programs.{Ended, well, badly, run}
+
+-- 30 data parts of 1,695 bits; 256 rows of eight numbers
+abbrev pub stretchLimit : ℕ
+stretchLimit = 50850
+
+abbrev pub rowRoom : ℕ
+rowRoom = 2048
+
+-- How reading ends: with a message and the place after it; idle; or with a refusal and how many bits were missing. A stop says what is held after it, too.
+pub data Outcome : Type 0 where
+  accepted : Message → ℕ → Outcome
+  idle : Held → Outcome
+  refused : Refusal → ℕ → Held → Outcome
+
+-- what a program's end is to the place where it began
+unfoldable pub endedAt : Held → ℕ → Ended Message → Outcome
+endedAt held place (well m taken) = accepted m (place + taken)
+endedAt held place (badly r missing) = refused r missing held
+
+-- reading the bits from a place on: idle where they are all zero, or none
+unfoldable pub readFrom : Held → ℕ → List Bool → Outcome
+readFrom held place l = cond (blank l) (idle held) (endedAt held place (run (message held) l))
+
+-- a stretch and a start in it
+unfoldable pub placed : List ℕ → ℕ → ℕ → Bool
+placed bytes end start = leb end stretchLimit && (leb end (8 * length bytes) && leb start end)
+
+-- `sound` says whether the lent holding is empty or what a good mask message makes
+unfoldable pub reading : Bool → Held → List ℕ → ℕ → ℕ → List ℤ → Outcome
+reading sound held bytes end start rows =
+    cond (leb rowRoom (length rows))
+      (cond (placed bytes end start)
+        (cond sound (readFrom held start (drop start (take end (bits bytes)))) (refused Value 0 held))
+        (refused Place 0 held))
+      (refused Room 0 held)
+
+-- ---- what a reading leaves
+
+unfoldable pub heldAfter : Outcome → Held
+heldAfter (accepted m next) = m .after
+heldAfter (idle held) = held
+heldAfter (refused r missing held) = held
+
+-- the buffer holds the rows first and its old numbers after them
+unfoldable pub over : List ℤ → List ℤ → List ℤ
+over new old = new ++ drop (length new) old
+
+unfoldable pub rowsAfter : Outcome → List ℤ → List ℤ
+rowsAfter (accepted m next) rows = over (flatten (m .content .rows)) rows
+rowsAfter (idle held) rows = rows
+rowsAfter (refused r missing held) rows = rows
+
+-- where the raw part of a reading at a start ends: a stop's is empty
+unfoldable pub rawEnd : Outcome → ℕ → ℕ
+rawEnd (accepted m next) start = next
+rawEnd (idle held) start = start
+rawEnd (refused r missing held) start = start
+
+unfoldable pub answerOf : Outcome → Answer
+answerOf (accepted m next) = Answers.Message (m .content .head) next (length (m .content .rows))
+answerOf (idle held) = Answers.Idle
+answerOf (refused r missing held) = Answers.Refused r

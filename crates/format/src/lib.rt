@@ -1,0 +1,37 @@
+// What a reader or a writer answers. The numbers of document 01, "Answer numbers", are those of
+// specs/Answers.antt.
+
+// A head of eight numbers; -32768 is absent.
+pub struct Head {
+    pub subtype: i32,
+    pub epoch: i32,
+    pub interval: i32,
+    pub indicator: i32,
+    pub iod: i32,
+    pub a: i32,
+    pub b: i32,
+    pub c: i32,
+}
+
+// Why there is no message, by the names of document 01.
+pub enum Refusal {
+    Room,
+    Place,
+    Short,
+    Number,
+    SubType,
+    NoMask,
+    OtherIssue,
+    System,
+    Reserved,
+    Size,
+    Network,
+    Value,
+}
+
+// What reading answers: a message with its head, the place after it and its row count; idle; or a refusal.
+pub enum Answer {
+    Message(Head, usize, usize),
+    Idle,
+    Refused(Refusal),
+}
