@@ -75,10 +75,14 @@ example = bitsIn (maskFields ++ clockFields)
 m16384 : ℤ
 m16384 = negsuc 16383
 
-case1 : report nothing example ≡ record { stop = 0; place = 181; handed =
-  (pos 1 ∷ pos 100 ∷ pos 5 ∷ pos 0 ∷ pos 3 ∷ pos 1 ∷ absent ∷ absent ∷ [])
-  ∷ (pos 3 ∷ pos 100 ∷ pos 2 ∷ pos 0 ∷ pos 3 ∷ absent ∷ absent ∷ absent ∷ [])
-  ∷ (pos 0 ∷ pos 1 ∷ absent ∷ pos 5 ∷ absent ∷ absent ∷ absent ∷ absent ∷ [])
-  ∷ (pos 0 ∷ pos 3 ∷ absent ∷ m16384 ∷ absent ∷ absent ∷ absent ∷ absent ∷ []) ∷ [] }
+case1 : report nothing example ≡ record {
+  stop = 0;
+  place = 181;
+  handed =
+      (pos 1 ∷ pos 100 ∷ pos 5 ∷ pos 0 ∷ pos 3 ∷ pos 1 ∷ absent ∷ absent ∷ [])
+      ∷ (pos 3 ∷ pos 100 ∷ pos 2 ∷ pos 0 ∷ pos 3 ∷ absent ∷ absent ∷ absent ∷ [])
+      ∷ (pos 0 ∷ pos 1 ∷ absent ∷ pos 5 ∷ absent ∷ absent ∷ absent ∷ absent ∷ [])
+      ∷ (pos 0 ∷ pos 3 ∷ absent ∷ m16384 ∷ absent ∷ absent ∷ absent ∷ absent ∷ []) ∷ [];
+}
 unfolding report example bitsIn maskFields clockFields _∶_ flat headList stopNumber walk spell bits bytes number Walking.walkFrom Walking.goOn Walking.hand Reading.reading Reading.placed Reading.readFrom Reading.endedAt Reading.rowsAfter Reading.over Programs.run Programs._>>=_ Programs._>>_ Programs.later Programs.unlessShort Programs.numbered Programs.taking Programs.require Table.message Table.messageBy Table.table Table.kinds Table.alone Table.byKind Table.gate Table.clockLines Messages.common Messages.headOf Messages.rowsAlone Messages.body Messages.satelliteLines Messages.clockShape Messages.maskMessage Messages.systems Messages.system Messages.named Assigned.known Assigned.blank Assigned.assigned Assigned.satellitePlaces Assigned.signalPlaces Masks.placesFrom Masks.pick Masks.satellitesOf Masks.pairsOf Masks.cellsOf Masks.satellites Masks.cells Rows.widthOf Rows.valueOf Rows.shapeWidth Rows.valuesOf Rows.bodyWidth Rows.rowsOf signed mathlib.Core.List.flatMap mathlib.Core.List.flatten Answers.numberOf Good.good Good.goodSystems Good.goodSystem m16384
 case1 = refl

@@ -41,11 +41,11 @@ pub record Common : Type 0 where
 
 unfoldable pub common : ℕ → Program Common
 common epochWidth = do
-    epoch ← numbered epochWidth
-    interval ← numbered 4
-    indicator ← numbered 1
-    iod ← numbered 4
-    done (record { epoch = epoch; interval = interval; indicator = indicator; iod = iod })
+  epoch ← numbered epochWidth
+  interval ← numbered 4
+  indicator ← numbered 1
+  iod ← numbered 4
+  done (record { epoch = epoch; interval = interval; indicator = indicator; iod = iod })
 
 unfoldable pub headOf : ℕ → Common → ℤ → ℤ → ℤ → Head
 headOf subType h a b c =
@@ -81,8 +81,8 @@ packetShape = plain 8 ∷ plain 8 ∷ plain 8 ∷ plain 8 ∷ plain 8 ∷ []
 
 unfoldable pub rowsAlone : ℕ → (Mask → List Line) → Mask → Common → Program Content
 rowsAlone subType lines m h = do
-    rows ← body (lines m)
-    done (record { head = headOf subType h absent absent absent; rows = rows })
+  rows ← body (lines m)
+  done (record { head = headOf subType h absent absent absent; rows = rows })
 
 unfoldable pub orbits : Mask → Common → Program Content
 orbits = rowsAlone 2 (λ m. satelliteLines orbitShape (satellites (m .systems)))
@@ -105,19 +105,19 @@ pub record Selected : Type 0 where
 unfoldable pub selection : List Satellite → ℕ → Program Selected
 selection sats zero = done (record { network = absent; chosen = sats })
 selection sats (suc one) = do
-    network ← numbered 5
-    require (not (eqb network 0)) Network
-    bits ← taking (length sats)
-    done (record { network = pos network; chosen = pick bits sats })
+  network ← numbered 5
+  require (not (eqb network 0)) Network
+  bits ← taking (length sats)
+  done (record { network = pos network; chosen = pick bits sats })
 
 unfoldable pub combined : Mask → Common → Program Content
 combined m h = do
-    orbit ← numbered 1
-    clock ← numbered 1
-    flag ← numbered 1
-    s ← selection (satellites (m .systems)) flag
-    rows ← body (satelliteLines (combinedShape (eqb orbit 1) (eqb clock 1)) (s .chosen))
-    done (record { head = headOf 11 h (pos orbit) (pos clock) (s .network); rows = rows })
+  orbit ← numbered 1
+  clock ← numbered 1
+  flag ← numbered 1
+  s ← selection (satellites (m .systems)) flag
+  rows ← body (satelliteLines (combinedShape (eqb orbit 1) (eqb clock 1)) (s .chosen))
+  done (record { head = headOf 11 h (pos orbit) (pos clock) (s .network); rows = rows })
 
 -- ---- 10: a packet's part, a row to 40 bits
 
@@ -128,16 +128,17 @@ packetLines k (suc n) = record { keys = absent ∷ absent ∷ pos k ∷ []; shap
 
 unfoldable pub packet : Program Content
 packet = do
-    indicator ← numbered 1
-    counter ← numbered 3
-    size ← numbered 2
-    rows ← body (packetLines 1 (suc size))
-    done
-      (record
-        { head =
+  indicator ← numbered 1
+  counter ← numbered 3
+  size ← numbered 2
+  rows ← body (packetLines 1 (suc size))
+  done
+      (record {
+        head =
             record
-              { subtype = pos 10; epoch = absent; interval = absent; indicator = pos indicator; iod = absent; a = pos counter; b = pos size; c = absent };
-          rows = rows })
+            { subtype = pos 10; epoch = absent; interval = absent; indicator = pos indicator; iod = absent; a = pos counter; b = pos size; c = absent };
+        rows = rows;
+      })
 
 -- ---- 1: a mask
 
@@ -148,23 +149,23 @@ named id (s ∷ ss) = cond (eqb id (s .id)) true (named id ss)
 -- one more system after others. The cell mask has no bits where the flag is 0
 unfoldable pub system : List Masks.System → Program Masks.System
 system before = do
-    id ← numbered 4
-    require (known id && not (named id before)) System
-    sats ← taking 40
-    require (assigned satellitePlaces id sats) Reserved
-    require (leb (length (satellites before) + length (placesFrom 0 sats)) 64) Size
-    signals ← taking 16
-    require (assigned signalPlaces id signals) Reserved
-    flag ← numbered 1
-    bits ← taking (flag * (length (placesFrom 0 sats) * length (placesFrom 0 signals)))
-    let s : Masks.System = record { id = id; satellites = sats; signals = signals; flag = eqb flag 1; cells = bits } in
+  id ← numbered 4
+  require (known id && not (named id before)) System
+  sats ← taking 40
+  require (assigned satellitePlaces id sats) Reserved
+  require (leb (length (satellites before) + length (placesFrom 0 sats)) 64) Size
+  signals ← taking 16
+  require (assigned signalPlaces id signals) Reserved
+  flag ← numbered 1
+  bits ← taking (flag * (length (placesFrom 0 sats) * length (placesFrom 0 signals)))
+  let s : Masks.System = record { id = id; satellites = sats; signals = signals; flag = eqb flag 1; cells = bits } in
       require (leb (length (cells (before ++ (s ∷ [])))) 256) Size >> done s
 
 unfoldable pub systems : ℕ → List Masks.System → Program (List Masks.System)
 systems zero before = done before
 systems (suc n) before = do
-    s ← system before
-    systems n (before ++ (s ∷ []))
+  s ← system before
+  systems n (before ++ (s ∷ []))
 
 pub record Adopted : Type 0 where
   pub head : Head
@@ -172,7 +173,7 @@ pub record Adopted : Type 0 where
 
 unfoldable pub maskMessage : Program Adopted
 maskMessage = do
-    h ← common 20
-    count ← numbered 4
-    all ← systems count []
-    done (record { head = headOf 1 h (pos count) absent absent; made = record { iod = h .iod; systems = all } })
+  h ← common 20
+  count ← numbered 4
+  all ← systems count []
+  done (record { head = headOf 1 h (pos count) absent absent; made = record { iod = h .iod; systems = all } })

@@ -45,10 +45,10 @@ placed bytes end start = leb end stretchLimit && (leb end (8 * length bytes) && 
 unfoldable pub reading : Bool → Held → List ℕ → ℕ → ℕ → List ℤ → Outcome
 reading sound held bytes end start rows =
     cond (leb rowRoom (length rows))
-      (cond (placed bytes end start)
-        (cond sound (readFrom held start (drop start (take end (bits bytes)))) (refused Value 0 held))
-        (refused Place 0 held))
-      (refused Room 0 held)
+    (cond (placed bytes end start)
+    (cond sound (readFrom held start (drop start (take end (bits bytes)))) (refused Value 0 held))
+    (refused Place 0 held))
+    (refused Room 0 held)
 
 -- ---- what a reading leaves
 

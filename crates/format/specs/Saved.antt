@@ -87,9 +87,13 @@ systemFrom id sats signals flag bits =
     let s = take 40 (hexBits sats) in
     let g = take 16 (hexBits signals) in
     let f = eqb (getD flag 0 0) (digitChar 1) in
-    record
-      { id = decimalValue 0 id; satellites = s; signals = g; flag = f;
-        cells = cond f (take (length (placesFrom 0 s) * length (placesFrom 0 g)) (hexBits bits)) [] }
+    record {
+      id = decimalValue 0 id;
+      satellites = s;
+      signals = g;
+      flag = f;
+      cells = cond f (take (length (placesFrom 0 s) * length (placesFrom 0 g)) (hexBits bits)) [];
+    }
 
 unfoldable pub systemsFrom : List (List ℕ) → List System
 systemsFrom [] = []

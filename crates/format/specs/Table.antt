@@ -62,17 +62,17 @@ unfoldable pub byKind : Kind → Held → Program Message
 byKind other held = refuse SubType
 byKind (free p q) held = p >>= (λ c. done (record { content = c; after = held }))
 byKind (masked p q) held = do
-    h ← common 12
-    c ← gate held (h .iod) (λ m. p m h)
-    done (record { content = c; after = held })
+  h ← common 12
+  c ← gate held (h .iod) (λ m. p m h)
+  done (record { content = c; after = held })
 byKind (adopts p q) held = p >>= (λ d. done (record { content = record { head = d .head; rows = [] }; after = mask (d .made) }))
 
 unfoldable pub messageBy : (ℕ → Kind) → Held → Program Message
 messageBy t held = do
-    number ← numbered 12
-    require (eqb number 4073) Number
-    subType ← numbered 4
-    byKind (t subType) held
+  number ← numbered 12
+  require (eqb number 4073) Number
+  subType ← numbered 4
+  byKind (t subType) held
 
 unfoldable pub message : Held → Program Message
 message = messageBy table

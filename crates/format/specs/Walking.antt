@@ -31,7 +31,7 @@ unfoldable pub walkFrom : ℕ → Bool → Held → List ℕ → ℕ → ℕ →
 walkFrom zero sound held bytes end place rows = record { handed = []; stop = idle held; place = place; rows = rows }
 walkFrom (suc fuel) sound held bytes end place rows =
     goOn (reading sound held bytes end place rows) place rows
-      (λ m next. walkFrom fuel (good (m .after)) (m .after) bytes end next (rowsAfter (accepted m next) rows))
+    (λ m next. walkFrom fuel (good (m .after)) (m .after) bytes end next (rowsAfter (accepted m next) rows))
 
 unfoldable pub walk : Bool → Held → List ℕ → ℕ → List ℤ → Walk
 walk sound held bytes end rows = walkFrom (suc end) sound held bytes end 0 rows

@@ -80,15 +80,15 @@ writing sound held h rows count bytes start =
     let kind = kindOf table (h .subtype) in
     let bits = spelled held h (rowsIn count rows) in
     verdict bits
-      (record { holds = leb start (limit bytes); else = Place }
-      ∷ record { holds = sound; else = Value }
-      ∷ record { holds = isOurs kind; else = SubType }
-      ∷ record { holds = hasMask kind held; else = NoMask }
-      ∷ record { holds = ofIssue kind held (h .iod); else = OtherIssue }
-      ∷ record { holds = not (sameℤ (h .subtype) (pos 11) && sameℤ (h .c) (pos 0)); else = Network }
-      ∷ record { holds = leb (8 * count) (length rows) && exact held h (rowsIn count rows); else = Value }
-      ∷ record { holds = leb (start + length bits) (limit bytes); else = Room }
-      ∷ [])
+    (record { holds = leb start (limit bytes); else = Place }
+    ∷ record { holds = sound; else = Value }
+    ∷ record { holds = isOurs kind; else = SubType }
+    ∷ record { holds = hasMask kind held; else = NoMask }
+    ∷ record { holds = ofIssue kind held (h .iod); else = OtherIssue }
+    ∷ record { holds = not (sameℤ (h .subtype) (pos 11) && sameℤ (h .c) (pos 0)); else = Network }
+    ∷ record { holds = leb (8 * count) (length rows) && exact held h (rowsIn count rows); else = Value }
+    ∷ record { holds = leb (start + length bits) (limit bytes); else = Room }
+    ∷ [])
 
 -- what writing leaves in the lent bytes, and the place after the message
 unfoldable pub bytesAfter : Written → List ℕ → ℕ → List ℕ
