@@ -110,7 +110,7 @@ cases : List Case
 cases =
     -- 1: the listing's stretch. The clock's second row is satellite 3
     ((exampleMask ++ clock 3) stops 0 at 181 with
-      (saidMask 1 ∷ saidHead 3 ∷ (n 0 ∷ n 1 ∷ ∅ ∷ n 5 ∷ ∅ ∷ ∅ ∷ ∅ ∷ ∅ ∷ []) ∷ (n 0 ∷ n 3 ∷ ∅ ∷ negℤ (n 16384) ∷ ∅ ∷ ∅ ∷ ∅ ∷ ∅ ∷ []) ∷ []))
+    (saidMask 1 ∷ saidHead 3 ∷ (n 0 ∷ n 1 ∷ ∅ ∷ n 5 ∷ ∅ ∷ ∅ ∷ ∅ ∷ ∅ ∷ []) ∷ (n 0 ∷ n 3 ∷ ∅ ∷ negℤ (n 16384) ∷ ∅ ∷ ∅ ∷ ∅ ∷ ∅ ∷ []) ∷ []))
     -- 2: its first 180 bits
     ∷ ((exampleMask ++ (head 3 3 ++ (15 ∶ 5 ∷ 14 ∶ 8192 ∷ []))) stops 3 at 114 with (saidMask 1 ∷ []))
     -- 3: its last 67 bits alone
@@ -140,28 +140,28 @@ cases =
     -- 11: network 0 gives 11, 31 is good: here with the second satellite alone, and no field of it
     ∷ ((exampleMask ++ (head 11 3 ++ (3 ∶ 1 ∷ 5 ∶ 0 ∷ 2 ∶ 1 ∷ []))) stops 11 at 114 with (saidMask 1 ∷ []))
     ∷ ((exampleMask ++ (head 11 3 ++ (3 ∶ 1 ∷ 5 ∶ 31 ∷ 2 ∶ 1 ∷ []))) stops 0 at 161 with
-        (saidMask 1 ∷ (n 11 ∷ n 100 ∷ n 2 ∷ n 0 ∷ n 3 ∷ n 0 ∷ n 0 ∷ n 31 ∷ []) ∷ (n 0 ∷ n 3 ∷ ∅ ∷ ∅ ∷ ∅ ∷ ∅ ∷ ∅ ∷ ∅ ∷ []) ∷ []))
+    (saidMask 1 ∷ (n 11 ∷ n 100 ∷ n 2 ∷ n 0 ∷ n 3 ∷ n 0 ∷ n 0 ∷ n 31 ∷ []) ∷ (n 0 ∷ n 3 ∷ ∅ ∷ ∅ ∷ ∅ ∷ ∅ ∷ ∅ ∷ ∅ ∷ []) ∷ []))
     -- 12: one satellite's orbit is 86 bits for GPS, 88 for Galileo
     ∷ ((maskHead 1 ++ (system 0 0x8000000000 0 ++ (head 2 3 ++ (8 ∶ 255 ∷ 15 ∶ 1 ∷ 13 ∶ 2 ∷ 13 ∶ 4096 ∷ [])))) stops 0 at 196 with
-        (saidMask 1 ∷ saidHead 2 ∷ (n 0 ∷ n 1 ∷ ∅ ∷ n 255 ∷ n 1 ∷ n 2 ∷ negℤ (n 4096) ∷ ∅ ∷ []) ∷ []))
+    (saidMask 1 ∷ saidHead 2 ∷ (n 0 ∷ n 1 ∷ ∅ ∷ n 255 ∷ n 1 ∷ n 2 ∷ negℤ (n 4096) ∷ ∅ ∷ []) ∷ []))
     ∷ ((maskHead 1 ++ (system 2 0x8000000000 0 ++ (head 2 3 ++ (10 ∶ 1023 ∷ 15 ∶ 1 ∷ 13 ∶ 2 ∷ 13 ∶ 4096 ∷ [])))) stops 0 at 198 with
-        (saidMask 1 ∷ saidHead 2 ∷ (n 2 ∷ n 1 ∷ ∅ ∷ n 1023 ∷ n 1 ∷ n 2 ∷ negℤ (n 4096) ∷ ∅ ∷ []) ∷ []))
+    (saidMask 1 ∷ saidHead 2 ∷ (n 2 ∷ n 1 ∷ ∅ ∷ n 1023 ∷ n 1 ∷ n 2 ∷ negℤ (n 4096) ∷ ∅ ∷ []) ∷ []))
     -- 13: sub type 10 is 62 bits at size 0, 182 at size 3
     ∷ ((opening 10 ++ (1 ∶ 1 ∷ 3 ∶ 5 ∷ 2 ∶ 0 ∷ 40 ∶ 0x0102030405 ∷ [])) stops 0 at 62 with
-        ((n 10 ∷ ∅ ∷ ∅ ∷ n 1 ∷ ∅ ∷ n 5 ∷ n 0 ∷ ∅ ∷ []) ∷ (∅ ∷ ∅ ∷ n 1 ∷ n 1 ∷ n 2 ∷ n 3 ∷ n 4 ∷ n 5 ∷ []) ∷ []))
+    ((n 10 ∷ ∅ ∷ ∅ ∷ n 1 ∷ ∅ ∷ n 5 ∷ n 0 ∷ ∅ ∷ []) ∷ (∅ ∷ ∅ ∷ n 1 ∷ n 1 ∷ n 2 ∷ n 3 ∷ n 4 ∷ n 5 ∷ []) ∷ []))
     ∷ ((opening 10 ++ (1 ∶ 0 ∷ 3 ∶ 6 ∷ 2 ∶ 3 ∷ 40 ∶ 1 ∷ 40 ∶ 2 ∷ 40 ∶ 3 ∷ 40 ∶ 0xFF00000000 ∷ [])) stops 0 at 182 with
-        ((n 10 ∷ ∅ ∷ ∅ ∷ n 0 ∷ ∅ ∷ n 6 ∷ n 3 ∷ ∅ ∷ [])
-        ∷ (∅ ∷ ∅ ∷ n 1 ∷ n 0 ∷ n 0 ∷ n 0 ∷ n 0 ∷ n 1 ∷ []) ∷ (∅ ∷ ∅ ∷ n 2 ∷ n 0 ∷ n 0 ∷ n 0 ∷ n 0 ∷ n 2 ∷ [])
-        ∷ (∅ ∷ ∅ ∷ n 3 ∷ n 0 ∷ n 0 ∷ n 0 ∷ n 0 ∷ n 3 ∷ []) ∷ (∅ ∷ ∅ ∷ n 4 ∷ n 255 ∷ n 0 ∷ n 0 ∷ n 0 ∷ n 0 ∷ []) ∷ []))
+    ((n 10 ∷ ∅ ∷ ∅ ∷ n 0 ∷ ∅ ∷ n 6 ∷ n 3 ∷ ∅ ∷ [])
+    ∷ (∅ ∷ ∅ ∷ n 1 ∷ n 0 ∷ n 0 ∷ n 0 ∷ n 0 ∷ n 1 ∷ []) ∷ (∅ ∷ ∅ ∷ n 2 ∷ n 0 ∷ n 0 ∷ n 0 ∷ n 0 ∷ n 2 ∷ [])
+    ∷ (∅ ∷ ∅ ∷ n 3 ∷ n 0 ∷ n 0 ∷ n 0 ∷ n 0 ∷ n 3 ∷ []) ∷ (∅ ∷ ∅ ∷ n 4 ∷ n 255 ∷ n 0 ∷ n 0 ∷ n 0 ∷ n 0 ∷ []) ∷ []))
     -- 14: sub type 12
     ∷ (opening 12 stops 5 at 0 with [])
     -- the cells 1011 give satellite 1 place 0, satellite 3 places 0 and 7
     ∷ ((exampleMask ++ (head 4 3 ++ (11 ∶ 1 ∷ 11 ∶ 2 ∷ 11 ∶ 1024 ∷ []))) stops 0 at 184 with
-        (saidMask 1 ∷ saidHead 4 ∷ (n 0 ∷ n 1 ∷ n 0 ∷ n 1 ∷ ∅ ∷ ∅ ∷ ∅ ∷ ∅ ∷ []) ∷ (n 0 ∷ n 3 ∷ n 0 ∷ n 2 ∷ ∅ ∷ ∅ ∷ ∅ ∷ ∅ ∷ [])
-        ∷ (n 0 ∷ n 3 ∷ n 7 ∷ negℤ (n 1024) ∷ ∅ ∷ ∅ ∷ ∅ ∷ ∅ ∷ []) ∷ []))
+    (saidMask 1 ∷ saidHead 4 ∷ (n 0 ∷ n 1 ∷ n 0 ∷ n 1 ∷ ∅ ∷ ∅ ∷ ∅ ∷ ∅ ∷ []) ∷ (n 0 ∷ n 3 ∷ n 0 ∷ n 2 ∷ ∅ ∷ ∅ ∷ ∅ ∷ ∅ ∷ [])
+    ∷ (n 0 ∷ n 3 ∷ n 7 ∷ negℤ (n 1024) ∷ ∅ ∷ ∅ ∷ ∅ ∷ ∅ ∷ []) ∷ []))
     -- with flag 0 every signal counts for every satellite
     ∷ ((maskHead 1 ++ (system 4 0x4000000000 0xC000 ++ (head 5 3 ++ (15 ∶ 7 ∷ 2 ∶ 3 ∷ 15 ∶ 8 ∷ 2 ∶ 1 ∷ [])))) stops 0 at 181 with
-        (saidMask 1 ∷ saidHead 5 ∷ (n 4 ∷ n 2 ∷ n 0 ∷ n 7 ∷ n 3 ∷ ∅ ∷ ∅ ∷ ∅ ∷ []) ∷ (n 4 ∷ n 2 ∷ n 1 ∷ n 8 ∷ n 1 ∷ ∅ ∷ ∅ ∷ ∅ ∷ []) ∷ []))
+    (saidMask 1 ∷ saidHead 5 ∷ (n 4 ∷ n 2 ∷ n 0 ∷ n 7 ∷ n 3 ∷ ∅ ∷ ∅ ∷ ∅ ∷ []) ∷ (n 4 ∷ n 2 ∷ n 1 ∷ n 8 ∷ n 1 ∷ ∅ ∷ ∅ ∷ ∅ ∷ []) ∷ []))
     ∷ []
 
 cases-hold : map (λ c. report (c .over)) cases ≡ map (λ c. c .says) cases

@@ -1,0 +1,93 @@
+-- What a message's first 16 bits decide, and what they leave to the rest: so the reading of a mask message and of sub type 10 does not depend on what is held.
+-- Assumes nothing.
+use mathlib.Core.Path.{_≡_, refl, sym, ap, _∙_}
+use mathlib.Core.Bool.{Bool, true, false, cond}
+use mathlib.Core.List.{List}
+use Prim.Native.Nat.{ℕ, zero, suc, _-_}
+use lib.Dec.{eqb}
+use lib.ListN.{length, take, drop}
+use Rattle.bits.specs.BitLists.{number}
+use Rattle.format.specs.declared.Refusal.{Refusal}
+use Rattle.format.specs.declared.Refusal.the-variants.{Number}
+use Rattle.format.specs.Masks.{Held}
+use Rattle.format.specs.Messages.{Content, packet}
+use Rattle.format.specs.Programs.{Program, done, refuse, field, _>>=_, _>>_, numbered, require, Ended, well, badly, later, unlessShort, run}
+use Rattle.format.specs.Table.{Kind, free, adopts, Message, table, kinds, byKind, messageBy, message}
+
+-- the sub type that stands in the bits
+abbrev pub subTypeIn : List Bool → ℕ
+subTypeIn l = number (take 4 (drop 12 l))
+
+-- 3 for the number, 4, 3 for the sub type, and then the rest's end
+unfoldable pub opened : {A : Type 0} → List Bool → Ended A → Ended A
+opened l e =
+    unlessShort (12 - length l) (later 12 (cond (eqb (number (take 12 l)) 4073) (unlessShort (4 - length (drop 12 l)) (later 4 e)) (badly Number 0)))
+
+run-require : {A : Type 0} (test : Bool) (r : Refusal) (p : Program A) (l : List Bool) → run (require test r >> p) l ≡ cond test (run p l) (badly r 0)
+unfolding require _>>_ _>>=_ run
+run-require true r p l = refl
+run-require false r p l = refl
+
+pub run-opened : (t : ℕ → Kind) (held : Held) (l : List Bool) → run (messageBy t held) l ≡ opened l (run (byKind (t (subTypeIn l)) held) (drop 4 (drop 12 l)))
+unfolding messageBy numbered _>>=_ run opened
+run-opened t held l =
+    ap (λ e. unlessShort (12 - length l) (later 12 e))
+    (run-require (eqb (number (take 12 l)) 4073) Number (numbered 4 >>= (λ s. byKind (t s) held)) (drop 12 l))
+
+-- ---- a mask message: whatever is held, the same end
+pub mask-free : (g h : Held) (l : List Bool) → subTypeIn l ≡ 1 → run (message g) l ≡ run (message h) l
+unfolding message table kinds byKind
+mask-free g h l one =
+    run-opened table g l ∙ ap (λ (s : ℕ). opened l (run (byKind (table s) g) (drop 4 (drop 12 l)))) one
+    ∙ sym (run-opened table h l ∙ ap (λ (s : ℕ). opened l (run (byKind (table s) h) (drop 4 (drop 12 l)))) one)
+
+-- ---- sub type 10: the same content
+
+unfoldable pub contentOf : Ended Message → Ended Content
+contentOf (well m taken) = well (m .content) taken
+contentOf (badly r missing) = badly r missing
+
+content-later : (w : ℕ) (e : Ended Message) → contentOf (later w e) ≡ later w (contentOf e)
+unfolding contentOf later
+content-later w (well m taken) = refl
+content-later w (badly r missing) = refl
+
+content-short : (missing : ℕ) (e : Ended Message) → contentOf (unlessShort missing e) ≡ unlessShort missing (contentOf e)
+unfolding contentOf unlessShort
+content-short zero e = refl
+content-short (suc k) e = refl
+
+content-cond : (test : Bool) (e f : Ended Message) → contentOf (cond test e f) ≡ cond test (contentOf e) (contentOf f)
+content-cond true e f = refl
+content-cond false e f = refl
+
+content-opened : (l : List Bool) (e : Ended Message) → contentOf (opened l e) ≡ opened l (contentOf e)
+unfolding opened contentOf
+content-opened l e =
+    content-short (12 - length l) (later 12 (cond (eqb (number (take 12 l)) 4073) (unlessShort (4 - length (drop 12 l)) (later 4 e)) (badly Number 0)))
+    ∙ ap (unlessShort (12 - length l))
+    (content-later 12 (cond (eqb (number (take 12 l)) 4073) (unlessShort (4 - length (drop 12 l)) (later 4 e)) (badly Number 0))
+    ∙ ap (later 12)
+    (content-cond (eqb (number (take 12 l)) 4073) (unlessShort (4 - length (drop 12 l)) (later 4 e)) (badly Number 0)
+    ∙ ap (λ (x : Ended Content). cond (eqb (number (take 12 l)) 4073) x (badly Number 0))
+    (content-short (4 - length (drop 12 l)) (later 4 e) ∙ ap (unlessShort (4 - length (drop 12 l))) (content-later 4 e))))
+
+-- a program that leaves the holding as it is
+content-held : (p : Program Content) (held : Held) (l : List Bool) → contentOf (run (p >>= (λ c. done (record { content = c; after = held }))) l) ≡ run p l
+unfolding contentOf run _>>=_
+content-held (done c) held l = refl
+content-held (refuse r) held l = refl
+content-held (field w next) held l =
+    content-short (w - length l) (later w (run (next (take w l) >>= (λ c. done (record { content = c; after = held }))) (drop w l)))
+    ∙ ap (unlessShort (w - length l))
+    (content-later w (run (next (take w l) >>= (λ c. done (record { content = c; after = held }))) (drop w l)) ∙ ap (later w) (content-held (next (take w l)) held (drop w l)))
+
+packet-alone : (held : Held) (l : List Bool) → subTypeIn l ≡ 10 → contentOf (run (message held) l) ≡ opened l (run packet (drop 4 (drop 12 l)))
+unfolding message table kinds byKind
+packet-alone held l ten =
+    ap contentOf (run-opened table held l ∙ ap (λ (s : ℕ). opened l (run (byKind (table s) held) (drop 4 (drop 12 l)))) ten)
+    ∙ content-opened l (run (packet >>= (λ c. done (record { content = c; after = held }))) (drop 4 (drop 12 l)))
+    ∙ ap (opened l) (content-held packet held (drop 4 (drop 12 l)))
+
+pub packet-free : (g h : Held) (l : List Bool) → subTypeIn l ≡ 10 → contentOf (run (message g) l) ≡ contentOf (run (message h) l)
+packet-free g h l ten = packet-alone g l ten ∙ sym (packet-alone h l ten)
