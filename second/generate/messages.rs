@@ -1,0 +1,239 @@
+//! Whole messages for the generator, with the head and the rows that they
+//! stand for under their mask. The fields are laid down here from document 01,
+//! "Message layouts", and not from the reader's and writer's own description.
+
+use super::super::bits::push;
+use super::super::holding::{Mask, GALILEO};
+use super::super::random::Random;
+use super::super::{ABSENT, COLUMNS, MESSAGE_NUMBER};
+
+/// The bits of a message, the ends of its fields, and what it means.
+pub struct Drawn {
+    pub bits: Vec<bool>,
+    /// The place after each field.
+    pub bounds: Vec<usize>,
+    pub head: [i32; COLUMNS],
+    pub rows: Vec<[i32; COLUMNS]>,
+}
+
+impl Drawn {
+    fn new(sub_type: u64) -> Self {
+        let head = [ABSENT; COLUMNS];
+        let mut drawn = Drawn { bits: Vec::new(), bounds: Vec::new(), head, rows: Vec::new() };
+        drawn.put(MESSAGE_NUMBER, 12);
+        drawn.head[0] = drawn.put(sub_type, 4);
+        drawn
+    }
+
+    /// Appends a field and gives its value back as a column.
+    fn put(&mut self, value: u64, width: usize) -> i32 {
+        push(&mut self.bits, value, width);
+        self.bounds.push(self.bits.len());
+        value as i32
+    }
+
+    fn put_flags(&mut self, flags: &[bool]) {
+        self.bits.extend(flags);
+        self.bounds.push(self.bits.len());
+    }
+
+    fn put_any(&mut self, random: &mut Random, width: usize) -> i32 {
+        self.put(unsigned(random, width), width)
+    }
+
+    fn put_signed(&mut self, random: &mut Random, width: usize) -> i32 {
+        self.put(signed(random, width) as u64, width)
+    }
+
+    /// Epoch, interval, indicator and IOD SSR.
+    fn put_opening(&mut self, random: &mut Random, epoch: usize, iod: u8) {
+        self.head[1] = self.put_any(random, epoch);
+        self.head[2] = self.put_any(random, 4);
+        self.head[3] = self.put_any(random, 1);
+        self.head[4] = self.put(u64::from(iod), 4);
+    }
+}
+
+/// A field's value: often its least or greatest.
+fn unsigned(random: &mut Random, width: usize) -> u64 {
+    let all = (1 << width) - 1;
+    let any = random.next() & all;
+    random.pick(&[0, all, any, any])
+}
+
+/// A signed field's value: often most negative, greatest, -1, 0 or next to the
+/// most negative.
+fn signed(random: &mut Random, width: usize) -> i64 {
+    let half = 1 << (width - 1);
+    let any = (random.next() % (2 * half)) as i64;
+    let half = half as i64;
+    random.pick(&[-half, 1 - half, half - 1, -1, 0, any - half, any - half, any - half])
+}
+
+/// Sub type 1 for any mask, also a bad one, with the number of systems given.
+pub fn mask_of(random: &mut Random, mask: &Mask, count: u64) -> Drawn {
+    let mut drawn = Drawn::new(1);
+    drawn.put_opening(random, 20, mask.iod);
+    drawn.head[5] = drawn.put(count, 4);
+    for system in &mask.systems {
+        drawn.put(u64::from(system.id), 4);
+        drawn.put(system.satellites, 40);
+        drawn.put(u64::from(system.signals), 16);
+        drawn.put(u64::from(system.cells.is_some()), 1);
+        if let Some(cells) = &system.cells {
+            drawn.put_flags(cells);
+        }
+    }
+    drawn
+}
+
+/// Sub type 1 for a mask with its own number of systems.
+pub fn mask(random: &mut Random, mask: &Mask) -> Drawn {
+    mask_of(random, mask, mask.systems.len() as u64)
+}
+
+/// Sub type 10 of any size.
+pub fn service(random: &mut Random) -> Drawn {
+    let mut drawn = Drawn::new(10);
+    drawn.head[3] = drawn.put_any(random, 1);
+    drawn.head[5] = drawn.put_any(random, 3);
+    drawn.head[6] = drawn.put_any(random, 2);
+    for number in 1..=drawn.head[6] + 1 {
+        let mut row = [ABSENT; COLUMNS];
+        row[2] = number;
+        for byte in &mut row[3..] {
+            *byte = drawn.put_any(random, 8);
+        }
+        drawn.rows.push(row);
+    }
+    drawn
+}
+
+/// Sub type 2, 3, 4, 5 or 11 under the mask.
+pub fn correction(random: &mut Random, mask: &Mask) -> Drawn {
+    match random.below(7) {
+        0 => per_satellite(random, mask, 2),
+        1 => per_satellite(random, mask, 3),
+        2 => per_cell(random, mask, 4),
+        3 => per_cell(random, mask, 5),
+        _ => combined(random, mask),
+    }
+}
+
+fn per_satellite(random: &mut Random, mask: &Mask, sub_type: u64) -> Drawn {
+    let mut drawn = Drawn::new(sub_type);
+    drawn.put_opening(random, 12, mask.iod);
+    for (id, place) in mask.satellites() {
+        let mut row = keyed(id, place);
+        if sub_type == 2 {
+            put_orbit(random, &mut drawn, id, &mut row);
+        } else {
+            row[3] = drawn.put_signed(random, 15);
+        }
+        drawn.rows.push(row);
+    }
+    drawn
+}
+
+fn per_cell(random: &mut Random, mask: &Mask, sub_type: u64) -> Drawn {
+    let mut drawn = Drawn::new(sub_type);
+    drawn.put_opening(random, 12, mask.iod);
+    for (id, place, signal) in mask.cells() {
+        let mut row = keyed(id, place);
+        row[2] = signal as i32;
+        if sub_type == 4 {
+            row[3] = drawn.put_signed(random, 11);
+        } else {
+            row[3] = drawn.put_signed(random, 15);
+            row[4] = drawn.put_any(random, 2);
+        }
+        drawn.rows.push(row);
+    }
+    drawn
+}
+
+/// Sub type 11 with any flags, and with a network in more than half of all cases.
+fn combined(random: &mut Random, mask: &Mask) -> Drawn {
+    let network = if random.chance(60) { 1 + random.below(31) as u64 } else { 0 };
+    let network = if random.chance(10) { 31 } else { network };
+    combined_for(random, mask, network)
+}
+
+/// Sub type 11 with network 0 in its network field, which is refused.
+pub fn network_zero(random: &mut Random, mask: &Mask) -> Drawn {
+    let mut drawn = combined_for(random, mask, 1);
+    drawn.bits[44] = false;
+    drawn
+}
+
+/// Sub type 11; network 0 stands for a network flag of 0.
+fn combined_for(random: &mut Random, mask: &Mask, network: u64) -> Drawn {
+    let mut drawn = Drawn::new(11);
+    drawn.put_opening(random, 12, mask.iod);
+    drawn.head[5] = drawn.put_any(random, 1);
+    drawn.head[6] = drawn.put_any(random, 1);
+    let satellites = mask.satellites();
+    let mut selection = vec![true; satellites.len()];
+    drawn.put(u64::from(network > 0), 1);
+    if network > 0 {
+        drawn.head[7] = drawn.put(network, 5);
+        let percent = random.pick(&[0, 20, 50, 80, 100]);
+        selection.fill_with(|| random.chance(percent));
+        drawn.put_flags(&selection);
+    }
+    for (&(id, place), selected) in satellites.iter().zip(selection) {
+        if selected {
+            put_combined(random, &mut drawn, id, place);
+        }
+    }
+    drawn
+}
+
+fn put_combined(random: &mut Random, drawn: &mut Drawn, id: u8, place: usize) {
+    let mut row = keyed(id, place);
+    if drawn.head[5] == 1 {
+        put_orbit(random, drawn, id, &mut row);
+    }
+    if drawn.head[6] == 1 {
+        row[7] = drawn.put_signed(random, 15);
+    }
+    drawn.rows.push(row);
+}
+
+/// A row that names a satellite and nothing else yet.
+fn keyed(id: u8, place: usize) -> [i32; COLUMNS] {
+    let mut row = [ABSENT; COLUMNS];
+    row[0] = i32::from(id);
+    row[1] = place as i32 + 1;
+    row
+}
+
+fn put_orbit(random: &mut Random, drawn: &mut Drawn, id: u8, row: &mut [i32; COLUMNS]) {
+    row[3] = drawn.put_any(random, if id == GALILEO { 10 } else { 8 });
+    row[4] = drawn.put_signed(random, 15);
+    row[5] = drawn.put_signed(random, 13);
+    row[6] = drawn.put_signed(random, 13);
+}
+
+/// A message whose number isn't 4073.
+pub fn other_number(random: &mut Random) -> Drawn {
+    let mut drawn = service(random);
+    let near = [4_072, 4_074, 4_095, 1, 2_025];
+    let number = if random.chance(50) { random.pick(&near) } else { random.next() % 4_073 };
+    replace(&mut drawn.bits, 0, number, 12);
+    drawn
+}
+
+/// A message whose sub type isn't one of the seven.
+pub fn other_sub_type(random: &mut Random) -> Drawn {
+    let mut drawn = service(random);
+    let sub_type = random.pick(&[0, 6, 7, 8, 9, 12, 13, 14, 15]);
+    replace(&mut drawn.bits, 12, sub_type, 4);
+    drawn
+}
+
+fn replace(bits: &mut [bool], place: usize, value: u64, width: usize) {
+    let mut field = Vec::new();
+    push(&mut field, value, width);
+    bits[place..place + width].copy_from_slice(&field);
+}

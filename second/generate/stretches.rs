@@ -1,0 +1,173 @@
+//! Cases of one walk: stretches from a sender that changes its mask now and
+//! then, received by a receiver that may have missed it. The receiver keeps its
+//! holding from stretch to stretch.
+
+use super::super::flat::Flat;
+use super::super::holding::{Holding, Mask};
+use super::super::random::Random;
+use super::super::STRETCH_BITS;
+use super::{bad_room, damage_holding, dirty_bytes, good_room, mislength};
+use super::{masks, messages, Case};
+
+/// Families of walks, for reports.
+const PLAIN: u8 = 0;
+const FRESH: u8 = 1;
+const MISSED: u8 = 2;
+const DAMAGED: u8 = 3;
+const PLACE: u8 = 4;
+const ROOM: u8 = 5;
+const NAMES: [&str; 6] =
+    ["plain", "fresh receiver", "mask missed", "damaged holding", "place", "room"];
+
+/// The name of a family, for reports.
+pub fn family_name(family: u8) -> &'static str {
+    NAMES[usize::from(family)]
+}
+
+/// A sender and a receiver, stretch after stretch.
+pub struct Run {
+    random: Random,
+    sender: Mask,
+    receiver: Flat,
+}
+
+impl Run {
+    pub fn new(seed: u64) -> Self {
+        let mut random = Random::new(seed);
+        let sender = masks::good(&mut random);
+        Run { random, sender, receiver: Flat::default() }
+    }
+
+    /// What the receiver holds after the last case, for the next one. A holding
+    /// that damage made nonsense is given up for the one before it, because
+    /// every later walk would only be refused for it.
+    pub fn keep(&mut self, holding: &Holding) {
+        if !matches!(holding, Holding::Nonsense(_)) {
+            self.receiver = holding.to_flat();
+        }
+    }
+
+    pub fn case(&mut self) -> Case {
+        let family = self.family();
+        match family {
+            FRESH => self.receiver = Flat::default(),
+            MISSED => self.sender = masks::successor(&mut self.random, &self.sender),
+            _ => {}
+        }
+        let bits = self.stretch();
+        let mut case = self.lend(family, &bits);
+        match family {
+            DAMAGED => damage_holding(&mut self.random, &mut case.holding),
+            PLACE => mislength(&mut self.random, &mut case),
+            ROOM => case.room = bad_room(&mut self.random),
+            _ => {}
+        }
+        case
+    }
+
+    fn family(&mut self) -> u8 {
+        match self.random.below(100) {
+            0..=9 => FRESH,
+            10..=17 => MISSED,
+            18..=20 => DAMAGED,
+            21 | 22 => PLACE,
+            23 => ROOM,
+            _ => PLAIN,
+        }
+    }
+
+    fn lend(&mut self, family: u8, bits: &[bool]) -> Case {
+        Case {
+            family,
+            holding: self.receiver.clone(),
+            bytes: dirty_bytes(&mut self.random, bits),
+            bit_length: bits.len(),
+            start: 0,
+            room: good_room(&mut self.random),
+            fill: self.random.next(),
+        }
+    }
+
+    /// Mostly up to nine messages, rarely as many as a stretch can hold.
+    fn stretch(&mut self) -> Vec<bool> {
+        let mut bits = Vec::new();
+        if self.random.chance(50) {
+            bits.extend(messages::mask(&mut self.random, &self.sender).bits);
+        }
+        if self.random.chance(1) {
+            while bits.len() < STRETCH_BITS {
+                self.add(&mut bits, 0);
+            }
+        } else {
+            for _ in 0..self.random.below(10) {
+                self.add(&mut bits, 5);
+            }
+        }
+        self.end(bits)
+    }
+
+    /// One more message: a mask, the same or a new one, a correction, service
+    /// information, or in so many of a hundred cases one that is refused.
+    fn add(&mut self, bits: &mut Vec<bool>, refused: usize) {
+        let random = &mut self.random;
+        if random.chance(refused) {
+            bits.extend(refused_bits(random, &self.sender));
+            return;
+        }
+        let drawn = match random.below(20) {
+            0 => messages::mask(random, &self.sender),
+            1 | 2 => {
+                self.sender = masks::successor(random, &self.sender);
+                messages::mask(random, &self.sender)
+            }
+            3..=5 => messages::service(random),
+            _ => messages::correction(random, &self.sender),
+        };
+        bits.extend(drawn.bits);
+    }
+
+    /// Nothing after the last message, zeros, other bits, or a cut inside it.
+    fn end(&mut self, mut bits: Vec<bool>) -> Vec<bool> {
+        let tail = self.random.below(60);
+        match self.random.below(6) {
+            0 | 1 => {}
+            2 | 3 => bits.resize(bits.len() + tail, false),
+            4 => bits.extend(self.random.bits(tail)),
+            _ => bits.truncate(bits.len().saturating_sub(tail)),
+        }
+        bits.truncate(STRETCH_BITS);
+        bits
+    }
+}
+
+/// A message with one fault, after which the walk mustn't go on.
+fn refused_bits(random: &mut Random, mask: &Mask) -> Vec<bool> {
+    let drawn = match random.below(8) {
+        0 => messages::other_number(random),
+        1 => messages::other_sub_type(random),
+        2 => messages::network_zero(random, mask),
+        3 => {
+            let bad = masks::with_bad_system(random);
+            messages::mask(random, &bad)
+        }
+        4 => {
+            let bad = masks::with_reserved_place(random);
+            messages::mask(random, &bad)
+        }
+        5 => {
+            let bad = masks::at_limit(random, 1);
+            messages::mask(random, &bad)
+        }
+        6 => {
+            let other = Mask { iod: (mask.iod + 1) % 16, ..mask.clone() };
+            messages::correction(random, &other)
+        }
+        _ => messages::correction(random, mask),
+    };
+    let mut bits = drawn.bits;
+    if random.chance(20) {
+        let place = random.below(bits.len());
+        bits[place] = !bits[place];
+    }
+    bits
+}

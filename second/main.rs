@@ -1,0 +1,65 @@
+//! The command line of the second program: the listing of document 01, the
+//! tests, and the stream of cases for comparison with another program.
+
+#[path = "lib.rs"]
+mod codec;
+mod tests;
+
+use std::io::{self, BufWriter, Write};
+use std::process::ExitCode;
+
+use codec::emit::{emit_read, emit_walk, Answers};
+
+const USAGE: &str = "usage: second listing | second test | second emit read|walk SEED COUNT";
+
+fn main() -> ExitCode {
+    let words: Vec<String> = std::env::args().skip(1).collect();
+    let words: Vec<&str> = words.iter().map(String::as_str).collect();
+    let done = match words[..] {
+        ["listing"] => list(),
+        ["test"] => return tests::run(),
+        ["emit", kind, seed, count] => emit(kind, seed, count),
+        _ => Err(fault(USAGE)),
+    };
+    match done {
+        Ok(()) => ExitCode::SUCCESS,
+        Err(error) => {
+            eprintln!("{error}");
+            ExitCode::FAILURE
+        }
+    }
+}
+
+fn fault<E: Into<Box<dyn std::error::Error + Send + Sync>>>(error: E) -> io::Error {
+    io::Error::new(io::ErrorKind::InvalidInput, error)
+}
+
+fn list() -> io::Result<()> {
+    let mut output = BufWriter::new(io::stdout().lock());
+    codec::listing::listing(&mut io::stdin().lock(), &mut output)?;
+    output.flush()
+}
+
+fn emit(kind: &str, seed: &str, count: &str) -> io::Result<()> {
+    let seed: u64 = seed.parse().map_err(fault)?;
+    let count: usize = count.parse().map_err(fault)?;
+    let mut output = BufWriter::new(io::stdout().lock());
+    let answers = match kind {
+        "read" => emit_read(&mut output, seed, count)?,
+        "walk" => emit_walk(&mut output, seed, count)?,
+        _ => return Err(fault(USAGE)),
+    };
+    output.flush()?;
+    print_answers(&answers);
+    Ok(())
+}
+
+/// The distribution over the answer numbers.
+fn print_answers(answers: &Answers) {
+    for (number, count) in answers.iter().enumerate() {
+        match number {
+            13 => eprintln!("accepted {count}"),
+            _ => eprintln!("{number} {count}"),
+        }
+    }
+}

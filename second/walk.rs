@@ -1,0 +1,49 @@
+//! The walk over a stretch (document 01, "The walk reads from place 0 until
+//! idle or a refusal").
+
+use super::answer::Stop;
+use super::holding::Holding;
+use super::reader::{read, Message};
+
+/// Where and why the walk stopped, and what came before.
+#[derive(Clone, Debug, PartialEq, Eq)]
+pub struct Walk {
+    pub stop: Stop,
+    pub messages: usize,
+    pub rows: usize,
+    /// Masks adopted before a refusal stay.
+    pub holding: Holding,
+}
+
+/// Walks, showing each accepted message with its place and the row buffer as
+/// it then is. Nothing after a refusal is read.
+pub fn walk(
+    holding: &Holding,
+    bytes: &[u8],
+    bit_length: usize,
+    rows: &mut [i32],
+    mut show: impl FnMut(usize, &Message, &[i32]),
+) -> Walk {
+    let mut place = 0;
+    let mut walk = Walk {
+        stop: Stop { number: 0, place: 0 },
+        messages: 0,
+        rows: 0,
+        holding: holding.clone(),
+    };
+    loop {
+        match read(&walk.holding, bytes, bit_length, place, rows) {
+            Ok(message) => {
+                show(place, &message, rows);
+                walk.messages += 1;
+                walk.rows += message.rows;
+                place = message.next;
+                walk.holding = message.holding;
+            }
+            Err(stop) => {
+                walk.stop = stop;
+                return walk;
+            }
+        }
+    }
+}
