@@ -1,2 +1,4 @@
 pub mod Runs
 pub mod Cases
+pub mod MakesSteps
+pub mod Makes
