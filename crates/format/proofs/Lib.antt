@@ -2,3 +2,4 @@ pub mod Runs
 pub mod Cases
 pub mod MakesSteps
 pub mod Makes
+pub mod MakesBack

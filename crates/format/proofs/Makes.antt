@@ -32,7 +32,7 @@ true-and p q = rw (p, q)
 
 -- ---- the flag: its number, its bit, and how many bits the cell mask has
 
-pub flag-bit : (f : ℕ) → f < 2 → spell 1 f ≡ eqb f 1 ∷ []
+flag-bit : (f : ℕ) → f < 2 → spell 1 f ≡ eqb f 1 ∷ []
 unfolding spell
 flag-bit zero h = refl
 flag-bit (suc zero) h = refl
@@ -43,7 +43,7 @@ flag-width zero n h = omega arith
 flag-width (suc zero) n h = omega arith
 flag-width (suc (suc f)) n h = absurd (omega arith)
 
--- ---- a system, systems, a head
+-- ---- a system, systems, a head: good, and spelled by the bits taken
 
 system-gives : (before : List System) → Gives (system before) (λ s m. (goodSystem before s ≡ true) × (putSystem s ≡ m))
 unfolding system goodSystem putSystem

@@ -2,7 +2,7 @@
 -- Assumes nothing.
 use mathlib.Core.Path.{_≡_, refl, sym, ap, subst, _∙_}
 use mathlib.Core.Bool.{Bool, true}
-use mathlib.Core.List.{List, [], _++_}
+use mathlib.Core.List.{List, [], _++_, append-nil}
 use Prim.Native.Nat.{ℕ, _+_, _^_, _≤_, _<_}
 use native.Mathlib.Nat.{mod-eq-of-lt}
 use native.Mathlib.Omega.{arith}
@@ -58,8 +58,8 @@ module _ {A : Type 0} {P : A → List Bool → Type 0} where
         rw (cut w l taken (b .rest) (b .sum), ← again) (h (number (take w l)) small .gives (drop w l) a (b .rest) (b .goes));
   }
 
-  pub gives-bind : {B : Type 0} {Q : B → List Bool → Type 0} {p : Program B} {k : B → Program A} → Gives p Q → ((b : B) (m : List Bool) → Q b m → Gives (k b) (λ a n. P a (m ++ n)))
-      → Gives (p >>= k) P
+  pub gives-bind : {B : Type 0} {Q : B → List Bool → Type 0} {p : Program B} {k : B → Program A} → Gives p Q
+      → ((b : B) (m : List Bool) → Q b m → Gives (k b) (λ a n. P a (m ++ n))) → Gives (p >>= k) P
   gives-bind {B} {Q} {p} {k} g h = record {
     gives = λ l a taken e.
         let b = both p k l a taken e in
@@ -109,3 +109,7 @@ module _ {A : Type 0} {a : A} where
     reads =
         run-bind p k (l ++ m) b (length l) (run-append p l m b (length l) (g .reads)) ∙ rw (drop-append-seam l m, h .reads, length-append l m);
   }
+
+  -- bits with none after them
+  pub reads-end : {p : Program A} (l : List Bool) → Reads p (l ++ []) a → Reads p l a
+  reads-end l h = rw append-nil at h
