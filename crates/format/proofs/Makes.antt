@@ -1,0 +1,108 @@
+-- What a mask message makes: a good mask, and one that spells the very bits that were taken.
+-- Assumes nothing.
+use mathlib.Core.Path.{_≡_, refl, sym, ap, ap₂, _∙_}
+use mathlib.Core.Bool.{Bool, true, false, cond, not, _&&_}
+use mathlib.Core.List.{List, [], _∷_, _++_, append-nil, flatMap}
+use Prim.Native.Nat.{ℕ, zero, suc, _*_, _<_}
+use native.Mathlib.Omega.{arith}
+use lib.Dec.{eqb}
+use lib.IntN.{ℤ, pos}
+use lib.ListN.{take}
+use lib.Seq.{append-snoc}
+use borrow.Author.Tests.{lt-ltb, eq-eqb}
+use Rattle.bits.specs.BitLists.{spell}
+use Rattle.bits.specs.Signed.{unsigned}
+use Rattle.format.specs.Assigned.{known}
+use Rattle.format.specs.Good.{goodSystem, goodSystems, good}
+use Rattle.format.specs.Masks.{System, mask}
+use Rattle.format.specs.Messages.{common, headOf, named, system, systems, Adopted, maskMessage}
+use Rattle.format.specs.Programs.{well, run}
+use Rattle.format.specs.Rows.{absent}
+use Rattle.format.specs.Spelling.{put, putCommon, putSystem, putMask}
+use Rattle.format.proofs.MakesSteps.{Gives, gives-done, gives-require, gives-taking, gives-numbered, gives-bind, gives-so}
+
+-- ---- tests
+
+pub and-true : (a b : Bool) → (a && b) ≡ true → (a ≡ true) × (b ≡ true)
+and-true true b e = (refl, e)
+and-true false b e = let z : _≡_ {A = ℕ} 0 1 = cc in absurd (omega arith)
+
+pub true-and : {a b : Bool} → a ≡ true → b ≡ true → (a && b) ≡ true
+true-and p q = rw (p, q)
+
+-- ---- the flag: its number, its bit, and how many bits the cell mask has
+
+flag-bit : (f : ℕ) → f < 2 → spell 1 f ≡ eqb f 1 ∷ []
+unfolding spell
+flag-bit zero h = refl
+flag-bit (suc zero) h = refl
+flag-bit (suc (suc f)) h = absurd (omega arith)
+
+pub flag-width : (f n : ℕ) → f < 2 → f * n ≡ cond (eqb f 1) n 0
+flag-width zero n h = omega arith
+flag-width (suc zero) n h = omega arith
+flag-width (suc (suc f)) n h = absurd (omega arith)
+
+-- ---- a system, systems, a head: good, and spelled by the bits taken
+
+system-gives : (before : List System) → Gives (system before) (λ s m. (goodSystem before s ≡ true) × (putSystem s ≡ m))
+unfolding system goodSystem putSystem
+system-gives before =
+    gives-numbered _ _ λ id small.
+    gives-require _ _ _ λ fresh.
+    gives-taking _ _ λ sats whole.
+    gives-require _ _ _ λ placed.
+    gives-require _ _ _ λ few.
+    gives-taking _ _ λ signals long.
+    gives-require _ _ _ λ given.
+    gives-numbered _ _ λ flag bit.
+    gives-taking _ _ λ bits width.
+    gives-require _ _ _ λ held.
+    gives-done (
+      let new = and-true (known id) (not (named id before)) fresh in
+          true-and (new .0) (true-and (new .1) (true-and (eq-eqb _ _ whole) (true-and placed (true-and few (true-and (eq-eqb _ _ long) (true-and given
+          (true-and (eq-eqb _ _ (width ∙ flag-width flag _ bit)) held))))))),
+      rw (flag-bit flag bit, append-nil bits),
+    )
+
+systems-give : (n : ℕ) (before : List System)
+    → Gives (systems n before) (λ all m. (more : List System) × (all ≡ before ++ more) × (goodSystems before more ≡ true) × (flatMap putSystem more ≡ m))
+unfolding systems goodSystems flatMap
+systems-give zero before = gives-done ([], sym (append-nil before), refl, refl)
+systems-give (suc n) before = gives-bind (system-gives before) λ s m made.
+    gives-so (systems-give n (before ++ (s ∷ []))) λ all tail rest.
+    (s ∷ rest .0, rest .1 ∙ append-snoc before s (rest .0), true-and (made .0) (rest .2), ap₂ _++_ (made .1) (rest .3))
+
+pub common-gives : (w : ℕ) → Gives (common w) (λ h m. (h .iod < 16) × ((subType : ℕ) (a b c : ℤ) → putCommon w (headOf subType h a b c) ≡ m))
+unfolding common putCommon put unsigned headOf
+common-gives w =
+    gives-numbered _ _ λ epoch _.
+    gives-numbered _ _ λ interval _.
+    gives-numbered _ _ λ indicator _.
+    gives-numbered _ _ λ iod small.
+    gives-done (small, λ subType a b c. rw (append-nil (spell 4 iod)))
+
+message-gives : Gives maskMessage (λ d m. (good (mask (d .made)) ≡ true) × (d .head .subtype ≡ pos 1) × (putMask (d .made) (d .head) ≡ m))
+unfolding maskMessage good putMask put unsigned headOf
+message-gives =
+    gives-bind (common-gives 20) λ h front head.
+    gives-numbered _ _ λ count _.
+    gives-bind (systems-give count []) λ all back rest.
+    gives-done (
+      true-and (lt-ltb _ _ (head .0)) (ap (goodSystems []) (rest .1) ∙ rest .2),
+      refl,
+      cc (head .1 1 (pos count) absent absent, rest .1, rest .3, append-nil back),
+    )
+
+-- ---- a mask message
+
+module _ (l : List Bool) (d : Adopted) (taken : ℕ) (e : run maskMessage l ≡ well d taken) where
+  -- what it makes is good
+  pub makes-good : good (mask (d .made)) ≡ true
+  makes-good = message-gives .gives l d taken e .0
+
+  -- written again, it is the very bits that were taken
+  pub mask-spelled : (d .head .subtype ≡ pos 1) × (putMask (d .made) (d .head) ≡ take taken l)
+  mask-spelled =
+      let parts = message-gives .gives l d taken e in
+      (parts .1, parts .2)

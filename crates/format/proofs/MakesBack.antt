@@ -1,0 +1,197 @@
+-- Every good mask is what some bits are read to: those that it spells.
+-- Assumes nothing.
+use mathlib.Core.Path.{_≡_, refl}
+use mathlib.Core.Bool.{Bool, true, false, cond, not}
+use mathlib.Core.List.{List, [], _∷_, _++_, append-nil, flatMap}
+use Prim.Native.Nat.{ℕ, zero, suc, _+_, _*_, _^_, _≤_, _<_}
+use native.Mathlib.Decide.{decLt}
+use native.Mathlib.Omega.{arith}
+use lib.Dec.{eqb, leb, ltb}
+use lib.IntN.{ℤ, pos}
+use lib.ListN.{length, length-append}
+use lib.Seq.{append-snoc}
+use borrow.Author.Tests.{ltb-true, leb-true, eqb-true, not-true, eq-eqb, ne-eqb}
+use Rattle.bits.specs.BitLists.{digit, spell}
+use Rattle.bits.specs.Signed.{unsigned}
+use Rattle.format.specs.Assigned.{satellitePlaces, signalPlaces, known, assigned}
+use Rattle.format.specs.declared.Head.{Head}
+use Rattle.format.specs.Good.{goodSystem, goodSystems, good}
+use Rattle.format.specs.Masks.{System, Mask, mask, placesFrom, satellites, cells}
+use Rattle.format.specs.Messages.{Common, common, headOf, named, system, systems, Adopted, maskMessage}
+use Rattle.format.specs.Programs.{Program, _>>=_, numbered, well, run}
+use Rattle.format.specs.Rows.{absent}
+use Rattle.format.specs.Spelling.{put, putCommon, putSystem, putMask}
+use Rattle.format.proofs.MakesSteps.{Reads, reads-done, reads-require, reads-taking, reads-numbered, reads-bind, reads-end}
+use Rattle.format.proofs.Makes.{and-true, true-and, flag-width}
+
+-- ---- a good system, test by test
+
+record GoodSystem (before : List System) (s : System) : Type 0 where
+  known-id : known (s .id) ≡ true
+  fresh : not (named (s .id) before) ≡ true
+  whole : length (s .satellites) ≡ 40
+  placed : assigned satellitePlaces (s .id) (s .satellites) ≡ true
+  few : leb (length (satellites before) + length (placesFrom 0 (s .satellites))) 64 ≡ true
+  long : length (s .signals) ≡ 16
+  given : assigned signalPlaces (s .id) (s .signals) ≡ true
+  width : length (s .cells) ≡ cond (s .flag) (length (placesFrom 0 (s .satellites)) * length (placesFrom 0 (s .signals))) 0
+  held : leb (length (cells (before ++ (s ∷ [])))) 256 ≡ true
+
+good-system : (before : List System) (s : System) → goodSystem before s ≡ true → GoodSystem before s
+unfolding goodSystem
+good-system before s e =
+    let a = and-true (known (s .id)) _ e in
+    let b = and-true (not (named (s .id) before)) _ (a .1) in
+    let c = and-true (eqb (length (s .satellites)) 40) _ (b .1) in
+    let d = and-true (assigned satellitePlaces (s .id) (s .satellites)) _ (c .1) in
+    let f = and-true (leb (length (satellites before) + length (placesFrom 0 (s .satellites))) 64) _ (d .1) in
+    let g = and-true (eqb (length (s .signals)) 16) _ (f .1) in
+    let h = and-true (assigned signalPlaces (s .id) (s .signals)) _ (g .1) in
+    let i = and-true (eqb (length (s .cells)) (cond (s .flag) (length (placesFrom 0 (s .satellites)) * length (placesFrom 0 (s .signals))) 0)) _ (h .1) in
+    record {
+      known-id = a .0;
+      fresh = b .0;
+      whole = eqb-true _ _ (c .0);
+      placed = d .0;
+      few = f .0;
+      long = eqb-true _ _ (g .0);
+      given = h .0;
+      width = eqb-true _ _ (i .0);
+      held = i .1;
+    }
+
+-- ---- a system, systems, a head: read from the bits that spell them
+
+-- a bit, whichever number stands for it
+reads-bit : {A : Type 0} {a : A} (k : ℕ → Program A) (b : Bool) {l : List Bool}
+    → ((n : ℕ) → n < 2 → eqb n 1 ≡ b → Reads (k n) l a) → Reads (numbered 1 >>= k) (b ∷ l) a
+unfolding spell
+reads-bit k true h = reads-numbered k 1 1 (omega arith) (h 1 (omega arith) refl)
+reads-bit k false h = reads-numbered k 1 0 (omega arith) (h 0 (omega arith) refl)
+
+system-reads : (before : List System) (s : System) → GoodSystem before s → Reads (system before) (putSystem s) s
+unfolding system putSystem known
+system-reads before s g =
+    reads-numbered _ 4 (s .id) (omega (arith, leb-true (s .id) 4 (g .known-id)))
+    (reads-require _ _ _ (true-and (g .known-id) (g .fresh))
+    (reads-taking _ 40 (s .satellites) (g .whole)
+    (reads-require _ _ _ (g .placed)
+    (reads-require _ _ _ (g .few)
+    (reads-taking _ 16 (s .signals) (g .long)
+    (reads-require _ _ _ (g .given)
+    (reads-bit _ (s .flag) λ n small same.
+    rw same
+    (reads-end (s .cells)
+    (reads-taking _ _ (s .cells) (rw (flag-width n, same) (g .width))
+    (reads-require _ _ _ (g .held)
+    reads-done))))))))))
+
+systems-read : (before ss : List System) → goodSystems before ss ≡ true → Reads (systems (length ss) before) (flatMap putSystem ss) (before ++ ss)
+unfolding systems goodSystems flatMap
+systems-read before [] e = rw append-nil reads-done
+systems-read before (s ∷ ss) e =
+    let parts = and-true (goodSystem before s) _ e in
+    reads-bind _ (system-reads before s (good-system before s (parts .0)))
+    (rw append-snoc at (systems-read (before ++ (s ∷ [])) ss (parts .1)))
+
+pub common-reads : (w : ℕ) (h : Common) → h .epoch < 2 ^ w → h .interval < 16 → h .indicator < 2 → h .iod < 16
+    → (subType : ℕ) (a b c : ℤ) → Reads (common w) (putCommon w (headOf subType h a b c)) h
+unfolding common putCommon put unsigned headOf
+common-reads w h epoch interval indicator iod subType a b c =
+    reads-numbered _ w (h .epoch) epoch
+    (reads-numbered _ 4 (h .interval) interval
+    (reads-numbered _ 1 (h .indicator) indicator
+    (reads-end (spell 4 (h .iod))
+    (reads-numbered _ 4 (h .iod) iod reads-done))))
+
+-- ---- a good mask has at most five systems
+
+-- how many numbers below n are names of systems
+names : ℕ → List System → ℕ
+names zero l = 0
+names (suc n) l = digit (named n l) + names n l
+
+digit-le : (b : Bool) → digit b ≤ 1
+digit-le true = omega arith
+digit-le false = omega arith
+
+names-le : (n : ℕ) (l : List System) → names n l ≤ n
+unfolding names
+names-le zero l = omega arith
+names-le (suc n) l = omega (arith, digit-le (named n l), names-le n l)
+
+either : (b : Bool) → cond b true true ≡ true
+either true = refl
+either false = refl
+
+-- what one more system names
+named-self : (l : List System) (s : System) → named (s .id) (l ++ (s ∷ [])) ≡ true
+unfolding named
+named-self [] s = rw (eq-eqb (s .id) (s .id) refl)
+named-self (t ∷ l) s = rw (named-self l s) (either (eqb (s .id) (t .id)))
+
+named-other : (id : ℕ) (l : List System) (s : System) → (id ≡ s .id → ⊥) → named id (l ++ (s ∷ [])) ≡ named id l
+unfolding named
+named-other id [] s h = rw (ne-eqb id (s .id) h)
+named-other id (t ∷ l) s h = rw (named-other id l s h)
+
+-- one more system is one more name below n, if its own is below n and new
+names-same : (n : ℕ) (l : List System) (s : System) → n ≤ s .id → names n (l ++ (s ∷ [])) ≡ names n l
+unfolding names
+names-same zero l s h = refl
+names-same (suc n) l s h = rw (named-other n l s (λ e. omega arith), names-same n l s (omega arith))
+
+names-more : (n : ℕ) (l : List System) (s : System) → s .id < n → named (s .id) l ≡ false → names n (l ++ (s ∷ [])) ≡ suc (names n l)
+unfolding names
+names-more zero l s h new = absurd (omega arith)
+names-more (suc n) l s h new = go (names-more n l s) (decLt (s .id) n)
+  where
+    go : (s .id < n → named (s .id) l ≡ false → names n (l ++ (s ∷ [])) ≡ suc (names n l)) → Dec (s .id < n)
+        → digit (named n (l ++ (s ∷ []))) + names n (l ++ (s ∷ [])) ≡ suc (digit (named n l) + names n l)
+    go more (yes below) = rw (named-other n l s (λ e. omega arith), more below new) (omega arith)
+    go more (no above) =
+        let same : n ≡ s .id = omega arith in
+        rw (names-same n l s (omega arith), same, named-self l s, new) (omega arith)
+
+-- each system that follows has a name of its own below 5
+few-after : (before ss : List System) → length before ≡ names 5 before → goodSystems before ss ≡ true → length before + length ss ≤ 5
+unfolding goodSystems known
+few-after before [] e all = omega (arith, names-le 5 before)
+few-after before (s ∷ ss) e all =
+    let parts = and-true (goodSystem before s) _ all in
+    let g = good-system before s (parts .0) in
+    let longer = length-append before (s ∷ []) in
+    let small : s .id < 5 = omega (arith, leb-true (s .id) 4 (g .known-id)) in
+    let more = names-more 5 before s small (not-true _ (g .fresh)) in
+    omega (arith, few-after (before ++ (s ∷ [])) ss (omega arith) (parts .1))
+
+pub few-systems : (m : Mask) → good (mask m) ≡ true → length (m .systems) ≤ 5
+unfolding good names named
+few-systems m e = omega (arith, few-after [] (m .systems) refl (and-true (ltb (m .iod) 16) _ e .1))
+
+-- ---- a good mask
+
+-- the bits that it spells are read to it
+pub made : (m : Mask) (h : Common) → good (mask m) ≡ true → h .iod ≡ m .iod → h .epoch < 2 ^ 20 → h .interval < 16 → h .indicator < 2
+    → let head = headOf 1 h (pos (length (m .systems))) absent absent in
+    run maskMessage (putMask m head) ≡ well (record { head = head; made = m }) (length (putMask m head))
+unfolding maskMessage good putMask put unsigned headOf
+made m h e same epoch interval indicator =
+    let parts = and-true (ltb (m .iod) 16) _ e in
+    let small : h .iod < 16 = omega (arith, ltb-true (m .iod) 16 (parts .0)) in
+    let few : length (m .systems) < 2 ^ 4 = omega (arith, few-systems m e) in
+    let count : ℤ = pos (length (m .systems)) in
+    let head : Head = headOf 1 h count absent absent in
+    let whole : Reads maskMessage (putMask m head) (record { head = head; made = m }) =
+    reads-bind _ (common-reads 20 h epoch interval indicator small 1 count absent absent)
+    (reads-numbered _ 4 (length (m .systems)) few
+    (reads-end (flatMap putSystem (m .systems))
+    (reads-bind _ (systems-read [] (m .systems) (parts .1)) (rw same reads-done)))) in
+    whole .reads
+
+-- so it is made by some bits; makes-good of Makes.antt is the way back
+pub good-made : (m : Mask) → good (mask m) ≡ true → (l : List Bool) × (d : Adopted) × (taken : ℕ) × (run maskMessage l ≡ well d taken) × (d .made ≡ m)
+good-made m e =
+    let h : Common = record { epoch = 0; interval = 0; indicator = 0; iod = m .iod } in
+    let head = headOf 1 h (pos (length (m .systems))) absent absent in
+    (putMask m head, record { head = head; made = m }, length (putMask m head), made m h e refl (omega arith) (omega arith) (omega arith), refl)
