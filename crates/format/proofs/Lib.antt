@@ -4,6 +4,6 @@ pub mod Stops
 pub mod Openings
 pub mod Sames
 pub mod SavedForm
-pub mod MakesSteps
+pub mod Steps
 pub mod Makes
 pub mod MakesBack

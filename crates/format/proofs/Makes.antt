@@ -19,7 +19,7 @@ use Rattle.format.specs.Messages.{common, headOf, named, system, systems
 use Rattle.format.specs.Programs.{well, run}
 use Rattle.format.specs.Rows.{absent}
 use Rattle.format.specs.Spelling.{put, putCommon, putSystem, putMask}
-use Rattle.format.proofs.MakesSteps.{Gives, gives-done, gives-require, gives-taking, gives-numbered, gives-bind, gives-so}
+use Rattle.format.proofs.Steps.{Gives, gives-done, gives-require, gives-taking, gives-numbered, gives-bind, gives-so}
 
 -- ---- tests
 
