@@ -1,3 +1,4 @@
 pub mod Runs
 pub mod Cases
 pub mod Bodies
+pub mod Spells
