@@ -1,4 +1,5 @@
 pub mod Runs
 pub mod Cases
+pub mod Sames
 pub mod Bodies
 pub mod Spells
