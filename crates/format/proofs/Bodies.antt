@@ -56,10 +56,14 @@ values-spelled (c ∷ cs) l room =
     ap₂ _++_ (column-spelled c (take (widthOf c) l) (length-take-le (widthOf c) l (omega arith))) (values-spelled cs (drop (widthOf c) l) rest)
     ∙ sym (take-add (widthOf c) (shapeWidth cs) l)
 
+-- all of a list
+pub data All {A : Type 0} (P : A → Type 0) : List A → Type 0 where
+  none : All P []
+  more : {x : A} {xs : List A} → P x → All P xs → All P (x ∷ xs)
+
 -- every line has three keys
-pub data Threes : List Line → Type 0 where
-  none : Threes []
-  more : {n : Line} {ns : List Line} → length (n .keys) ≡ 3 → Threes ns → Threes (n ∷ ns)
+abbrev pub Threes : List Line → Type 0
+Threes lines = All (λ n. length (n .keys) ≡ 3) lines
 
 front-spelled : (lines : List Line) (l : List Bool) → Threes lines → bodyWidth lines ≤ length l → spellRows lines (rowsOf lines l) ≡ take (bodyWidth lines) l
 unfolding bodyWidth rowsOf spellRows
