@@ -295,24 +295,46 @@ selected sats d (true ∷ []) size l s used e rows k =
     sym (append-nil (marks sats rows)) ∙ one-after (length sats) (bits .rest) (network .rest) at (marks sats rows) [] (bits .sum) same (end .1) in
     rw (← (end .0)) (ap (λ (x : List Bool). true ∷ x) (network .spells (marks sats rows) back), ap (λ (x : List Bool). pick x sats) same)
 
+-- the same with what was read behind it
+record Chosen {B : Type 0} (sats : List Satellite) (k : Selected → Program B) (l : List Bool) (b : B) (taken : ℕ) : Type 0 where
+  value : Selected
+  from : List Bool
+  rest : ℕ
+  goes : run (k value) from ≡ well b rest
+  spells : (rows : List (List ℤ)) (y : List Bool) → Keyed (value .chosen) rows → y ≡ take rest from → putSelection sats (value .network) rows ++ y ≡ take taken l
+  again : (rows : List (List ℤ)) → Keyed (value .chosen) rows → chosenBy sats (value .network) rows ≡ value .chosen
+
+selection-spelled : {B : Type 0} (sats : List Satellite) → Distinct sats → (k : Selected → Program B) (l : List Bool) (b : B) (taken : ℕ)
+    → run (numbered 1 >>= (λ flag. selection sats flag >>= k)) l ≡ well b taken → Chosen sats k l b taken
+selection-spelled sats d k l b taken e =
+    let flag = numbered-began 1 _ l b taken e in
+    let at : List Bool = drop 1 l in
+    let s = both (selection sats (number (take 1 l))) k at b (flag .rest) (flag .goes) in
+    let parts = selected sats d (take 1 l) (length-take-le 1 l (flag .room)) at (s .value) (s .used) (s .first) in
+    let joined : (y : List Bool) → y ≡ take (s .rest) (drop (s .used) at) → (take 1 l ++ take (s .used) at) ++ y ≡ take taken l =
+    λ y back. append-assoc (take 1 l) (take (s .used) at) y
+    ∙ one-after 1 (flag .rest) taken l (take 1 l) (take (s .used) at ++ y) (flag .sum) refl
+    (one-after (s .used) (s .rest) (flag .rest) at (take (s .used) at) y (s .sum) refl back) in
+    record {
+      value = s .value;
+      from = drop (s .used) at;
+      rest = s .rest;
+      goes = s .second;
+      spells = λ rows y keys back. ap (λ (x : List Bool). x ++ y) (parts rows keys .0) ∙ joined y back;
+      again = λ rows keys. parts rows keys .1;
+    }
+
 pub combined-spelled : (m : Mask) → good (mask m) ≡ true → (h : Common) (l : List Bool) (c : Content) (taken : ℕ) → run (combined m h) l ≡ well c taken
     → (c .head ≡ headOf 11 h (c .head .a) (c .head .b) (c .head .c)) × (putCombined m (c .head) (c .rows) ≡ take taken l)
 unfolding combined putCombined headOf sameℤ
 combined-spelled m fine h l c taken e =
-    let sats : List Satellite = satellites (m .systems) in
     let orbit = numbered-spelled 1 _ l c taken e in
     let clock = numbered-spelled 1 _ (drop 1 l) c (orbit .rest) (orbit .goes) in
-    let from : List Bool = drop 1 (drop 1 l) in
-    let flag = numbered-began 1 _ from c (clock .rest) (clock .goes) in
-    let s = both (selection sats (number (take 1 from))) _ (drop 1 from) c (flag .rest) (flag .goes) in
+    let s = selection-spelled (satellites (m .systems)) (satellites-distinct m fine) _ (drop 1 (drop 1 l)) c (clock .rest) (clock .goes) in
     let shape : ℕ → List Column = combinedShape (eqb (orbit .value) 1) (eqb (clock .value) 1) in
-    let at : List Bool = drop (s .used) (drop 1 from) in
-    let b = body-spelled (satelliteLines shape (s .value .chosen)) (satellite-threes shape (s .value .chosen)) _ at c (s .rest) (s .second) in
-    let keys : Keyed (s .value .chosen) (b .rows) = rw (b .read) (rows-keyed shape (s .value .chosen) (take (s .rest) at)) in
-    let p = selected sats (satellites-distinct m fine) (take 1 from) (length-take-le 1 from (flag .room)) (drop 1 from) (s .value) (s .used) (s .first) (b .rows) keys in
-    let body : spellRows (satelliteLines shape (chosenBy sats (s .value .network) (b .rows))) (b .rows) ≡ take (s .rest) at = rw (p .1) (b .spells) in
-    let back : putSelection sats (s .value .network) (b .rows) ++ spellRows (satelliteLines shape (chosenBy sats (s .value .network) (b .rows))) (b .rows) ≡ take (clock .rest) from =
-    ap₂ _++_ (p .0) body ∙ append-assoc (take 1 from) (take (s .used) (drop 1 from)) (take (s .rest) at)
-    ∙ one-after 1 (flag .rest) (clock .rest) from (take 1 from) _ (flag .sum) refl
-    (one-after (s .used) (s .rest) (flag .rest) (drop 1 from) (take (s .used) (drop 1 from)) (take (s .rest) at) (s .sum) refl refl) in
-    rw (b .made) (refl, orbit .spells _ (clock .spells _ back))
+    let sats : List Satellite = s .value .chosen in
+    let b = body-spelled (satelliteLines shape sats) (satellite-threes shape sats) _ (s .from) c (s .rest) (s .goes) in
+    let keys : Keyed sats (b .rows) = rw (b .read) (rows-keyed shape sats (take (s .rest) (s .from))) in
+    let rows : List Bool = spellRows (satelliteLines shape (chosenBy (satellites (m .systems)) (s .value .network) (b .rows))) (b .rows) in
+    let end : rows ≡ take (s .rest) (s .from) = rw (s .again (b .rows) keys) (b .spells) in
+    rw (b .made) (refl, orbit .spells _ (clock .spells _ (s .spells (b .rows) rows keys end)))
