@@ -3,3 +3,4 @@ pub mod Cases
 pub mod Sames
 pub mod Bodies
 pub mod Spells
+pub mod RoundTrips

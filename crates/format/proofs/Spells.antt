@@ -15,8 +15,8 @@ use Rattle.bits.specs.Signed.{unsigned}
 use Rattle.format.specs.declared.Head.{Head}
 use Rattle.format.specs.Assigned.{known}
 use Rattle.format.specs.Good.{goodSystem, goodSystems, good}
-use Rattle.format.specs.Masks.{System, Mask, mask, Satellite, placesFrom, pick, satellitesOf, satellites}
-use Rattle.format.specs.Messages.{Content, Common, common, headOf, body, rowsAlone, packet, packetLines, satelliteLines, combinedShape, Selected, selection, combined, named}
+use Rattle.format.specs.Masks.{System, Mask, mask, Satellite, Cell, placesFrom, pick, satellitesOf, satellites}
+use Rattle.format.specs.Messages.{Content, Common, common, headOf, body, rowsAlone, packet, packetLines, satelliteLines, cellLines, combinedShape, Selected, selection, combined, named}
 use Rattle.format.specs.Programs.{Program, done, _>>=_, numbered, well, run}
 use Rattle.format.specs.Rows.{absent, Column, Line, shapeWidth, bodyWidth, rowsOf, spellRows}
 use Rattle.format.specs.Same.{sameℤ, sameList}
@@ -90,6 +90,20 @@ body-spelled lines threes make l b taken e =
     let read : s .value ≡ rowsOf lines (take taken l) = rw all at (r .2) in
     let size : length (take taken l) ≡ bodyWidth lines = length-take-le taken l (omega (arith, r .1)) ∙ sym all ∙ r .0 in
     record { rows = s .value; made = cc (s .second); read = read; spells = rw read (rows-spelled lines (take taken l) threes size) }
+
+-- ---- the lines of satellites and of cells
+
+all-map : {A B : Type 0} {P : B → Type 0} (f : A → B) (xs : List A) → ((x : A) → P (f x)) → All P (map f xs)
+all-map f [] p = none
+all-map f (x ∷ xs) p = more (p x) (all-map f xs p)
+
+pub satellite-threes : (shape : ℕ → List Column) (sats : List Satellite) → Threes (satelliteLines shape sats)
+unfolding satelliteLines
+satellite-threes shape sats = all-map _ sats (λ s. refl)
+
+pub cell-threes : (shape : List Column) (cs : List Cell) → Threes (cellLines shape cs)
+unfolding cellLines
+cell-threes shape cs = all-map _ cs (λ c. refl)
 
 -- ---- 2, 3, 4 and 5
 
@@ -232,11 +246,6 @@ unfolding satelliteLines rowsOf
 rows-keyed shape [] l = unkeyed
 rows-keyed shape (s ∷ ss) l = keyed refl (rows-keyed shape ss (drop (shapeWidth (shape (s .system))) l))
 
-satellite-threes : (shape : ℕ → List Column) (sats : List Satellite) → Threes (satelliteLines shape sats)
-unfolding satelliteLines
-satellite-threes shape [] = none
-satellite-threes shape (s ∷ ss) = more refl (satellite-threes shape ss)
-
 all-pick : {A : Type 0} {P : A → Type 0} (bits : List Bool) (xs : List A) → All P xs → All P (pick bits xs)
 unfolding pick
 all-pick [] xs ps = none
@@ -337,4 +346,5 @@ combined-spelled m fine h l c taken e =
     let keys : Keyed sats (b .rows) = rw (b .read) (rows-keyed shape sats (take (s .rest) (s .from))) in
     let rows : List Bool = spellRows (satelliteLines shape (chosenBy (satellites (m .systems)) (s .value .network) (b .rows))) (b .rows) in
     let end : rows ≡ take (s .rest) (s .from) = rw (s .again (b .rows) keys) (b .spells) in
-    rw (b .made) (refl, orbit .spells _ (clock .spells _ (s .spells (b .rows) rows keys end)))
+    let back : List Bool = putSelection (satellites (m .systems)) (s .value .network) (b .rows) ++ rows in
+    rw (b .made) (refl, orbit .spells _ (clock .spells back (s .spells (b .rows) rows keys end)))
