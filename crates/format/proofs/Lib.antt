@@ -7,3 +7,6 @@ pub mod SavedForm
 pub mod Steps
 pub mod Makes
 pub mod MakesBack
+pub mod Bodies
+pub mod Spells
+pub mod RoundTrips
