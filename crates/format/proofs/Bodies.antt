@@ -2,7 +2,7 @@
 -- Assumes nothing.
 use mathlib.Core.Path.{_≡_, refl, sym, ap, ap₂, _∙_}
 use mathlib.Core.Bool.{Bool}
-use mathlib.Core.List.{List, [], _∷_, _++_}
+use mathlib.Core.List.{List, [], _∷_, _++_, map}
 use Prim.Native.Nat.{ℕ, zero, suc, _+_, _*_, _^_, _≤_, _<_}
 use native.Mathlib.Nat.{le-of-suc-le-suc}
 use native.Mathlib.Omega.{arith}
@@ -60,6 +60,18 @@ values-spelled (c ∷ cs) l room =
 pub data All {A : Type 0} (P : A → Type 0) : List A → Type 0 where
   none : All P []
   more : {x : A} {xs : List A} → P x → All P xs → All P (x ∷ xs)
+
+pub all-map : {A B : Type 0} {P : B → Type 0} (f : A → B) (xs : List A) → ((x : A) → P (f x)) → All P (map f xs)
+all-map f [] p = none
+all-map f (x ∷ xs) p = more (p x) (all-map f xs p)
+
+pub all-weaken : {A : Type 0} {P Q : A → Type 0} {xs : List A} → ((x : A) → P x → Q x) → All P xs → All Q xs
+all-weaken f none = none
+all-weaken f (more p ps) = more (f _ p) (all-weaken f ps)
+
+pub all-append : {A : Type 0} {P : A → Type 0} {xs ys : List A} → All P xs → All P ys → All P (xs ++ ys)
+all-append none qs = qs
+all-append (more p ps) qs = more p (all-append ps qs)
 
 -- every line has three keys
 abbrev pub Threes : List Line → Type 0

@@ -21,7 +21,7 @@ use Rattle.format.specs.Programs.{Program, done, _>>=_, numbered, well, 
 use Rattle.format.specs.Rows.{absent, Column, Line, shapeWidth, bodyWidth, rowsOf, spellRows}
 use Rattle.format.specs.Same.{sameℤ, sameList}
 use Rattle.format.specs.Spelling.{put, putCommon, putRows, marks, putSelection, chosenBy, putCombined, putPacket}
-use Rattle.format.proofs.Bodies.{body-read, field-spelled, All, none, more, Threes, rows-spelled, rows-count}
+use Rattle.format.proofs.Bodies.{body-read, field-spelled, All, none, more, all-map, all-weaken, all-append, Threes, rows-spelled, rows-count}
 use Rattle.format.proofs.Runs.{both, numbered-began, taking-began, required}
 use Rattle.format.proofs.Sames.{sameℤ-refl, sameList-refl}
 
@@ -30,7 +30,7 @@ use Rattle.format.proofs.Sames.{sameℤ-refl, sameList-refl}
 pub one-after : (u rest taken : ℕ) (l x y : List Bool) → taken ≡ u + rest → x ≡ take u l → y ≡ take rest (drop u l) → x ++ y ≡ take taken l
 one-after u rest taken l x y sum front back = ap₂ _++_ front back ∙ sym (take-add u rest l) ∙ ap (λ (n : ℕ). take n l) (sym sum)
 
-pub put-field : (w : ℕ) (l : List Bool) → w ≤ length l → put w (pos (number (take w l))) ≡ take w l
+put-field : (w : ℕ) (l : List Bool) → w ≤ length l → put w (pos (number (take w l))) ≡ take w l
 unfolding put unsigned
 put-field w l room = field-spelled w (take w l) (length-take-le w l room)
 
@@ -71,31 +71,38 @@ common-spelled w l h taken e n a b c =
     let end = done-read _ h (drop 4 (drop 1 (drop 4 (drop w l)))) (iod .rest) (iod .goes) in
     rw (← (end .0)) (epoch .spells _ (interval .spells _ (indicator .spells _ (sym (append-nil _) ∙ iod .spells [] (end .1)))))
 
--- ---- a body, and what is made of its rows
+-- ---- a program, and what is made of its value
 
-pub record Rowed {B : Type 0} (lines : List Line) (make : List (List ℤ) → B) (l : List Bool) (b : B) (taken : ℕ) : Type 0 where
-  pub rows : List (List ℤ)
-  pub made : b ≡ make rows
-  pub read : rows ≡ rowsOf lines (take taken l)
-  pub spells : spellRows lines rows ≡ take taken l
+pub record Made {A B : Type 0} (p : Program A) (make : A → B) (l : List Bool) (b : B) (taken : ℕ) : Type 0 where
+  pub value : A
+  pub goes : run p l ≡ well value taken
+  pub made : make value ≡ b
 
-pub body-spelled : {B : Type 0} (lines : List Line) → Threes lines → (make : List (List ℤ) → B) (l : List Bool) (b : B) (taken : ℕ)
-    → run (body lines >>= (λ rows. done (make rows))) l ≡ well b taken → Rowed lines make l b taken
+pub making : {A B : Type 0} (p : Program A) (make : A → B) (l : List Bool) (b : B) (taken : ℕ) → run (p >>= (λ a. done (make a))) l ≡ well b taken
+    → Made p make l b taken
 unfolding run
-body-spelled lines threes make l b taken e =
-    let s = both (body lines) (λ rows. done (make rows)) l b taken e in
-    let r = body-read lines l (s .value) (s .used) (s .first) in
+making p make l b taken e =
+    let s = both p (λ a. done (make a)) l b taken e in
     let end : 0 ≡ s .rest = cc (s .second) in
     let all : s .used ≡ taken = omega (arith, s .sum) in
-    let read : s .value ≡ rowsOf lines (take taken l) = rw all at (r .2) in
-    let size : length (take taken l) ≡ bodyWidth lines = length-take-le taken l (omega (arith, r .1)) ∙ sym all ∙ r .0 in
-    record { rows = s .value; made = cc (s .second); read = read; spells = rw read (rows-spelled lines (take taken l) threes size) }
+    record { value = s .value; goes = rw all at (s .first); made = cc (s .second) }
+
+-- a body, and what is made of its rows
+record Rowed {B : Type 0} (lines : List Line) (make : List (List ℤ) → B) (l : List Bool) (b : B) (taken : ℕ) : Type 0 where
+  rows : List (List ℤ)
+  made : b ≡ make rows
+  read : rows ≡ rowsOf lines (take taken l)
+  spells : spellRows lines rows ≡ take taken l
+
+body-spelled : {B : Type 0} (lines : List Line) → Threes lines → (make : List (List ℤ) → B) (l : List Bool) (b : B) (taken : ℕ)
+    → run (body lines >>= (λ rows. done (make rows))) l ≡ well b taken → Rowed lines make l b taken
+body-spelled lines threes make l b taken e =
+    let m = making (body lines) make l b taken e in
+    let r = body-read lines l (m .value) taken (m .goes) in
+    let size : length (take taken l) ≡ bodyWidth lines = length-take-le taken l (r .1) ∙ r .0 in
+    record { rows = m .value; made = sym (m .made); read = r .2; spells = rw (r .2) (rows-spelled lines (take taken l) threes size) }
 
 -- ---- the lines of satellites and of cells
-
-all-map : {A B : Type 0} {P : B → Type 0} (f : A → B) (xs : List A) → ((x : A) → P (f x)) → All P (map f xs)
-all-map f [] p = none
-all-map f (x ∷ xs) p = more (p x) (all-map f xs p)
 
 pub satellite-threes : (shape : ℕ → List Column) (sats : List Satellite) → Threes (satelliteLines shape sats)
 unfolding satelliteLines
@@ -148,14 +155,6 @@ Apart s t = s .system ≡ t .system → s .number ≡ t .number → ⊥
 pub data Distinct : List Satellite → Type 0 where
   nobody : Distinct []
   another : {s : Satellite} {ss : List Satellite} → All (Apart s) ss → Distinct ss → Distinct (s ∷ ss)
-
-all-weaken : {A : Type 0} {P Q : A → Type 0} {xs : List A} → ((x : A) → P x → Q x) → All P xs → All Q xs
-all-weaken f none = none
-all-weaken f (more p ps) = more (f _ p) (all-weaken f ps)
-
-all-append : {A : Type 0} {P : A → Type 0} {xs ys : List A} → All P xs → All P ys → All P (xs ++ ys)
-all-append none qs = qs
-all-append (more p ps) qs = more p (all-append ps qs)
 
 distinct-append : {xs ys : List Satellite} → Distinct xs → Distinct ys → All (λ x. All (Apart x) ys) xs → Distinct (xs ++ ys)
 distinct-append nobody ds across = ds
@@ -232,11 +231,11 @@ satellites-distinct m e = distinct-from [] (m .systems) (and-eq-true-iff (ltb (m
 
 -- ---- 11: which satellites were selected can be seen from the rows
 
-abbrev pub keyOf : Satellite → List ℤ
+abbrev keyOf : Satellite → List ℤ
 keyOf s = pos (s .system) ∷ pos (s .number) ∷ []
 
 -- rows that begin with the keys of satellites, one for each
-pub data Keyed : List Satellite → List (List ℤ) → Type 0 where
+data Keyed : List Satellite → List (List ℤ) → Type 0 where
   unkeyed : Keyed [] []
   keyed : {s : Satellite} {ss : List Satellite} {r : List ℤ} {rs : List (List ℤ)} → take 2 r ≡ keyOf s → Keyed ss rs
       → Keyed (s ∷ ss) (r ∷ rs)
@@ -347,4 +346,4 @@ combined-spelled m fine h l c taken e =
     let rows : List Bool = spellRows (satelliteLines shape (chosenBy (satellites (m .systems)) (s .value .network) (b .rows))) (b .rows) in
     let end : rows ≡ take (s .rest) (s .from) = rw (s .again (b .rows) keys) (b .spells) in
     let back : List Bool = putSelection (satellites (m .systems)) (s .value .network) (b .rows) ++ rows in
-    rw (b .made) (refl, orbit .spells _ (clock .spells back (s .spells (b .rows) rows keys end)))
+    rw (b .made) (refl, orbit .spells (put 1 (pos (clock .value)) ++ back) (clock .spells back (s .spells (b .rows) rows keys end)))
