@@ -4,31 +4,30 @@ use mathlib.Core.Path.{_≡_, refl, sym, ap, _∙_}
 use mathlib.Core.Bool.{Bool, true, and-eq-true-iff, false≢true}
 use mathlib.Core.List.{List, [], _∷_, _++_}
 use Prim.Native.Nat.{ℕ, zero, suc, _+_}
-use native.Mathlib.Nat.{zero-add, add-zero, suc-add}
+use native.Mathlib.Nat.{zero-add, add-zero}
 use native.Mathlib.Omega.{arith}
 use borrow.Author.Tests.{eqb-true}
 use lib.Dec.{eqb}
 use lib.IntN.{ℤ, pos}
 use lib.ListN.{length, take, drop, getD}
 use lib.Seq.{length-take-le}
-use Rattle.bits.specs.BitLists.{spell}
 use Rattle.bits.specs.Signed.{unsigned}
 use Rattle.format.specs.declared.Head.{Head}
 use Rattle.format.specs.declared.Refusal.{Refusal}
 use Rattle.format.specs.declared.Refusal.the-variants.{Number, SubType, NoMask}
 use Rattle.format.specs.Good.{good}
-use Rattle.format.specs.Masks.{Mask, Held, nothing, mask, satellites, cells}
-use Rattle.format.specs.Messages.{Content, Common, common, headOf, orbitShape, clockShape, codeShape, phaseShape, Adopted, maskMessage}
-use Rattle.format.specs.Programs.{Program, done, refuse, _>>=_, _>>_, numbered, require, Ended, well, badly, later, run}
-use Rattle.format.specs.Rows.{Line}
+use Rattle.format.specs.Masks.{Mask, Held, nothing, mask, Cell, satellites, cells}
+use Rattle.format.specs.Messages.{Content, Common, common, headOf, orbitShape, clockShape, codeShape, phaseShape, cellLines, Adopted, maskMessage}
+use Rattle.format.specs.Programs.{Program, refuse, _>>=_, _>>_, numbered, require, Ended, well, badly, later, run}
+use Rattle.format.specs.Rows.{Column, Line}
 use Rattle.format.specs.Same.{sameList, sameℤ, sameHead}
 use Rattle.format.specs.Spelling.{put, putCommon, putMask}
 use Rattle.format.specs.Table.{Message, Kind, other, free, masked, adopts, alone, orbitLines, clockLines, codeLines, phaseLines, kinds, table, gate, byKind, messageBy, message, kindOf, spellKind, spelledBy, spelled}
 use Rattle.format.specs.Writing.{endedWith, exact}
-use Rattle.format.proofs.Bodies.{Threes}
+use Rattle.format.proofs.Bodies.{Threes, all-map}
 use Rattle.format.proofs.Runs.{taken-le, run-bind, both, run-append, run-take, required}
 use Rattle.format.proofs.Sames.{sameList-sound, sameList-refl, sameℤ-sound, sameℤ-refl, sameHead-sound, sameHead-refl, sameHeld-sound, sameHeld-refl, eqb-refl}
-use Rattle.format.proofs.Spells.{one-after, numbered-spelled, common-spelled, making, satellite-threes, cell-threes, alone-spelled, packet-spelled, combined-spelled}
+use Rattle.format.proofs.Spells.{one-after, numbered-spelled, common-spelled, making, satellite-threes, alone-spelled, packet-spelled, combined-spelled}
 
 -- What a kind promises at a sub type n: what its program reads is of that sub type, and its spelling of that is the bits taken.
 -- Where a common head stands before, the head read keeps its columns.
@@ -50,6 +49,7 @@ refused r l a taken e =
     let z : _≡_ {A = ℕ} 0 1 = cc in
     omega arith
 
+-- what was read behind the sub type
 kind-spelled : (n : ℕ) (k : Kind) → Lawful n k → (held : Held) → good held ≡ true → (l : List Bool) (m : Message) (taken : ℕ)
     → run (byKind k held) l ≡ well m taken
     → (m .content .head .subtype ≡ pos n) × (spellKind k (m .after) (m .content .head) (m .content .rows) ≡ take taken l)
@@ -79,6 +79,7 @@ kind-spelled n (adopts p q) law held fine l m taken e =
 
 -- ---- by a table
 
+-- what was read, written again under the holding that it left, is the bits that were taken
 pub read-spelled : (t : ℕ → Kind) → ((n : ℕ) → Lawful n (t n)) → (held : Held) → good held ≡ true → (l : List Bool) (m : Message) (taken : ℕ)
     → run (messageBy t held) l ≡ well m taken → spelledBy t (m .after) (m .content .head) (m .content .rows) ≡ take taken l
 unfolding messageBy spelledBy kindOf put unsigned
@@ -102,6 +103,7 @@ in-place p k k' l b taken e f =
     let s = both p k l b taken e in
     run-bind p k' l (s .value) (s .used) (s .first) ∙ ap (later (s .used)) (f (s .value) (drop (s .used) l) (s .rest) (s .second)) ∙ ap (well b) (sym (s .sum))
 
+-- what is held after is what was held before, or what was held before was not asked for
 kind-again : (k : Kind) (held : Held) (l : List Bool) (m : Message) (taken : ℕ) → run (byKind k held) l ≡ well m taken → run (byKind k (m .after)) l ≡ well m taken
 unfolding byKind
 kind-again other held l m taken e = e
@@ -121,11 +123,12 @@ pub read-again : (t : ℕ → Kind) (held : Held) (l : List Bool) (m : Message) 
 unfolding messageBy _>>_
 read-again t held l m taken e =
     in-place (numbered 12) _ _ l m taken e
-    (λ number l' rest e'. in-place (require (eqb number 4073) Number) _ _ l' m rest e'
-    (λ _ l'' rest' e''. in-place (numbered 4) _ _ l'' m rest' e'' (λ n l3 rest3 e3. kind-again (t n) held l3 m rest3 e3)))
+    (λ number l rest e. in-place (require (eqb number 4073) Number) _ _ l m rest e
+    (λ _ l rest e. in-place (numbered 4) _ _ l m rest e (λ n l rest e. kind-again (t n) held l m rest e)))
 
 -- ---- writing
 
+-- to have ended with a message, as the writer tests it
 ended-sound : (m : Message) (bits : ℕ) (e : Ended Message) → endedWith m bits e ≡ true → e ≡ well m bits
 unfolding endedWith
 ended-sound m bits (badly r missing) h = absurd (false≢true h)
@@ -153,6 +156,10 @@ exact-reads held h rows e more =
     run-append (message held) bits more m (length bits) (ended-sound m (length bits) (run (message held) bits) e)
 
 -- ---- the table
+
+cell-threes : (shape : List Column) (cs : List Cell) → Threes (cellLines shape cs)
+unfolding cellLines
+cell-threes shape cs = all-map _ cs (λ c. refl)
 
 alone-lawful : (n : ℕ) (lines : Mask → List Line) → ((m : Mask) → Threes (lines m)) → Lawful n (alone n lines)
 unfolding Lawful alone headOf

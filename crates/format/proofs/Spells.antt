@@ -3,20 +3,19 @@
 use mathlib.Core.Path.{_≡_, refl, sym, ap, ap₂, _∙_}
 use mathlib.Core.Bool.{Bool, true, false, cond, not, _&&_, and-eq-true-iff, false≢true}
 use mathlib.Core.List.{List, [], _∷_, _++_, append-nil, append-assoc, map, flatMap}
-use Prim.Native.Nat.{ℕ, zero, suc, _+_, _≤_, _<_}
+use Prim.Native.Nat.{ℕ, zero, suc, _+_, _<_}
 use native.Mathlib.Omega.{arith}
 use borrow.Author.Tests.{not-true, eqb-true, eqb-false}
 use lib.Dec.{eqb, ltb}
 use lib.IntN.{ℤ, pos}
-use lib.ListN.{length, take, drop, length-drop}
+use lib.ListN.{length, take, drop}
 use lib.Seq.{take-add, length-take-le}
 use Rattle.bits.specs.BitLists.{number, spell}
 use Rattle.bits.specs.Signed.{unsigned}
-use Rattle.format.specs.declared.Head.{Head}
 use Rattle.format.specs.Assigned.{known}
 use Rattle.format.specs.Good.{goodSystem, goodSystems, good}
-use Rattle.format.specs.Masks.{System, Mask, mask, Satellite, Cell, placesFrom, pick, satellitesOf, satellites}
-use Rattle.format.specs.Messages.{Content, Common, common, headOf, body, rowsAlone, packet, packetLines, satelliteLines, cellLines, combinedShape, Selected, selection, combined, named}
+use Rattle.format.specs.Masks.{System, Mask, mask, Satellite, placesFrom, pick, satellitesOf, satellites}
+use Rattle.format.specs.Messages.{Content, Common, common, headOf, body, rowsAlone, packet, packetLines, satelliteLines, combinedShape, Selected, selection, combined, named}
 use Rattle.format.specs.Programs.{Program, done, _>>=_, numbered, well, run}
 use Rattle.format.specs.Rows.{absent, Column, Line, shapeWidth, bodyWidth, rowsOf, spellRows}
 use Rattle.format.specs.Same.{sameℤ, sameList}
@@ -27,12 +26,9 @@ use Rattle.format.proofs.Sames.{sameℤ-refl, sameList-refl}
 
 -- ---- bits spelled one after the other
 
+-- bits that are the first, and bits that are those behind them, are all that were taken
 pub one-after : (u rest taken : ℕ) (l x y : List Bool) → taken ≡ u + rest → x ≡ take u l → y ≡ take rest (drop u l) → x ++ y ≡ take taken l
 one-after u rest taken l x y sum front back = ap₂ _++_ front back ∙ sym (take-add u rest l) ∙ ap (λ (n : ℕ). take n l) (sym sum)
-
-put-field : (w : ℕ) (l : List Bool) → w ≤ length l → put w (pos (number (take w l))) ≡ take w l
-unfolding put unsigned
-put-field w l room = field-spelled w (take w l) (length-take-le w l room)
 
 -- a number was read, and then the rest: spelled behind it, the rest's bits are all bits taken
 pub record Numbered {B : Type 0} (w : ℕ) (k : ℕ → Program B) (l : List Bool) (b : B) (taken : ℕ) : Type 0 where
@@ -42,13 +38,14 @@ pub record Numbered {B : Type 0} (w : ℕ) (k : ℕ → Program B) (l : List Boo
   pub spells : (y : List Bool) → y ≡ take rest (drop w l) → put w (pos value) ++ y ≡ take taken l
 
 pub numbered-spelled : {B : Type 0} (w : ℕ) (k : ℕ → Program B) (l : List Bool) (b : B) (taken : ℕ) → run (numbered w >>= k) l ≡ well b taken → Numbered w k l b taken
+unfolding put unsigned
 numbered-spelled w k l b taken e =
     let f = numbered-began w k l b taken e in
     record {
       value = number (take w l);
       rest = f .rest;
       goes = f .goes;
-      spells = λ y back. one-after w (f .rest) taken l (put w (pos (number (take w l)))) y (f .sum) (put-field w l (f .room)) back;
+      spells = λ y back. one-after w (f .rest) taken l (spell w (number (take w l))) y (f .sum) (field-spelled w (take w l) (length-take-le w l (f .room))) back;
     }
 
 -- a program that ends at once takes no bits
@@ -102,16 +99,6 @@ body-spelled lines threes make l b taken e =
     let size : length (take taken l) ≡ bodyWidth lines = length-take-le taken l (r .1) ∙ r .0 in
     record { rows = m .value; made = sym (m .made); read = r .2; spells = rw (r .2) (rows-spelled lines (take taken l) threes size) }
 
--- ---- the lines of satellites and of cells
-
-pub satellite-threes : (shape : ℕ → List Column) (sats : List Satellite) → Threes (satelliteLines shape sats)
-unfolding satelliteLines
-satellite-threes shape sats = all-map _ sats (λ s. refl)
-
-pub cell-threes : (shape : List Column) (cs : List Cell) → Threes (cellLines shape cs)
-unfolding cellLines
-cell-threes shape cs = all-map _ cs (λ c. refl)
-
 -- ---- 2, 3, 4 and 5
 
 pub alone-spelled : (n : ℕ) (lines : Mask → List Line) → ((m : Mask) → Threes (lines m)) → (m : Mask) (h : Common) (l : List Bool) (c : Content) (taken : ℕ)
@@ -123,6 +110,7 @@ alone-spelled n lines threes m h l c taken e =
 
 -- ---- 10
 
+-- a packet's lines: three keys each, and as many as counted
 packet-threes : (k n : ℕ) → Threes (packetLines k n)
 unfolding packetLines
 packet-threes k zero = none
@@ -149,6 +137,7 @@ packet-spelled l c taken e =
 
 -- ---- no two satellites of a good mask are the same
 
+-- not the same satellite
 abbrev pub Apart : Satellite → Satellite → Type 0
 Apart s t = s .system ≡ t .system → s .number ≡ t .number → ⊥
 
@@ -240,6 +229,10 @@ data Keyed : List Satellite → List (List ℤ) → Type 0 where
   keyed : {s : Satellite} {ss : List Satellite} {r : List ℤ} {rs : List (List ℤ)} → take 2 r ≡ keyOf s → Keyed ss rs
       → Keyed (s ∷ ss) (r ∷ rs)
 
+pub satellite-threes : (shape : ℕ → List Column) (sats : List Satellite) → Threes (satelliteLines shape sats)
+unfolding satelliteLines
+satellite-threes shape sats = all-map _ sats (λ s. refl)
+
 rows-keyed : (shape : ℕ → List Column) (sats : List Satellite) (l : List Bool) → Keyed sats (rowsOf (satelliteLines shape sats) l)
 unfolding satelliteLines rowsOf
 rows-keyed shape [] l = unkeyed
@@ -268,6 +261,7 @@ other-key s r {ts = t ∷ ts} (more apart ps) (keyed e k) =
     rw e (not-both (eqb (t .system) (s .system)) (eqb (t .number) (s .number))
     (λ p q. apart (sym (eqb-true (t .system) (s .system) p)) (sym (eqb-true (t .number) (s .number) q))))
 
+-- so the rows of those selected show the selection
 marks-pick : (sats : List Satellite) (bits : List Bool) (rows : List (List ℤ)) → Distinct sats → length bits ≡ length sats → Keyed (pick bits sats) rows
     → marks sats rows ≡ bits
 unfolding marks pick
@@ -280,7 +274,7 @@ marks-pick (s ∷ ss) (false ∷ bits) [] (another a d) size k = ap (λ (l : Lis
 marks-pick (s ∷ ss) (false ∷ bits) (r ∷ rows) (another a d) size k =
     rw (other-key s r (all-pick bits ss a) k) (ap (λ (l : List Bool). false ∷ l) (marks-pick ss bits (r ∷ rows) d (omega arith) k))
 
--- the flag, and a network with its selection if it is set
+-- the flag, and a network with its selection if it is set: spelled from the rows, and found again
 selected : (sats : List Satellite) → Distinct sats → (b : List Bool) → length b ≡ 1 → (l : List Bool) (s : Selected) (used : ℕ)
     → run (selection sats (number b)) l ≡ well s used → (rows : List (List ℤ)) → Keyed (s .chosen) rows
     → (putSelection sats (s .network) rows ≡ b ++ take used l) × (chosenBy sats (s .network) rows ≡ s .chosen)
@@ -303,7 +297,7 @@ selected sats d (true ∷ []) size l s used e rows k =
     sym (append-nil (marks sats rows)) ∙ one-after (length sats) (bits .rest) (network .rest) at (marks sats rows) [] (bits .sum) same (end .1) in
     rw (← (end .0)) (ap (λ (x : List Bool). true ∷ x) (network .spells (marks sats rows) back), ap (λ (x : List Bool). pick x sats) same)
 
--- the same with what was read behind it
+-- the same, with what was read behind it
 record Chosen {B : Type 0} (sats : List Satellite) (k : Selected → Program B) (l : List Bool) (b : B) (taken : ℕ) : Type 0 where
   value : Selected
   from : List Bool
