@@ -2,8 +2,8 @@
 -- Assumes nothing.
 use mathlib.Core.Path.{_≡_, refl, sym, ap, ap₂, _∙_}
 use mathlib.Core.Bool.{Bool}
-use mathlib.Core.List.{List, [], _∷_, _++_}
-use Prim.Native.Nat.{ℕ, zero, suc, _+_, _*_, _^_, _≤_, _<_}
+use mathlib.Core.List.{List, [], _∷_, _++_, map}
+use Prim.Native.Nat.{ℕ, zero, suc, _*_, _^_, _≤_, _<_}
 use native.Mathlib.Nat.{le-of-suc-le-suc}
 use native.Mathlib.Omega.{arith}
 use lib.IntN.{ℤ, pos, pos-ne-negsuc}
@@ -14,7 +14,7 @@ use lib.Signed.{mag}
 use Rattle.bits.proofs.BitLists.{spell-number, number-lt}
 use Rattle.bits.proofs.Complement.{unsigned-signed, signed-range}
 use Rattle.bits.specs.BitLists.{number, spell}
-use Rattle.bits.specs.Signed.{signed, unsigned}
+use Rattle.bits.specs.Signed.{unsigned}
 use Rattle.format.specs.Messages.{body}
 use Rattle.format.specs.Programs.{done, well, run}
 use Rattle.format.specs.Rows.{absent, Column, gap, plain, counts, Line, widthOf, valueOf, shapeWidth, valuesOf, bodyWidth, rowsOf, spellValues, spellRows}
@@ -22,6 +22,7 @@ use Rattle.format.proofs.Runs.{began}
 
 -- ---- what is read
 
+-- all of the body's bits, and the rows that they make
 pub body-read : (lines : List Line) (l : List Bool) (rows : List (List ℤ)) (taken : ℕ) → run (body lines) l ≡ well rows taken
     → (taken ≡ bodyWidth lines) × (taken ≤ length l) × (rows ≡ rowsOf lines (take taken l))
 unfolding body run
@@ -41,6 +42,7 @@ field-spelled w b e = rw e at (spell-number b)
 pub field-lt : (w : ℕ) (b : List Bool) → length b ≡ w → number b < 2 ^ w
 field-lt w b e = rw e at (number-lt b)
 
+-- what a column's bits mean, spelled in its width, is the bits
 column-spelled : (c : Column) (b : List Bool) → length b ≡ widthOf c → spell (widthOf c) (unsigned (widthOf c) (valueOf c b)) ≡ b
 unfolding widthOf valueOf spell unsigned
 column-spelled gap [] e = refl
@@ -60,6 +62,18 @@ values-spelled (c ∷ cs) l room =
 pub data All {A : Type 0} (P : A → Type 0) : List A → Type 0 where
   none : All P []
   more : {x : A} {xs : List A} → P x → All P xs → All P (x ∷ xs)
+
+pub all-map : {A B : Type 0} {P : B → Type 0} (f : A → B) (xs : List A) → ((x : A) → P (f x)) → All P (map f xs)
+all-map f [] p = none
+all-map f (x ∷ xs) p = more (p x) (all-map f xs p)
+
+pub all-weaken : {A : Type 0} {P Q : A → Type 0} {xs : List A} → ((x : A) → P x → Q x) → All P xs → All Q xs
+all-weaken f none = none
+all-weaken f (more p ps) = more (f _ p) (all-weaken f ps)
+
+pub all-append : {A : Type 0} {P : A → Type 0} {xs ys : List A} → All P xs → All P ys → All P (xs ++ ys)
+all-append none qs = qs
+all-append (more p ps) qs = more p (all-append ps qs)
 
 -- every line has three keys
 abbrev pub Threes : List Line → Type 0
@@ -92,7 +106,7 @@ row-key [] l k d threes h = absurd (omega arith)
 row-key (n ∷ ns) l zero d (more three threes) h = take-at (n .keys) (valuesOf (n .shape) l) 3 three
 row-key (n ∷ ns) l (suc k) d (more three threes) h = row-key ns (drop (shapeWidth (n .shape)) l) k d threes (le-of-suc-le-suc h)
 
--- a value in its column's range: absent in a gap only
+-- a value in its column's range: what a gap holds is absent
 unfoldable pub InColumn : Column → ℤ → Type 0
 InColumn gap z = z ≡ absent
 InColumn (plain w) z = (n : ℕ) × (z ≡ pos n) × (n < 2 ^ w)
@@ -115,6 +129,7 @@ values-range (c ∷ cs) l room =
     more (value-range c (take (widthOf c) l) (length-take-le (widthOf c) l (omega arith)))
     (values-range cs (drop (widthOf c) l) (rw length-drop (omega arith)))
 
+-- and the values behind them are in the ranges of the k-th line's columns
 pub row-range : (lines : List Line) (l : List Bool) (k : ℕ) (d : Line) → Threes lines → bodyWidth lines ≤ length l → k < length lines
     → InShape (getD lines k d .shape) (drop 3 (getD (rowsOf lines l) k []))
 unfolding bodyWidth rowsOf

@@ -1,30 +1,33 @@
 -- What was read, written again, is the very bits that were taken, over a table of sub types; so what can be written exactly is what can be read.
 -- Assumes nothing.
 use mathlib.Core.Path.{_≡_, refl, sym, ap, _∙_}
-use mathlib.Core.Bool.{Bool, true, false}
+use mathlib.Core.Bool.{Bool, true, and-eq-true-iff, false≢true}
 use mathlib.Core.List.{List, [], _∷_, _++_}
 use Prim.Native.Nat.{ℕ, zero, suc, _+_}
-use native.Mathlib.Nat.{zero-add, add-zero, suc-add}
+use native.Mathlib.Nat.{zero-add, add-zero}
 use native.Mathlib.Omega.{arith}
 use borrow.Author.Tests.{eqb-true}
 use lib.Dec.{eqb}
 use lib.IntN.{ℤ, pos}
 use lib.ListN.{length, take, drop, getD}
-use Rattle.bits.specs.BitLists.{spell}
+use lib.Seq.{length-take-le}
 use Rattle.bits.specs.Signed.{unsigned}
 use Rattle.format.specs.declared.Head.{Head}
 use Rattle.format.specs.declared.Refusal.{Refusal}
-use Rattle.format.specs.declared.Refusal.the-variants.{SubType, NoMask}
+use Rattle.format.specs.declared.Refusal.the-variants.{Number, SubType, NoMask}
 use Rattle.format.specs.Good.{good}
-use Rattle.format.specs.Masks.{Mask, Held, nothing, mask, satellites, cells}
-use Rattle.format.specs.Messages.{Content, Common, common, headOf, orbitShape, clockShape, codeShape, phaseShape, Adopted, maskMessage}
-use Rattle.format.specs.Programs.{Program, done, refuse, _>>=_, well, run}
-use Rattle.format.specs.Rows.{Line}
+use Rattle.format.specs.Masks.{Mask, Held, nothing, mask, Cell, satellites, cells}
+use Rattle.format.specs.Messages.{Content, Common, common, headOf, orbitShape, clockShape, codeShape, phaseShape, cellLines, Adopted, maskMessage}
+use Rattle.format.specs.Programs.{Program, refuse, _>>=_, _>>_, numbered, require, Ended, well, badly, later, run}
+use Rattle.format.specs.Rows.{Column, Line}
+use Rattle.format.specs.Same.{sameList, sameℤ, sameHead}
 use Rattle.format.specs.Spelling.{put, putCommon, putMask}
 use Rattle.format.specs.Table.{Message, Kind, other, free, masked, adopts, alone, orbitLines, clockLines, codeLines, phaseLines, kinds, table, gate, byKind, messageBy, message, kindOf, spellKind, spelledBy, spelled}
-use Rattle.format.proofs.Bodies.{Threes}
-use Rattle.format.proofs.Runs.{both, required}
-use Rattle.format.proofs.Spells.{one-after, numbered-spelled, common-spelled, satellite-threes, cell-threes, alone-spelled, packet-spelled, combined-spelled}
+use Rattle.format.specs.Writing.{endedWith, exact}
+use Rattle.format.proofs.Bodies.{Threes, all-map}
+use Rattle.format.proofs.Runs.{taken-le, run-bind, both, run-append, run-take, required}
+use Rattle.format.proofs.Sames.{sameList-sound, sameList-refl, sameℤ-sound, sameℤ-refl, sameHead-sound, sameHead-refl, sameHeld-sound, sameHeld-refl, eqb-refl}
+use Rattle.format.proofs.Spells.{one-after, numbered-spelled, common-spelled, making, satellite-threes, alone-spelled, packet-spelled, combined-spelled}
 
 -- What a kind promises at a sub type n: what its program reads is of that sub type, and its spelling of that is the bits taken.
 -- Where a common head stands before, the head read keeps its columns.
@@ -38,22 +41,6 @@ Lawful n (masked p q) =
 Lawful n (adopts p q) =
     (l : List Bool) (d : Adopted) (taken : ℕ) → run p l ≡ well d taken → (d .head .subtype ≡ pos n) × (q (d .made) (d .head) ≡ take taken l)
 
--- ---- a program, and what is made of its value
-
-record Made {A B : Type 0} (p : Program A) (make : A → B) (l : List Bool) (b : B) (taken : ℕ) : Type 0 where
-  value : A
-  goes : run p l ≡ well value taken
-  made : make value ≡ b
-
-making : {A B : Type 0} (p : Program A) (make : A → B) (l : List Bool) (b : B) (taken : ℕ) → run (p >>= (λ a. done (make a))) l ≡ well b taken
-    → Made p make l b taken
-unfolding run
-making p make l b taken e =
-    let s = both p (λ a. done (make a)) l b taken e in
-    let none : 0 ≡ s .rest = cc (s .second) in
-    let all : s .used ≡ taken = omega (arith, s .sum) in
-    record { value = s .value; goes = rw all at (s .first); made = cc (s .second) }
-
 -- ---- by kind
 
 refused : {A : Type 0} (r : Refusal) (l : List Bool) (a : A) (taken : ℕ) → run (refuse r) l ≡ well a taken → ⊥
@@ -62,6 +49,7 @@ refused r l a taken e =
     let z : _≡_ {A = ℕ} 0 1 = cc in
     omega arith
 
+-- what was read behind the sub type
 kind-spelled : (n : ℕ) (k : Kind) → Lawful n k → (held : Held) → good held ≡ true → (l : List Bool) (m : Message) (taken : ℕ)
     → run (byKind k held) l ≡ well m taken
     → (m .content .head .subtype ≡ pos n) × (spellKind k (m .after) (m .content .head) (m .content .rows) ≡ take taken l)
@@ -91,6 +79,7 @@ kind-spelled n (adopts p q) law held fine l m taken e =
 
 -- ---- by a table
 
+-- what was read, written again under the holding that it left, is the bits that were taken
 pub read-spelled : (t : ℕ → Kind) → ((n : ℕ) → Lawful n (t n)) → (held : Held) → good held ≡ true → (l : List Bool) (m : Message) (taken : ℕ)
     → run (messageBy t held) l ≡ well m taken → spelledBy t (m .after) (m .content .head) (m .content .rows) ≡ take taken l
 unfolding messageBy spelledBy kindOf put unsigned
@@ -104,7 +93,73 @@ read-spelled t law held fine l m taken e =
     let back : after (m .content .head .subtype) ≡ take (number .rest) (drop 12 l) = ap after (k .0) ∙ n .spells _ (k .1) in
     ap (λ (x : ℕ). put 12 (pos x) ++ after (m .content .head .subtype)) (sym ours) ∙ number .spells (after (m .content .head .subtype)) back
 
+-- ---- reading leaves a holding under which the same bits read the same again
+
+-- the second of two programs may be another that ends just so
+in-place : {A B : Type 0} (p : Program A) (k k' : A → Program B) (l : List Bool) (b : B) (taken : ℕ) → run (p >>= k) l ≡ well b taken
+    → ((a : A) (l' : List Bool) (rest : ℕ) → run (k a) l' ≡ well b rest → run (k' a) l' ≡ well b rest) → run (p >>= k') l ≡ well b taken
+unfolding later
+in-place p k k' l b taken e f =
+    let s = both p k l b taken e in
+    run-bind p k' l (s .value) (s .used) (s .first) ∙ ap (later (s .used)) (f (s .value) (drop (s .used) l) (s .rest) (s .second)) ∙ ap (well b) (sym (s .sum))
+
+-- what is held after is what was held before, or what was held before was not asked for
+kind-again : (k : Kind) (held : Held) (l : List Bool) (m : Message) (taken : ℕ) → run (byKind k held) l ≡ well m taken → run (byKind k (m .after)) l ≡ well m taken
+unfolding byKind
+kind-again other held l m taken e = e
+kind-again (free p q) held l m taken e =
+    let r = making p _ l m taken e in
+    let same : held ≡ m .after = ap (λ (n : Message). n .after) (r .made) in
+    rw same at e
+kind-again (masked p q) held l m taken e =
+    let s = both (common 12) _ l m taken e in
+    let r = making (gate held (s .value .iod) (λ n. p n (s .value))) _ (drop (s .used) l) m (s .rest) (s .second) in
+    let same : held ≡ m .after = ap (λ (n : Message). n .after) (r .made) in
+    rw same at e
+kind-again (adopts p q) held l m taken e = e
+
+pub read-again : (t : ℕ → Kind) (held : Held) (l : List Bool) (m : Message) (taken : ℕ) → run (messageBy t held) l ≡ well m taken
+    → run (messageBy t (m .after)) l ≡ well m taken
+unfolding messageBy _>>_
+read-again t held l m taken e =
+    in-place (numbered 12) _ _ l m taken e
+    (λ number l rest e. in-place (require (eqb number 4073) Number) _ _ l m rest e
+    (λ _ l rest e. in-place (numbered 4) _ _ l m rest e (λ n l rest e. kind-again (t n) held l m rest e)))
+
+-- ---- writing
+
+-- to have ended with a message, as the writer tests it
+ended-sound : (m : Message) (bits : ℕ) (e : Ended Message) → endedWith m bits e ≡ true → e ≡ well m bits
+unfolding endedWith
+ended-sound m bits (badly r missing) h = absurd (false≢true h)
+ended-sound m bits (well n taken) h =
+    let size = and-eq-true-iff (eqb taken bits) _ .0 h in
+    let head = and-eq-true-iff (sameHead (n .content .head) (m .content .head)) _ .0 (size .1) in
+    let rows = and-eq-true-iff (sameList (sameList sameℤ) (n .content .rows) (m .content .rows)) _ .0 (head .1) in
+    let heads = sameHead-sound (n .content .head) (m .content .head) (head .0) in
+    let all = sameList-sound (sameList sameℤ) (sameList-sound sameℤ sameℤ-sound) (n .content .rows) (m .content .rows) (rows .0) in
+    let holdings = sameHeld-sound (n .after) (m .after) (rows .1) in
+    λ i. well (record { content = record { head = heads i; rows = all i }; after = holdings i }) (eqb-true taken bits (size .0) i)
+
+ended-refl : (m : Message) (bits : ℕ) → endedWith m bits (well m bits) ≡ true
+unfolding endedWith
+ended-refl m bits =
+    rw (eqb-refl bits, sameHead-refl (m .content .head), sameList-refl (sameList sameℤ) (sameList-refl sameℤ sameℤ-refl) (m .content .rows)) (sameHeld-refl (m .after))
+
+-- what is written exactly reads back, whatever stands behind it
+pub exact-reads : (held : Held) (h : Head) (rows : List (List ℤ)) → exact held h rows ≡ true → (more : List Bool)
+    → run (message held) (spelled held h rows ++ more) ≡ well (record { content = record { head = h; rows = rows }; after = held }) (length (spelled held h rows))
+unfolding exact
+exact-reads held h rows e more =
+    let m : Message = record { content = record { head = h; rows = rows }; after = held } in
+    let bits : List Bool = spelled held h rows in
+    run-append (message held) bits more m (length bits) (ended-sound m (length bits) (run (message held) bits) e)
+
 -- ---- the table
+
+cell-threes : (shape : List Column) (cs : List Cell) → Threes (cellLines shape cs)
+unfolding cellLines
+cell-threes shape cs = all-map _ cs (λ c. refl)
 
 alone-lawful : (n : ℕ) (lines : Mask → List Line) → ((m : Mask) → Threes (lines m)) → Lawful n (alone n lines)
 unfolding Lawful alone headOf
@@ -140,3 +195,13 @@ module _ (mask-spelled : (l : List Bool) (d : Adopted) (taken : ℕ) → run mas
   pub table-lawful : (n : ℕ) → Lawful n (table n)
   unfolding table
   table-lawful n = rw zero-add at (laws-at kinds-lawful n)
+
+  -- what was read can be written exactly
+  pub read-exact : (held : Held) → good held ≡ true → (l : List Bool) (m : Message) (taken : ℕ) → run (message held) l ≡ well m taken
+      → exact (m .after) (m .content .head) (m .content .rows) ≡ true
+  unfolding exact message spelled
+  read-exact held fine l m taken e =
+      let bits = read-spelled table table-lawful held fine l m taken e in
+      let size : length (take taken l) ≡ taken = length-take-le taken l (taken-le (message held) l m taken e) in
+      let again = run-take (messageBy table (m .after)) l m taken (read-again table held l m taken e) in
+      rw (bits, again, size) (ended-refl m taken)

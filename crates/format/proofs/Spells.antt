@@ -3,36 +3,32 @@
 use mathlib.Core.Path.{_≡_, refl, sym, ap, ap₂, _∙_}
 use mathlib.Core.Bool.{Bool, true, false, cond, not, _&&_, and-eq-true-iff, false≢true}
 use mathlib.Core.List.{List, [], _∷_, _++_, append-nil, append-assoc, map, flatMap}
-use Prim.Native.Nat.{ℕ, zero, suc, _+_, _≤_, _<_}
+use Prim.Native.Nat.{ℕ, zero, suc, _+_, _<_}
 use native.Mathlib.Omega.{arith}
 use borrow.Author.Tests.{not-true, eqb-true, eqb-false}
 use lib.Dec.{eqb, ltb}
 use lib.IntN.{ℤ, pos}
-use lib.ListN.{length, take, drop, length-drop}
+use lib.ListN.{length, take, drop}
 use lib.Seq.{take-add, length-take-le}
 use Rattle.bits.specs.BitLists.{number, spell}
 use Rattle.bits.specs.Signed.{unsigned}
-use Rattle.format.specs.declared.Head.{Head}
 use Rattle.format.specs.Assigned.{known}
 use Rattle.format.specs.Good.{goodSystem, goodSystems, good}
-use Rattle.format.specs.Masks.{System, Mask, mask, Satellite, Cell, placesFrom, pick, satellitesOf, satellites}
-use Rattle.format.specs.Messages.{Content, Common, common, headOf, body, rowsAlone, packet, packetLines, satelliteLines, cellLines, combinedShape, Selected, selection, combined, named}
+use Rattle.format.specs.Masks.{System, Mask, mask, Satellite, placesFrom, pick, satellitesOf, satellites}
+use Rattle.format.specs.Messages.{Content, Common, common, headOf, body, rowsAlone, packet, packetLines, satelliteLines, combinedShape, Selected, selection, combined, named}
 use Rattle.format.specs.Programs.{Program, done, _>>=_, numbered, well, run}
 use Rattle.format.specs.Rows.{absent, Column, Line, shapeWidth, bodyWidth, rowsOf, spellRows}
 use Rattle.format.specs.Same.{sameℤ, sameList}
 use Rattle.format.specs.Spelling.{put, putCommon, putRows, marks, putSelection, chosenBy, putCombined, putPacket}
-use Rattle.format.proofs.Bodies.{body-read, field-spelled, All, none, more, Threes, rows-spelled, rows-count}
+use Rattle.format.proofs.Bodies.{body-read, field-spelled, All, none, more, all-map, all-weaken, all-append, Threes, rows-spelled, rows-count}
 use Rattle.format.proofs.Runs.{both, numbered-began, taking-began, required}
 use Rattle.format.proofs.Sames.{sameℤ-refl, sameList-refl}
 
 -- ---- bits spelled one after the other
 
+-- bits that are the first, and bits that are those behind them, are all that were taken
 pub one-after : (u rest taken : ℕ) (l x y : List Bool) → taken ≡ u + rest → x ≡ take u l → y ≡ take rest (drop u l) → x ++ y ≡ take taken l
 one-after u rest taken l x y sum front back = ap₂ _++_ front back ∙ sym (take-add u rest l) ∙ ap (λ (n : ℕ). take n l) (sym sum)
-
-pub put-field : (w : ℕ) (l : List Bool) → w ≤ length l → put w (pos (number (take w l))) ≡ take w l
-unfolding put unsigned
-put-field w l room = field-spelled w (take w l) (length-take-le w l room)
 
 -- a number was read, and then the rest: spelled behind it, the rest's bits are all bits taken
 pub record Numbered {B : Type 0} (w : ℕ) (k : ℕ → Program B) (l : List Bool) (b : B) (taken : ℕ) : Type 0 where
@@ -42,13 +38,14 @@ pub record Numbered {B : Type 0} (w : ℕ) (k : ℕ → Program B) (l : List Boo
   pub spells : (y : List Bool) → y ≡ take rest (drop w l) → put w (pos value) ++ y ≡ take taken l
 
 pub numbered-spelled : {B : Type 0} (w : ℕ) (k : ℕ → Program B) (l : List Bool) (b : B) (taken : ℕ) → run (numbered w >>= k) l ≡ well b taken → Numbered w k l b taken
+unfolding put unsigned
 numbered-spelled w k l b taken e =
     let f = numbered-began w k l b taken e in
     record {
       value = number (take w l);
       rest = f .rest;
       goes = f .goes;
-      spells = λ y back. one-after w (f .rest) taken l (put w (pos (number (take w l)))) y (f .sum) (put-field w l (f .room)) back;
+      spells = λ y back. one-after w (f .rest) taken l (spell w (number (take w l))) y (f .sum) (field-spelled w (take w l) (length-take-le w l (f .room))) back;
     }
 
 -- a program that ends at once takes no bits
@@ -71,39 +68,36 @@ common-spelled w l h taken e n a b c =
     let end = done-read _ h (drop 4 (drop 1 (drop 4 (drop w l)))) (iod .rest) (iod .goes) in
     rw (← (end .0)) (epoch .spells _ (interval .spells _ (indicator .spells _ (sym (append-nil _) ∙ iod .spells [] (end .1)))))
 
--- ---- a body, and what is made of its rows
+-- ---- a program, and what is made of its value
 
-pub record Rowed {B : Type 0} (lines : List Line) (make : List (List ℤ) → B) (l : List Bool) (b : B) (taken : ℕ) : Type 0 where
-  pub rows : List (List ℤ)
-  pub made : b ≡ make rows
-  pub read : rows ≡ rowsOf lines (take taken l)
-  pub spells : spellRows lines rows ≡ take taken l
+pub record Made {A B : Type 0} (p : Program A) (make : A → B) (l : List Bool) (b : B) (taken : ℕ) : Type 0 where
+  pub value : A
+  pub goes : run p l ≡ well value taken
+  pub made : make value ≡ b
 
-pub body-spelled : {B : Type 0} (lines : List Line) → Threes lines → (make : List (List ℤ) → B) (l : List Bool) (b : B) (taken : ℕ)
-    → run (body lines >>= (λ rows. done (make rows))) l ≡ well b taken → Rowed lines make l b taken
+pub making : {A B : Type 0} (p : Program A) (make : A → B) (l : List Bool) (b : B) (taken : ℕ) → run (p >>= (λ a. done (make a))) l ≡ well b taken
+    → Made p make l b taken
 unfolding run
-body-spelled lines threes make l b taken e =
-    let s = both (body lines) (λ rows. done (make rows)) l b taken e in
-    let r = body-read lines l (s .value) (s .used) (s .first) in
+making p make l b taken e =
+    let s = both p (λ a. done (make a)) l b taken e in
     let end : 0 ≡ s .rest = cc (s .second) in
     let all : s .used ≡ taken = omega (arith, s .sum) in
-    let read : s .value ≡ rowsOf lines (take taken l) = rw all at (r .2) in
-    let size : length (take taken l) ≡ bodyWidth lines = length-take-le taken l (omega (arith, r .1)) ∙ sym all ∙ r .0 in
-    record { rows = s .value; made = cc (s .second); read = read; spells = rw read (rows-spelled lines (take taken l) threes size) }
+    record { value = s .value; goes = rw all at (s .first); made = cc (s .second) }
 
--- ---- the lines of satellites and of cells
+-- a body, and what is made of its rows
+record Rowed {B : Type 0} (lines : List Line) (make : List (List ℤ) → B) (l : List Bool) (b : B) (taken : ℕ) : Type 0 where
+  rows : List (List ℤ)
+  made : b ≡ make rows
+  read : rows ≡ rowsOf lines (take taken l)
+  spells : spellRows lines rows ≡ take taken l
 
-all-map : {A B : Type 0} {P : B → Type 0} (f : A → B) (xs : List A) → ((x : A) → P (f x)) → All P (map f xs)
-all-map f [] p = none
-all-map f (x ∷ xs) p = more (p x) (all-map f xs p)
-
-pub satellite-threes : (shape : ℕ → List Column) (sats : List Satellite) → Threes (satelliteLines shape sats)
-unfolding satelliteLines
-satellite-threes shape sats = all-map _ sats (λ s. refl)
-
-pub cell-threes : (shape : List Column) (cs : List Cell) → Threes (cellLines shape cs)
-unfolding cellLines
-cell-threes shape cs = all-map _ cs (λ c. refl)
+body-spelled : {B : Type 0} (lines : List Line) → Threes lines → (make : List (List ℤ) → B) (l : List Bool) (b : B) (taken : ℕ)
+    → run (body lines >>= (λ rows. done (make rows))) l ≡ well b taken → Rowed lines make l b taken
+body-spelled lines threes make l b taken e =
+    let m = making (body lines) make l b taken e in
+    let r = body-read lines l (m .value) taken (m .goes) in
+    let size : length (take taken l) ≡ bodyWidth lines = length-take-le taken l (r .1) ∙ r .0 in
+    record { rows = m .value; made = sym (m .made); read = r .2; spells = rw (r .2) (rows-spelled lines (take taken l) threes size) }
 
 -- ---- 2, 3, 4 and 5
 
@@ -116,6 +110,7 @@ alone-spelled n lines threes m h l c taken e =
 
 -- ---- 10
 
+-- a packet's lines: three keys each, and as many as counted
 packet-threes : (k n : ℕ) → Threes (packetLines k n)
 unfolding packetLines
 packet-threes k zero = none
@@ -142,20 +137,13 @@ packet-spelled l c taken e =
 
 -- ---- no two satellites of a good mask are the same
 
+-- not the same satellite
 abbrev pub Apart : Satellite → Satellite → Type 0
 Apart s t = s .system ≡ t .system → s .number ≡ t .number → ⊥
 
 pub data Distinct : List Satellite → Type 0 where
   nobody : Distinct []
   another : {s : Satellite} {ss : List Satellite} → All (Apart s) ss → Distinct ss → Distinct (s ∷ ss)
-
-all-weaken : {A : Type 0} {P Q : A → Type 0} {xs : List A} → ((x : A) → P x → Q x) → All P xs → All Q xs
-all-weaken f none = none
-all-weaken f (more p ps) = more (f _ p) (all-weaken f ps)
-
-all-append : {A : Type 0} {P : A → Type 0} {xs ys : List A} → All P xs → All P ys → All P (xs ++ ys)
-all-append none qs = qs
-all-append (more p ps) qs = more p (all-append ps qs)
 
 distinct-append : {xs ys : List Satellite} → Distinct xs → Distinct ys → All (λ x. All (Apart x) ys) xs → Distinct (xs ++ ys)
 distinct-append nobody ds across = ds
@@ -232,14 +220,18 @@ satellites-distinct m e = distinct-from [] (m .systems) (and-eq-true-iff (ltb (m
 
 -- ---- 11: which satellites were selected can be seen from the rows
 
-abbrev pub keyOf : Satellite → List ℤ
+abbrev keyOf : Satellite → List ℤ
 keyOf s = pos (s .system) ∷ pos (s .number) ∷ []
 
 -- rows that begin with the keys of satellites, one for each
-pub data Keyed : List Satellite → List (List ℤ) → Type 0 where
+data Keyed : List Satellite → List (List ℤ) → Type 0 where
   unkeyed : Keyed [] []
   keyed : {s : Satellite} {ss : List Satellite} {r : List ℤ} {rs : List (List ℤ)} → take 2 r ≡ keyOf s → Keyed ss rs
       → Keyed (s ∷ ss) (r ∷ rs)
+
+pub satellite-threes : (shape : ℕ → List Column) (sats : List Satellite) → Threes (satelliteLines shape sats)
+unfolding satelliteLines
+satellite-threes shape sats = all-map _ sats (λ s. refl)
 
 rows-keyed : (shape : ℕ → List Column) (sats : List Satellite) (l : List Bool) → Keyed sats (rowsOf (satelliteLines shape sats) l)
 unfolding satelliteLines rowsOf
@@ -269,6 +261,7 @@ other-key s r {ts = t ∷ ts} (more apart ps) (keyed e k) =
     rw e (not-both (eqb (t .system) (s .system)) (eqb (t .number) (s .number))
     (λ p q. apart (sym (eqb-true (t .system) (s .system) p)) (sym (eqb-true (t .number) (s .number) q))))
 
+-- so the rows of those selected show the selection
 marks-pick : (sats : List Satellite) (bits : List Bool) (rows : List (List ℤ)) → Distinct sats → length bits ≡ length sats → Keyed (pick bits sats) rows
     → marks sats rows ≡ bits
 unfolding marks pick
@@ -281,7 +274,7 @@ marks-pick (s ∷ ss) (false ∷ bits) [] (another a d) size k = ap (λ (l : Lis
 marks-pick (s ∷ ss) (false ∷ bits) (r ∷ rows) (another a d) size k =
     rw (other-key s r (all-pick bits ss a) k) (ap (λ (l : List Bool). false ∷ l) (marks-pick ss bits (r ∷ rows) d (omega arith) k))
 
--- the flag, and a network with its selection if it is set
+-- the flag, and a network with its selection if it is set: spelled from the rows, and found again
 selected : (sats : List Satellite) → Distinct sats → (b : List Bool) → length b ≡ 1 → (l : List Bool) (s : Selected) (used : ℕ)
     → run (selection sats (number b)) l ≡ well s used → (rows : List (List ℤ)) → Keyed (s .chosen) rows
     → (putSelection sats (s .network) rows ≡ b ++ take used l) × (chosenBy sats (s .network) rows ≡ s .chosen)
@@ -304,7 +297,7 @@ selected sats d (true ∷ []) size l s used e rows k =
     sym (append-nil (marks sats rows)) ∙ one-after (length sats) (bits .rest) (network .rest) at (marks sats rows) [] (bits .sum) same (end .1) in
     rw (← (end .0)) (ap (λ (x : List Bool). true ∷ x) (network .spells (marks sats rows) back), ap (λ (x : List Bool). pick x sats) same)
 
--- the same with what was read behind it
+-- the same, with what was read behind it
 record Chosen {B : Type 0} (sats : List Satellite) (k : Selected → Program B) (l : List Bool) (b : B) (taken : ℕ) : Type 0 where
   value : Selected
   from : List Bool
@@ -347,4 +340,4 @@ combined-spelled m fine h l c taken e =
     let rows : List Bool = spellRows (satelliteLines shape (chosenBy (satellites (m .systems)) (s .value .network) (b .rows))) (b .rows) in
     let end : rows ≡ take (s .rest) (s .from) = rw (s .again (b .rows) keys) (b .spells) in
     let back : List Bool = putSelection (satellites (m .systems)) (s .value .network) (b .rows) ++ rows in
-    rw (b .made) (refl, orbit .spells _ (clock .spells back (s .spells (b .rows) rows keys end)))
+    rw (b .made) (refl, orbit .spells (put 1 (pos (clock .value)) ++ back) (clock .spells back (s .spells (b .rows) rows keys end)))
