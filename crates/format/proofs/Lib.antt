@@ -1,4 +1,5 @@
 pub mod Runs
+pub mod Tables
 pub mod Cases
 pub mod Stops
 pub mod Openings
@@ -10,3 +11,4 @@ pub mod MakesBack
 pub mod Bodies
 pub mod Spells
 pub mod RoundTrips
+pub mod Lengths

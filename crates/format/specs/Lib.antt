@@ -12,3 +12,4 @@ pub mod Reading
 pub mod Walking
 pub mod Writing
 pub mod Saved
+pub mod Lengths
