@@ -2,7 +2,7 @@
 -- Assumes nothing.
 use mathlib.Core.Path.{_≡_, refl, sym, ap, ap₂, _∙_}
 use mathlib.Core.Bool.{Bool}
-use mathlib.Core.List.{List, [], _∷_, _++_, map}
+use mathlib.Core.List.{List, [], _∷_, _++_, append-nil, map}
 use Prim.Native.Nat.{ℕ, zero, suc, _*_, _^_, _≤_, _<_}
 use native.Mathlib.Nat.{le-of-suc-le-suc}
 use native.Mathlib.Omega.{arith}
@@ -11,36 +11,22 @@ use lib.ListN.{length, take, drop, getD, length-drop}
 use lib.Pow.{pow-mono}
 use lib.Seq.{take-add, take-at, drop-at, take-all, length-take-le}
 use lib.Signed.{mag}
-use Rattle.bits.proofs.BitLists.{spell-number, number-lt}
 use Rattle.bits.proofs.Complement.{unsigned-signed, signed-range}
 use Rattle.bits.specs.BitLists.{number, spell}
 use Rattle.bits.specs.Signed.{unsigned}
 use Rattle.format.specs.Messages.{body}
-use Rattle.format.specs.Programs.{done, well, run}
+use Rattle.format.specs.Programs.{done, _>>=_, taking}
 use Rattle.format.specs.Rows.{absent, Column, gap, plain, counts, Line, widthOf, valueOf, shapeWidth, valuesOf, bodyWidth, rowsOf, spellValues, spellRows}
-use Rattle.format.proofs.Runs.{began}
+use Rattle.format.proofs.Steps.{field-spelled, field-lt, Gives, gives-done, gives-taking}
 
 -- ---- what is read
 
 -- all of the body's bits, and the rows that they make
-pub body-read : (lines : List Line) (l : List Bool) (rows : List (List ℤ)) (taken : ℕ) → run (body lines) l ≡ well rows taken
-    → (taken ≡ bodyWidth lines) × (taken ≤ length l) × (rows ≡ rowsOf lines (take taken l))
-unfolding body run
-body-read lines l rows taken e =
-    let b = began (bodyWidth lines) (λ b. done (rowsOf lines b)) l rows taken e in
-    let none : 0 ≡ b .rest = cc (b .goes) in
-    let made : rowsOf lines (take (bodyWidth lines) l) ≡ rows = cc (b .goes) in
-    let all : taken ≡ bodyWidth lines = omega (arith, b .sum) in
-    (all, omega (arith, b .room), sym made ∙ ap (λ (n : ℕ). rowsOf lines (take n l)) (sym all))
+pub body-gives : (lines : List Line) → Gives (body lines) (λ rows b. (length b ≡ bodyWidth lines) × (rows ≡ rowsOf lines b))
+unfolding body taking _>>=_
+body-gives lines = gives-taking (bodyWidth lines) (λ b. done (rowsOf lines b)) λ b whole. gives-done (rw append-nil (whole, refl))
 
 -- ---- the bits of what was read
-
--- what a field of w bits says, spelled in w bits, is the field
-pub field-spelled : (w : ℕ) (b : List Bool) → length b ≡ w → spell w (number b) ≡ b
-field-spelled w b e = rw e at (spell-number b)
-
-pub field-lt : (w : ℕ) (b : List Bool) → length b ≡ w → number b < 2 ^ w
-field-lt w b e = rw e at (number-lt b)
 
 -- what a column's bits mean, spelled in its width, is the bits
 column-spelled : (c : Column) (b : List Bool) → length b ≡ widthOf c → spell (widthOf c) (unsigned (widthOf c) (valueOf c b)) ≡ b

@@ -2,37 +2,32 @@
 use mathlib.Core.Path.{_≡_, refl, sym, ap, ap₂, _∙_}
 use mathlib.Core.Bool.{Bool, true, false, cond}
 use mathlib.Core.List.{List, [], _∷_, _++_, append-nil}
-use Prim.Native.Nat.{ℕ, zero, suc, _+_, _*_, _^_, _<_}
+use Prim.Native.Nat.{ℕ, zero, suc, _+_, _*_}
 use native.Mathlib.Nat.{zero-add, add-comm, add-assoc, mul-zero, mul-suc}
 use native.Mathlib.Omega.{arith}
 use lib.Dec.{eqb}
 use lib.IntN.{ℤ, pos, natAbs}
 use lib.ListN.{length, getD, drop, length-append}
-use lib.Seq.{length-take-le}
 use Rattle.bits.proofs.BitLists.{length-spell}
 use Rattle.format.specs.declared.Head.{Head}
-use Rattle.format.specs.declared.Refusal.{Refusal}
-use Rattle.format.specs.declared.Refusal.the-variants.{Number, SubType, NoMask, OtherIssue}
+use Rattle.format.specs.declared.Refusal.the-variants.{SubType, OtherIssue}
 use Rattle.format.specs.Lengths.{total, orbitBits, combinedBits, lengths, maskOr, lengthOf}
 use Rattle.format.specs.Masks.{System, Mask, Held, nothing, mask, Satellite, Cell, satellites, cells}
-use Rattle.format.specs.Messages.{Content, Common, common, headOf, body, satelliteLines, cellLines, iodeWidth, orbitShape, clockShape, codeShape, phaseShape, combinedShape, packetShape, packetLines, packet, rowsAlone, combined, selection, system, systems, maskMessage}
-use Rattle.format.specs.Programs.{Program, done, refuse, field, _>>=_, _>>_, numbered, taking, require, run, well}
+use Rattle.format.specs.Messages.{Content, Common, common, headOf, satelliteLines, cellLines, iodeWidth, orbitShape, clockShape, codeShape, phaseShape, combinedShape, packetShape, packetLines, packet, rowsAlone, combined, selection, system, systems, maskMessage}
+use Rattle.format.specs.Programs.{Program}
 use Rattle.format.specs.Rows.{Line, Column, gap, plain, counts, absent, bodyWidth, shapeWidth, widthOf, rowsOf}
 use Rattle.format.specs.Same.{sameℤ}
-use Rattle.format.specs.Spelling.{putRows, putCombined, putPacket, putMask}
-use Rattle.format.specs.Table.{Kind, other, free, masked, adopts, message, messageBy, byKind, gate, kinds, alone, orbitLines, clockLines, codeLines, phaseLines}
-use Rattle.format.proofs.Bodies.{body-read}
-use Rattle.format.proofs.Tables.{Each, end, then, in-table}
-use Rattle.format.proofs.Steps.{Gives, gives-done, gives-require, gives-taking, gives-numbered, gives-bind, gives-so}
+use Rattle.format.specs.Spelling.{put, putCommon, putRows, putCombined, putPacket, putMask}
+use Rattle.format.specs.Table.{Kind, other, free, masked, adopts, table, message, byKind, gate, kinds, alone, orbitLines, clockLines, codeLines, phaseLines}
+use Rattle.format.proofs.Bodies.{body-gives}
+use Rattle.format.proofs.Makes.{common-gives}
+use Rattle.format.proofs.Tables.{Each, end, then, in-table, gives-message, masked-nothing}
+use Rattle.format.proofs.Steps.{Gives, gives-done, gives-refuse, gives-require, gives-taking, gives-numbered, gives-bind, gives-so}
 
+-- a common head
 common-long : (w : ℕ) → Gives (common w) (λ h b. length b ≡ w + 9)
-unfolding common
-common-long w =
-    gives-numbered _ _ λ epoch _.
-    gives-numbered _ _ λ interval _.
-    gives-numbered _ _ λ indicator _.
-    gives-numbered _ _ λ iod _.
-    gives-done (simp (length-append, length-spell) (omega arith))
+unfolding putCommon put
+common-long w = gives-so (common-gives w) λ h b it. rw (← (it .1 0 absent absent absent)) (simp (length-append, length-spell) (omega arith))
 
 -- ---- bodies
 
@@ -86,23 +81,11 @@ unfolding bodyWidth packetLines packetShape shapeWidth widthOf
 packet-width k zero = refl
 packet-width k (suc n) = ap (λ (w : ℕ). 40 + w) (packet-width (suc k) n) ∙ omega arith
 
--- a body took its width, and its rows are those of the bits taken
-pub body-long : (lines : List Line) → Gives (body lines) (λ rows b. (length b ≡ bodyWidth lines) × (rows ≡ rowsOf lines b))
-body-long lines = record {
-  gives = λ l rows taken e.
-      let h = body-read lines l rows taken e in
-      (length-take-le taken l (h .1) ∙ h .0, h .2);
-}
-
 -- ---- what follows the sub type
-
-gives-refuse : {A : Type 0} {P : A → List Bool → Type 0} (r : Refusal) → Gives (refuse r) P
-unfolding run
-gives-refuse r = record { gives = λ l a taken e. absurd (let z : _≡_ {A = ℕ} 0 1 = cc in omega arith) }
 
 alone-long : (n : ℕ) (lines : Mask → List Line) (m : Mask) (h : Common) → Gives (rowsAlone n lines m h) (λ c b. (c .head .subtype ≡ pos n) × (length b ≡ bodyWidth (lines m)))
 unfolding rowsAlone headOf
-alone-long n lines m h = gives-bind (body-long (lines m)) λ rows b q. gives-done (refl, rw append-nil (q .0))
+alone-long n lines m h = gives-bind (body-gives (lines m)) λ rows b q. gives-done (refl, rw append-nil (q .0))
 
 packet-long : Gives packet (λ c b. (c .head .subtype ≡ pos 10) × (length b ≡ 6 + 40 * suc (natAbs (c .head .b))))
 unfolding packet
@@ -110,7 +93,7 @@ packet-long =
     gives-numbered _ _ λ indicator _.
     gives-numbered _ _ λ counter _.
     gives-numbered _ _ λ size _.
-    gives-bind (body-long (packetLines 1 (suc size))) λ rows b q.
+    gives-bind (body-gives (packetLines 1 (suc size))) λ rows b q.
     gives-done (refl, simp (length-append, length-spell) (omega (arith, q .0, packet-width 1 (suc size))))
 
 -- the width of a combined row, by the flags
@@ -157,7 +140,7 @@ combined-long m h =
     gives-numbered _ _ λ clock _.
     gives-numbered _ _ λ flag _.
     gives-bind (selection-long (satellites (m .systems)) flag) λ s b long.
-    gives-bind (body-long (satelliteLines (combinedShape (eqb orbit 1) (eqb clock 1)) (s .chosen))) λ rows r q.
+    gives-bind (body-gives (satelliteLines (combinedShape (eqb orbit 1) (eqb clock 1)) (s .chosen))) λ rows r q.
     gives-done (
       refl,
       simp (length-append, length-spell)
@@ -218,7 +201,7 @@ masked-long :
     → ((m : Mask) (h : Common) → Gives (p m h) (λ c b. (c .head .subtype ≡ pos n) × (37 + length b ≡ lengthOf (mask m) c)))
     → LongAt n (masked p q)
 unfolding byKind gate
-masked-long n p q law nothing = gives-bind (common-long 12) λ h b long. gives-bind {Q = λ c r. ⊥} (gives-refuse NoMask) λ c r none. absurd none
+masked-long n p q law nothing = masked-nothing p q
 masked-long n p q law (mask m) =
     gives-bind (common-long 12) λ h b long.
     gives-bind (gives-require (eqb (h .iod) (m .iod)) OtherIssue (p m h) λ _. law m h) λ c r it.
@@ -260,9 +243,6 @@ kinds-long =
 
 -- the bits taken are the sum that head and masks fix
 pub message-long : (held : Held) → Gives (message held) (λ m b. length b ≡ lengthOf (m .after) (m .content))
-unfolding message messageBy
+unfolding message
 message-long held =
-    gives-numbered _ _ λ number _.
-    gives-require _ _ _ λ _.
-    gives-numbered _ _ λ n _.
-    gives-so (in-table kinds-long other-long n held) λ m b it. simp (length-append, length-spell) (omega (arith, it .1))
+    gives-message table held λ n _. gives-so (in-table kinds-long other-long n held) λ m b it. simp (length-append, length-spell) (omega (arith, it .1))

@@ -9,6 +9,8 @@ pub mod Steps
 pub mod Makes
 pub mod MakesBack
 pub mod Bodies
+pub mod Selections
 pub mod Spells
 pub mod RoundTrips
 pub mod Lengths
+pub mod HeldGood

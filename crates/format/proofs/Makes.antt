@@ -1,13 +1,12 @@
 -- What a mask message makes: a good mask, and one that spells the very bits that were taken.
 -- Assumes nothing.
 use mathlib.Core.Path.{_≡_, refl, sym, ap, ap₂, _∙_}
-use mathlib.Core.Bool.{Bool, true, false, cond, not, _&&_}
+use mathlib.Core.Bool.{true, cond, not}
 use mathlib.Core.List.{List, [], _∷_, _++_, append-nil, flatMap}
 use Prim.Native.Nat.{ℕ, zero, suc, _*_, _<_}
 use native.Mathlib.Omega.{arith}
 use lib.Dec.{eqb}
 use lib.IntN.{ℤ, pos}
-use lib.ListN.{take}
 use lib.Seq.{append-snoc}
 use borrow.Author.Tests.{lt-ltb, eq-eqb}
 use Rattle.bits.specs.BitLists.{spell}
@@ -15,20 +14,11 @@ use Rattle.bits.specs.Signed.{unsigned}
 use Rattle.format.specs.Assigned.{known}
 use Rattle.format.specs.Good.{goodSystem, goodSystems, good}
 use Rattle.format.specs.Masks.{System, mask}
-use Rattle.format.specs.Messages.{common, headOf, named, system, systems, Adopted, maskMessage}
-use Rattle.format.specs.Programs.{well, run}
+use Rattle.format.specs.Messages.{common, headOf, named, system, systems, maskMessage}
 use Rattle.format.specs.Rows.{absent}
 use Rattle.format.specs.Spelling.{put, putCommon, putSystem, putMask}
+use Rattle.format.proofs.Sames.{and-true, true-and}
 use Rattle.format.proofs.Steps.{Gives, gives-done, gives-require, gives-taking, gives-numbered, gives-bind, gives-so}
-
--- ---- tests
-
-pub and-true : (a b : Bool) → (a && b) ≡ true → (a ≡ true) × (b ≡ true)
-and-true true b e = (refl, e)
-and-true false b e = let z : _≡_ {A = ℕ} 0 1 = cc in absurd (omega arith)
-
-pub true-and : {a b : Bool} → a ≡ true → b ≡ true → (a && b) ≡ true
-true-and p q = rw (p, q)
 
 -- ---- the flag: its number, its bit, and how many bits the cell mask has
 
@@ -82,6 +72,8 @@ common-gives w =
     gives-numbered _ _ λ iod small.
     gives-done (small, λ subType a b c. rw (append-nil (spell 4 iod)))
 
+-- ---- a mask message
+
 message-gives : Gives maskMessage (λ d m. (good (mask (d .made)) ≡ true) × (d .head .subtype ≡ pos 1) × (putMask (d .made) (d .head) ≡ m))
 unfolding maskMessage good putMask put unsigned headOf
 message-gives =
@@ -94,15 +86,10 @@ message-gives =
       cc (head .1 1 (pos count) absent absent, rest .1, rest .3, append-nil back),
     )
 
--- ---- a mask message
+-- what it makes is good
+pub makes-good : Gives maskMessage (λ d m. good (mask (d .made)) ≡ true)
+makes-good = gives-so message-gives λ d m it. it .0
 
-module _ (l : List Bool) (d : Adopted) (taken : ℕ) (e : run maskMessage l ≡ well d taken) where
-  -- what it makes is good
-  pub makes-good : good (mask (d .made)) ≡ true
-  makes-good = message-gives .gives l d taken e .0
-
-  -- written again, it is the very bits that were taken
-  pub mask-spelled : (d .head .subtype ≡ pos 1) × (putMask (d .made) (d .head) ≡ take taken l)
-  mask-spelled =
-      let parts = message-gives .gives l d taken e in
-      (parts .1, parts .2)
+-- written again, it is the very bits that were taken
+pub mask-spelled : Gives maskMessage (λ d m. (d .head .subtype ≡ pos 1) × (putMask (d .made) (d .head) ≡ m))
+mask-spelled = gives-so message-gives λ d m it. (it .1, it .2)

@@ -22,7 +22,8 @@ use Rattle.format.specs.Programs.{Program, _>>=_, numbered, well, run}
 use Rattle.format.specs.Rows.{absent}
 use Rattle.format.specs.Spelling.{put, putCommon, putSystem, putMask}
 use Rattle.format.proofs.Steps.{Reads, reads-done, reads-require, reads-taking, reads-numbered, reads-bind, reads-end}
-use Rattle.format.proofs.Makes.{and-true, true-and, flag-width}
+use Rattle.format.proofs.Makes.{flag-width}
+use Rattle.format.proofs.Sames.{and-true, true-and}
 
 -- ---- a good system, test by test
 

@@ -2,12 +2,12 @@
 -- Assumes nothing.
 use mathlib.Core.Path.{_≡_, refl, sym, ap, _∙_}
 use mathlib.Core.Bool.{Bool, true, false}
-use mathlib.Core.List.{List, [], _∷_, _++_}
-use Prim.Native.Nat.{ℕ, zero, suc, _+_, _-_, _≤_, _<_}
+use mathlib.Core.List.{List, _++_}
+use Prim.Native.Nat.{ℕ, _+_, _-_, _≤_, _<_}
 use native.Mathlib.Nat.{zero-add, add-assoc, le-refl, suc-pred-eq-of-pos}
 use native.Mathlib.Decide.{decLt}
 use native.Mathlib.Omega.{arith}
-use lib.ListN.{length, take, drop, length-append, length-drop, length-take}
+use lib.ListN.{length, take, drop, length-append, length-drop}
 use lib.Seq.{drop-drop, drop-at, take-add, take-append-le, take-take, length-take-le}
 use Rattle.bits.specs.BitLists.{number}
 use Rattle.format.specs.declared.Refusal.{Refusal}
@@ -205,7 +205,3 @@ required false r p l b taken e = absurd (not-well r 0 b taken e)
 pub require-true : {B : Type 0} (test : Bool) (r : Refusal) (p : Program B) → test ≡ true → (require test r >> p) ≡ p
 unfolding require _>>_ _>>=_
 require-true test r p e = rw e
-
-pub require-false : {B : Type 0} (test : Bool) (r : Refusal) (p : Program B) → test ≡ false → (require test r >> p) ≡ refuse r
-unfolding require _>>_ _>>=_
-require-false test r p e = rw e

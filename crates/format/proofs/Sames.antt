@@ -11,6 +11,14 @@ use Rattle.format.specs.declared.Head.{Head}
 use Rattle.format.specs.Masks.{System, Held, nothing, mask}
 use Rattle.format.specs.Same.{sameList, sameℤ, sameHead, sameSystem, sameHeld}
 
+-- ---- two tests at once
+
+pub and-true : (a b : Bool) → (a && b) ≡ true → (a ≡ true) × (b ≡ true)
+and-true a b = and-eq-true-iff a b .0
+
+pub true-and : {a b : Bool} → a ≡ true → b ≡ true → (a && b) ≡ true
+true-and p q = rw (p, q)
+
 -- ---- lists, by a test of their elements
 
 module _ {A : Type 0} (same : A → A → Bool) where
@@ -20,7 +28,7 @@ module _ {A : Type 0} (same : A → A → Bool) where
   sameList-sound sound [] (y ∷ ys) e = absurd (false≢true e)
   sameList-sound sound (x ∷ xs) [] e = absurd (false≢true e)
   sameList-sound sound (x ∷ xs) (y ∷ ys) e =
-      let h = and-eq-true-iff (same x y) (sameList same xs ys) .0 e in
+      let h = and-true (same x y) (sameList same xs ys) e in
       ap₂ _∷_ (sound x y (h .0)) (sameList-sound sound xs ys (h .1))
 
   pub sameList-refl : ((x : A) → same x x ≡ true) → (xs : List A) → sameList same xs xs ≡ true
@@ -66,7 +74,7 @@ sameℤ-refl (negsuc n) = eqb-refl n
 -- the same number, and what comes after it holds
 numbers-same : (m n : ℤ) (rest : Bool) → (sameℤ m n && rest) ≡ true → (m ≡ n) × (rest ≡ true)
 numbers-same m n rest e =
-    let h = and-eq-true-iff (sameℤ m n) rest .0 e in
+    let h = and-true (sameℤ m n) rest e in
     (sameℤ-sound m n (h .0), h .1)
 
 pub sameHead-sound : (g h : Head) → sameHead g h ≡ true → g ≡ h
@@ -89,10 +97,10 @@ sameHead-refl h = simp sameℤ-refl
 pub sameSystem-sound : (r s : System) → sameSystem r s ≡ true → r ≡ s
 unfolding sameSystem
 sameSystem-sound r s e =
-    let id = and-eq-true-iff (eqb (r .id) (s .id)) _ .0 e in
-    let satellites = and-eq-true-iff (sameList Bool·beq (r .satellites) (s .satellites)) _ .0 (id .1) in
-    let signals = and-eq-true-iff (sameList Bool·beq (r .signals) (s .signals)) _ .0 (satellites .1) in
-    let flag = and-eq-true-iff (Bool·beq (r .flag) (s .flag)) _ .0 (signals .1) in
+    let id = and-true (eqb (r .id) (s .id)) _ e in
+    let satellites = and-true (sameList Bool·beq (r .satellites) (s .satellites)) _ (id .1) in
+    let signals = and-true (sameList Bool·beq (r .signals) (s .signals)) _ (satellites .1) in
+    let flag = and-true (Bool·beq (r .flag) (s .flag)) _ (signals .1) in
     λ i. record {
       id = eqb-true (r .id) (s .id) (id .0) i;
       satellites = sameBits-sound (r .satellites) (s .satellites) (satellites .0) i;
@@ -111,7 +119,7 @@ sameHeld-sound nothing nothing e = refl
 sameHeld-sound nothing (mask n) e = absurd (false≢true e)
 sameHeld-sound (mask m) nothing e = absurd (false≢true e)
 sameHeld-sound (mask m) (mask n) e =
-    let iod = and-eq-true-iff (eqb (m .iod) (n .iod)) _ .0 e in
+    let iod = and-true (eqb (m .iod) (n .iod)) _ e in
     let systems = sameList-sound sameSystem sameSystem-sound (m .systems) (n .systems) (iod .1) in
     λ i. mask (record { iod = eqb-true (m .iod) (n .iod) (iod .0) i; systems = systems i })
 

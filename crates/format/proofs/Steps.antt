@@ -11,8 +11,17 @@ use lib.Seq.{take-add, take-at, drop-at, drop-append-seam, length-take-le}
 use Rattle.bits.specs.BitLists.{number, spell}
 use Rattle.bits.proofs.BitLists.{number-lt, number-spell, spell-number, length-spell}
 use Rattle.format.specs.declared.Refusal.{Refusal}
-use Rattle.format.specs.Programs.{Program, done, field, _>>=_, _>>_, taking, numbered, require, well, later, run}
-use Rattle.format.proofs.Runs.{run-field, run-bind, run-append, both, numbered-began, taking-began, required, require-true}
+use Rattle.format.specs.Programs.{Program, done, refuse, field, _>>=_, _>>_, taking, numbered, require, well, later, run}
+use Rattle.format.proofs.Runs.{run-field, run-bind, run-append, run-take, taken-le, both, numbered-began, taking-began, required, require-true}
+
+-- ---- the bits of a field
+
+-- what a field of w bits says, spelled in w bits, is the field
+pub field-spelled : (w : ℕ) (b : List Bool) → length b ≡ w → spell w (number b) ≡ b
+field-spelled w b e = rw e at (spell-number b)
+
+pub field-lt : (w : ℕ) (b : List Bool) → length b ≡ w → number b < 2 ^ w
+field-lt w b e = rw e at (number-lt b)
 
 -- ---- whatever bits
 
@@ -34,6 +43,10 @@ module _ {A : Type 0} {P : A → List Bool → Type 0} where
         rw (← same, ← none) h;
   }
 
+  pub gives-refuse : (r : Refusal) → Gives (refuse r) P
+  unfolding run
+  gives-refuse r = record { gives = λ l a taken e. absurd (let z : _≡_ {A = ℕ} 0 1 = cc in omega arith) }
+
   pub gives-require : (test : Bool) (r : Refusal) (p : Program A) → (test ≡ true → Gives p P) → Gives (require test r >> p) P
   gives-require test r p h = record {
     gives = λ l a taken e.
@@ -53,9 +66,8 @@ module _ {A : Type 0} {P : A → List Bool → Type 0} where
     gives = λ l a taken e.
         let b = numbered-began w k l a taken e in
         let whole : length (take w l) ≡ w = length-take-le w l (b .room) in
-        let small : number (take w l) < 2 ^ w = rw whole at (number-lt (take w l)) in
-        let again : spell w (number (take w l)) ≡ take w l = rw whole at (spell-number (take w l)) in
-        rw (cut w l taken (b .rest) (b .sum), ← again) (h (number (take w l)) small .gives (drop w l) a (b .rest) (b .goes));
+        rw (cut w l taken (b .rest) (b .sum), ← (field-spelled w (take w l) whole))
+        (h (number (take w l)) (field-lt w (take w l) whole) .gives (drop w l) a (b .rest) (b .goes));
   }
 
   pub gives-bind : {B : Type 0} {Q : B → List Bool → Type 0} {p : Program B} {k : B → Program A} → Gives p Q
@@ -70,6 +82,10 @@ module _ {A : Type 0} {P : A → List Bool → Type 0} where
   -- what follows from it holds too
   pub gives-so : {Q : A → List Bool → Type 0} {p : Program A} → Gives p Q → ((a : A) (m : List Bool) → Q a m → P a m) → Gives p P
   gives-so g h = record { gives = λ l a taken e. h a (take taken l) (g .gives l a taken e) }
+
+-- both hold
+pub gives-both : {A : Type 0} {P Q : A → List Bool → Type 0} {p : Program A} → Gives p P → Gives p Q → Gives p (λ a m. P a m × Q a m)
+gives-both g h = record { gives = λ l a taken e. (g .gives l a taken e, h .gives l a taken e) }
 
 -- ---- these bits
 
@@ -113,3 +129,9 @@ module _ {A : Type 0} {a : A} where
   -- bits with none after them
   pub reads-end : {p : Program A} (l : List Bool) → Reads p (l ++ []) a → Reads p l a
   reads-end l h = rw append-nil at h
+
+-- the bits that a program took it reads alone to the same
+pub gives-itself : {A : Type 0} (p : Program A) → Gives p (λ a m. Reads p m a)
+gives-itself p = record {
+  gives = λ l a taken e. record { reads = run-take p l a taken e ∙ ap (well a) (sym (length-take-le taken l (taken-le p l a taken e))) };
+}

@@ -1,12 +1,13 @@
--- A stop changes nothing: neither the holding nor the row buffer. Assumes nothing.
+-- How a reading ends; and a stop changes nothing: neither the holding nor the row buffer. Assumes nothing.
 use mathlib.Core.Path.{_≡_, refl}
 use mathlib.Core.Bool.{Bool, true, false, cond}
 use mathlib.Core.List.{List}
-use Prim.Native.Nat.{ℕ}
+use Prim.Native.Nat.{ℕ, _+_}
 use lib.Dec.{leb}
 use lib.IntN.{ℤ}
 use lib.ListN.{length, take, drop}
 use Rattle.bits.specs.BitLists.{bits}
+use Rattle.format.specs.declared.Refusal.{Refusal}
 use Rattle.format.specs.declared.Refusal.the-variants.{Room, Place, Value}
 use Rattle.format.specs.Assigned.{blank}
 use Rattle.format.specs.Masks.{Held}
@@ -14,38 +15,47 @@ use Rattle.format.specs.Programs.{Ended, well, badly, run}
 use Rattle.format.specs.Reading.{rowRoom, Outcome, accepted, idle, refused, endedAt, readFrom, placed, reading, heldAfter, rowsAfter}
 use Rattle.format.specs.Table.{Message, message}
 
+-- ---- how a reading ends
+
+module _ (P : Outcome → Type 0) where
+  -- one of two outcomes
+  branch : (test : Bool) (a b : Outcome) → P a → P b → P (cond test a b)
+  branch true a b pa pb = pa
+  branch false a b pa pb = pb
+
+  module _ (held : Held) (stop : (r : Refusal) (missing : ℕ) → P (refused r missing held)) where
+    -- a program's end
+    ended : (place : ℕ) (e : Ended Message) → ((m : Message) (taken : ℕ) → e ≡ well m taken → P (accepted m (place + taken))) → P (endedAt held place e)
+    unfolding endedAt
+    ended place (well m taken) said = said m taken refl
+    ended place (badly r missing) said = stop r missing
+
+    -- what holds of stops that keep the holding, and of whatever message is read, holds of a reading
+    pub reading-ends :
+        (sound : Bool) (bytes : List ℕ) (end start : ℕ) (rows : List ℤ) → P (idle held)
+        → ((m : Message) (taken : ℕ) → run (message held) (drop start (take end (bits bytes))) ≡ well m taken → P (accepted m (start + taken)))
+        → P (reading sound held bytes end start rows)
+    unfolding reading readFrom
+    reading-ends sound bytes end start rows none said =
+        let l : List Bool = drop start (take end (bits bytes)) in
+        branch (leb rowRoom (length rows)) _ _
+        (branch (placed bytes end start) _ _ (branch sound _ _ (branch (blank l) _ _ none (ended start (run (message held) l) said)) (stop Value 0)) (stop Place 0))
+        (stop Room 0)
+
+-- ---- stops
+
 -- idle or a refusal
 abbrev pub Stopped : Outcome → Type 0
 Stopped (accepted m next) = ⊥
 Stopped (idle held) = Unit {0}
 Stopped (refused r missing held) = Unit {0}
 
--- what came in is what is held
-abbrev Keeps : Held → Outcome → Type 0
-Keeps held o = Stopped o → heldAfter o ≡ held
-
-branch : (held : Held) (test : Bool) (a b : Outcome) → Keeps held a → Keeps held b → Keeps held (cond test a b)
-branch held true a b ka kb = ka
-branch held false a b ka kb = kb
-
-ended-keeps : (held : Held) (place : ℕ) (e : Ended Message) → Keeps held (endedAt held place e)
-unfolding endedAt heldAfter
-ended-keeps held place (well m taken) stopped = absurd stopped
-ended-keeps held place (badly r missing) stopped = refl
-
 pub stop-holds :
     (sound : Bool) (held : Held) (bytes : List ℕ) (end start : ℕ) (rows : List ℤ) → Stopped (reading sound held bytes end start rows)
     → heldAfter (reading sound held bytes end start rows) ≡ held
-unfolding reading readFrom heldAfter
+unfolding heldAfter
 stop-holds sound held bytes end start rows =
-    let l : List Bool = drop start (take end (bits bytes)) in
-    branch held (leb rowRoom (length rows)) _ (refused Room 0 held)
-    (branch held (placed bytes end start) _ (refused Place 0 held)
-    (branch held sound _ (refused Value 0 held)
-    (branch held (blank l) (idle held) _ (λ _. refl) (ended-keeps held start (run (message held) l)))
-    (λ _. refl))
-    (λ _. refl))
-    (λ _. refl)
+    reading-ends (λ o. Stopped o → heldAfter o ≡ held) held (λ r missing _. refl) sound bytes end start rows (λ _. refl) (λ m taken e stopped. absurd stopped)
 
 pub stop-leaves : (o : Outcome) (rows : List ℤ) → Stopped o → rowsAfter o rows ≡ rows
 unfolding rowsAfter
