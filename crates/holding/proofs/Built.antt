@@ -1,0 +1,113 @@
+-- A holding built up step by step: what the steps on the struct make is the picture of a mask, first of no systems, then of one more each time.
+-- Assumes nothing.
+use mathlib.Core.Path.{_≡_, refl}
+use mathlib.Core.Bool.{Bool, true, false, cond}
+use mathlib.Core.List.{List, [], _∷_, _++_, append-assoc, append-nil, map, map-append, flatMap}
+use Prim.Native.Nat.{ℕ, suc, _+_, _-_, _<_}
+use native.Mathlib.Nat.{add-zero}
+use native.Mathlib.Omega.{arith}
+use lib.Count.{ones}
+use lib.ListN.{length, set, drop, replicate, length-append, length-map}
+use lib.Seq.{append-snoc, set-at}
+use Rattle.bits.specs.BitLists.{number}
+use Rattle.format.specs.Good.{goodSystem}
+use Rattle.format.specs.Masks.{System, Mask, mask, Satellite, placesFrom, satellitesOf, cellsOf, satellites, cells}
+use Rattle.holding.specs.Building.{withRow, withSystem, onesIn, begun}
+use Rattle.holding.specs.Pictures.{filled, rowsFrom, rowsOf, pictureOf}
+use Rattle.holding.specs.Spread.{spread}
+use Rattle.holding.proofs.Places.{ones-number}
+use Rattle.holding.proofs.PicturedRows.{sized, length-rows, length-satellites, picture-rows, spell-bits, spell-row}
+use Rattle.holding.proofs.PicturedCells.{rowCells, row-cells}
+-- a good mask has at most five systems
+pub use Rattle.format.proofs.MakesBack.{few-systems}
+
+-- before any row it is the mask's own picture
+pub begun-picture : (m : Mask) → begun m [] ≡ pictureOf (mask m)
+unfolding begun pictureOf onesIn
+begun-picture m = simp (append-nil, add-zero)
+
+-- ---- a row
+
+-- an element stored behind those of a filled list
+set-filled : {A : Type 0} (n : ℕ) (d x : A) (l : List A) (k : ℕ) → length l ≡ k → k < n → set (filled n d l) k x ≡ filled n d (l ++ (x ∷ []))
+unfolding filled
+set-filled n d x l k e h =
+    let here : n - length l ≡ suc (n - suc k) = omega arith in
+    let after : n - length (l ++ (x ∷ [])) ≡ n - suc k = simp length-append (omega arith) in
+    rw (here, after, append-snoc) (set-at l d (replicate (n - suc k) d) x k e)
+
+ones-append : (rows more : List ℕ) → onesIn (rows ++ more) ≡ onesIn rows + onesIn more
+unfolding onesIn
+ones-append [] more = omega arith
+ones-append (row ∷ rows) more = omega (arith, ones-append rows more)
+
+-- a row is stored behind the others
+pub row-built : (m : Mask) (rows : List ℕ) (row : ℕ) → length (flatMap rowsOf (m .systems) ++ rows) < 64
+    → withRow (begun m rows) row ≡ begun m (rows ++ (row ∷ []))
+unfolding withRow begun pictureOf onesIn
+row-built m rows row room =
+    let before = flatMap rowsOf (m .systems) in
+    let nsat = length (satellites (m .systems)) + length rows in
+    let e : length (before ++ rows) ≡ nsat = simp length-append (rw (picture-rows (m .systems))) in
+    let stored = set-filled 64 0 row (before ++ rows) nsat e (omega arith) in
+    let count : nsat + 1 ≡ length (satellites (m .systems)) + length (rows ++ (row ∷ [])) = simp length-append (omega arith) in
+    let total : length (cells (m .systems)) + onesIn rows + ones row ≡ length (cells (m .systems)) + onesIn (rows ++ (row ∷ [])) = omega (arith, ones-append rows (row ∷ [])) in
+    rw (stored, append-assoc, count, total)
+
+-- ---- the cells of a system's rows
+
+module _ (signals : List Bool) (long : length signals ≡ 16) where
+  -- with a cell mask
+  ones-from : (sats : List Satellite) (bits : List Bool)
+      → let rows = rowsFrom (length sats) signals bits in onesIn rows ≡ length (rowCells sats rows)
+  unfolding rowsFrom onesIn rowCells
+  ones-from [] bits = refl
+  ones-from (sat ∷ sats) bits =
+      simp (length-append, length-map)
+      (rw (spell-row signals bits long, ones-number (spread signals bits) 0, ones-from sats (drop (length (placesFrom 0 signals)) bits)))
+
+  -- without one
+  ones-all : (sats : List Satellite) → let rows = replicate (length sats) (number signals) in onesIn rows ≡ length (rowCells sats rows)
+  unfolding onesIn rowCells
+  ones-all [] = refl
+  ones-all (sat ∷ sats) = simp (length-append, length-map) (rw (spell-bits 16 signals long, ones-number signals 0, ones-all sats))
+
+  ones-by : (flag : Bool) (sats : List Satellite) (bits : List Bool)
+      → let rows = cond flag (rowsFrom (length sats) signals bits) (replicate (length sats) (number signals)) in onesIn rows ≡ length (rowCells sats rows)
+  ones-by true sats bits = ones-from sats bits
+  ones-by false sats bits = ones-all sats
+
+-- the rows of a system with a signal mask of 16 bits have a one for each of its cells
+pub rows-ones : (s : System) → length (s .signals) ≡ 16 → onesIn (rowsOf s) ≡ length (cellsOf s)
+unfolding rowsOf
+rows-ones s long = rw (row-cells s long) (rw length-satellites at (ones-by (s .signals) long (s .flag) (satellitesOf s) (s .cells)))
+
+-- ---- a system
+
+pub flatMap-snoc : {A B : Type 0} (f : A → List B) (xs : List A) (x : A) → flatMap f (xs ++ (x ∷ [])) ≡ flatMap f xs ++ f x
+unfolding flatMap
+flatMap-snoc f [] x = append-nil (f x)
+flatMap-snoc f (y ∷ xs) x = rw (flatMap-snoc f xs x, append-assoc)
+
+-- one more system in the next slot, by any of its fields
+set-slot : {A : Type 0} (f : System → A) (d : A) (ss : List System) (s : System) → length ss < 5
+    → set (filled 5 d (map f ss)) (length ss) (f s) ≡ filled 5 d (map f (ss ++ (s ∷ [])))
+set-slot f d ss s room = rw (map-append f ss (s ∷ [])) (set-filled 5 d (f s) (map f ss) (length ss) (length-map ss f) room)
+
+-- with the rows of a good system, its slot makes the picture of the mask with that system behind the others
+pub system-built : (m : Mask) (s : System) → length (m .systems) < 5 → goodSystem (m .systems) s ≡ true
+    → withSystem (begun m (rowsOf s)) (s .id) (number (s .satellites)) (number (s .signals)) (s .flag)
+    ≡ pictureOf (mask (record { iod = m .iod; systems = m .systems ++ (s ∷ []) }))
+unfolding withSystem begun pictureOf satellites cells
+system-built m s room e =
+    let ss = m .systems in
+    let count : length ss + 1 ≡ length (ss ++ (s ∷ [])) = simp length-append in
+    let ids = set-slot (λ s. s .id) 0 ss s room in
+    let sats = set-slot (λ s. number (s .satellites)) 0 ss s room in
+    let signals = set-slot (λ s. number (s .signals)) 0 ss s room in
+    let flags = set-slot (λ s. s .flag) false ss s room in
+    let rows = flatMap-snoc rowsOf ss s in
+    let nsat : length (satellites ss) + length (rowsOf s) ≡ length (satellites (ss ++ (s ∷ []))) =
+    rw flatMap-snoc (simp length-append (rw (length-rows s, length-satellites s))) in
+    let ncell : length (cells ss) + onesIn (rowsOf s) ≡ length (cells (ss ++ (s ∷ []))) = rw flatMap-snoc (simp length-append (rw (rows-ones s (sized ss s e .long)))) in
+    rw (count, ids, sats, signals, flags, rows, nsat, ncell)

@@ -1,0 +1,16 @@
+pub mod Places
+pub mod Spreads
+pub mod Highest
+pub mod Names
+pub mod PicturedSame
+pub mod PicturedRows
+pub mod Pictured
+pub mod PicturedCells
+pub mod Built
+pub mod Kths
+pub mod Fitting
+pub mod SoundTested
+pub mod OneSlot
+pub mod TestedSound
+pub mod Shapes
+pub mod HeldKths

@@ -1,0 +1,100 @@
+-- The cells of a good mask from its picture: satellite by satellite, the places of its row.
+-- Assumes nothing.
+use mathlib.Core.Path.{_≡_, refl, sym, ap, ap₂, _∙_}
+use mathlib.Core.Bool.{Bool, true, false, cond}
+use mathlib.Core.List.{List, [], _∷_, _++_, append-assoc, map, flatMap}
+use Prim.Native.Nat.{ℕ}
+use native.Mathlib.Nat.{suc-inj}
+use native.Mathlib.Omega.{arith}
+use lib.Dec.{ltb}
+use lib.ListN.{length, drop, replicate, length-map}
+use Rattle.bits.specs.BitLists.{number, spell}
+use Rattle.format.proofs.Sames.{and-true}
+use Rattle.format.specs.Good.{goodSystem, goodSystems, good}
+use Rattle.format.specs.Masks.{System, Mask, mask, Satellite, Cell, placesFrom, pick, satellitesOf, pairsOf, cellsOf, satellites, cells}
+use Rattle.holding.specs.Pictures.{rowsFrom, rowsOf}
+use Rattle.holding.proofs.Spreads.{places-spread}
+use Rattle.holding.proofs.PicturedRows.{sized, length-rows, length-satellites, spell-bits, spell-row}
+
+-- one satellite's cells, by the places of its signals
+abbrev pub cellsAt : Satellite → List ℕ → List Cell
+cellsAt sat places = map (λ place. record { satellite = sat; signal = place }) places
+
+-- satellites each with the places of its row
+unfoldable pub rowCells : List Satellite → List ℕ → List Cell
+rowCells [] rows = []
+rowCells (sat ∷ sats) [] = []
+rowCells (sat ∷ sats) (row ∷ rows) = cellsAt sat (placesFrom 0 (spell 16 row)) ++ rowCells sats rows
+
+-- ---- picking
+
+module _ {A : Type 0} where
+  pick-nil : (bits : List Bool) → _≡_ {A = List A} (pick bits []) []
+  unfolding pick
+  pick-nil [] = refl
+  pick-nil (b ∷ bits) = refl
+
+  -- the bits that the first list leaves select from the second
+  pick-append : (bits : List Bool) (xs ys : List A) → pick bits (xs ++ ys) ≡ pick bits xs ++ pick (drop (length xs) bits) ys
+  unfolding pick
+  pick-append bits [] ys = rw pick-nil
+  pick-append [] (x ∷ xs) ys = refl
+  pick-append (true ∷ bits) (x ∷ xs) ys = ap (λ (l : List A). x ∷ l) (pick-append bits xs ys)
+  pick-append (false ∷ bits) (x ∷ xs) ys = pick-append bits xs ys
+
+  pick-map : {B : Type 0} (f : A → B) (bits : List Bool) (xs : List A) → pick bits (map f xs) ≡ map f (pick bits xs)
+  unfolding pick
+  pick-map f [] xs = refl
+  pick-map f (b ∷ bits) [] = refl
+  pick-map {B} f (true ∷ bits) (x ∷ xs) = ap (λ (l : List B). f x ∷ l) (pick-map f bits xs)
+  pick-map f (false ∷ bits) (x ∷ xs) = pick-map f bits xs
+
+-- ---- one system
+
+module _ (signals : List Bool) (long : length signals ≡ 16) where
+  -- with a cell mask
+  picked-cells : (sats : List Satellite) (bits : List Bool)
+      → pick bits (flatMap (λ sat. cellsAt sat (placesFrom 0 signals)) sats) ≡ rowCells sats (rowsFrom (length sats) signals bits)
+  unfolding flatMap rowCells rowsFrom
+  picked-cells [] bits = pick-nil bits
+  picked-cells (sat ∷ sats) bits =
+      rw (pick-append, length-map, pick-map, spell-row signals bits long, places-spread, picked-cells sats)
+
+  -- without one
+  all-cells : (sats : List Satellite) → flatMap (λ sat. cellsAt sat (placesFrom 0 signals)) sats ≡ rowCells sats (replicate (length sats) (number signals))
+  unfolding flatMap rowCells
+  all-cells [] = refl
+  all-cells (sat ∷ sats) = rw (spell-bits 16 signals long, all-cells sats)
+
+  cells-by : (flag : Bool) (sats : List Satellite) (bits : List Bool)
+      → let pairs = flatMap (λ sat. cellsAt sat (placesFrom 0 signals)) sats in
+      cond flag (pick bits pairs) pairs ≡ rowCells sats (cond flag (rowsFrom (length sats) signals bits) (replicate (length sats) (number signals)))
+  cells-by true sats bits = picked-cells sats bits
+  cells-by false sats bits = all-cells sats
+
+-- the cells of a system with a signal mask of 16 bits are its satellites, each with the places of its row
+pub row-cells : (s : System) → length (s .signals) ≡ 16 → cellsOf s ≡ rowCells (satellitesOf s) (rowsOf s)
+unfolding cellsOf pairsOf rowsOf
+row-cells s long = rw length-satellites at (cells-by (s .signals) long (s .flag) (satellitesOf s) (s .cells))
+
+-- ---- all systems
+
+rowCells-append : (sats more : List Satellite) (rows others : List ℕ) → length sats ≡ length rows → rowCells (sats ++ more) (rows ++ others) ≡ rowCells sats rows ++ rowCells more others
+unfolding rowCells
+rowCells-append [] more [] others e = refl
+rowCells-append [] more (row ∷ rows) others e = absurd (omega arith)
+rowCells-append (sat ∷ sats) more [] others e = absurd (omega arith)
+rowCells-append (sat ∷ sats) more (row ∷ rows) others e = rw (rowCells-append sats more rows others (suc-inj e), append-assoc)
+
+cells-after : (before ss : List System) → goodSystems before ss ≡ true → cells ss ≡ rowCells (satellites ss) (flatMap rowsOf ss)
+unfolding goodSystems cells satellites flatMap rowCells
+cells-after before [] e = refl
+cells-after before (s ∷ ss) e =
+    let parts = and-true (goodSystem before s) _ e in
+    ap₂ _++_ (row-cells s (sized before s (parts .0) .long)) (cells-after (before ++ (s ∷ [])) ss (parts .1))
+    ∙ sym (rowCells-append (satellitesOf s) (satellites ss) (rowsOf s) (flatMap rowsOf ss) (length-satellites s ∙ sym (length-rows s)))
+
+-- and so are those of a good mask
+pub picture-cells : (m : Mask) → good (mask m) ≡ true → cells (m .systems) ≡ rowCells (satellites (m .systems)) (flatMap rowsOf (m .systems))
+unfolding good
+picture-cells m e = cells-after [] (m .systems) (and-true (ltb (m .iod) 16) _ e .1)

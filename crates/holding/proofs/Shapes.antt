@@ -1,0 +1,45 @@
+-- What the types of the struct's fields say of its lists, and with it: the test of the code is that of the definitions.
+-- Assumes nothing.
+use mathlib.Core.Path.{_≡_, refl, sym, _∙_}
+use mathlib.Core.Bool.{Bool, true, false}
+use mathlib.Core.List.{List, [], _∷_, map}
+use Prim.Native.Nat.{ℕ, _^_}
+use borrow.Author.Tests.{lt-ltb}
+use denote.Struct.Laws.{u16-laws}
+use lib.ListN.{length, length-map}
+use mir.Val.{WTs, ofList}
+use Rattle.format.proofs.Sames.{true-and}
+use Rattle.holding.specs.declared.Holding.{Holding}
+use Rattle.holding.specs.Kth.{narrow}
+use Rattle.holding.specs.Pictures.{sound}
+use Rattle.holding.specs.Testing.{tested}
+use Rattle.holding.proofs.SoundTested.{sound-tested}
+use Rattle.holding.proofs.TestedSound.{Shaped, tested-sound}
+
+-- the struct's lists stand there as copies of themselves
+pub as-long : {A : Type 0} (xs : List A) (n : ℕ) → length (map (λ x. x) xs) ≡ n → length xs ≡ n
+as-long xs n e = sym (length-map xs _) ∙ e
+
+-- 16 bits each, by their type
+pub narrow-typed : (xs : List ℕ) → WTs (ofList (map (u16-laws .val) (map (λ x. x) xs))) → narrow 16 xs ≡ true
+unfolding narrow
+narrow-typed [] w = refl
+narrow-typed (x ∷ xs) w = true-and (lt-ltb x (2 ^ 16) (w .0 .fits)) (narrow-typed xs (w .1))
+
+-- two tests each of which holds where the other does
+same-test : (a b : Bool) → (a ≡ true → b ≡ true) → (b ≡ true → a ≡ true) → a ≡ b
+same-test false false f g = refl
+same-test false true f g = g refl
+same-test true false f g = cc (f refl)
+same-test true true f g = refl
+
+pub tested-is-sound : (h : Holding) → Shaped h → tested h ≡ sound h
+tested-is-sound h shaped = same-test (tested h) (sound h) (tested-sound h shaped) (sound-tested h)
+
+-- where one test fails, so does the other
+off-both : (a b : Bool) → (a ≡ true → b ≡ true) → b ≡ false → a ≡ false
+off-both false b f e = refl
+off-both true b f e = sym (f refl) ∙ e
+
+pub not-tested : (h : Holding) → tested h ≡ false → sound h ≡ false
+not-tested h failed = off-both (sound h) (tested h) (sound-tested h) failed

@@ -1,0 +1,17 @@
+-- `holding::assigned::satellites_assigned` meets its contract: the rule over the table. Assumes nothing.
+use borrow.Author.Needs.{needs}
+use Rattle.format.specs.Assigned.{satellitePlaces, assigned}
+use Rattle.holding.proofs.Highest.{entry-below}
+use Rattle.holding.proofs.assigned.satellites_assigned.Statement.{statement}
+use Rattle.holding.proofs.assigned.satellites_assigned.Tie as tie
+
+ends-by-requires : tie.Need-ends-by-requires
+unfolding satellitePlaces
+ends-by-requires c κs = (entry-below 40 satellitePlaces tt (c .args .id) (c .pre .0), search needs, c .pre .1)
+
+returns : tie.Need-returns
+unfolding satellitePlaces assigned
+returns c = c .ends-by .ensures
+
+pub satellites-assigned-spec : {M : Type 1} → statement M
+satellites-assigned-spec = tie.close (tie.spec (λ c. search needs) (λ c. search needs) ends-by-requires returns)

@@ -1,0 +1,12 @@
+-- `holding::set_places::count` meets its contract. Assumes nothing.
+use native.Mathlib.Omega.{arith}
+use borrow.Author.Needs.{needs}
+use lib.Count.{ones-le}
+use Rattle.holding.proofs.set_places.count.Statement.{statement}
+use Rattle.holding.proofs.set_places.count.Tie as tie
+
+cast-result : tie.Need-cast-result
+cast-result c = omega (arith, ones-le 64 (c .args .mask) (c .fits .mask .fits))
+
+pub count-spec : {M : Type 1} → statement M
+count-spec = tie.close (tie.spec cast-result (λ c. search needs))

@@ -1,0 +1,12 @@
+-- `holding::set_places::first` meets its contract. Assumes nothing.
+use native.Mathlib.Omega.{arith}
+use borrow.Author.Needs.{needs}
+use lib.Count.{leading-le}
+use Rattle.holding.proofs.set_places.first.Statement.{statement}
+use Rattle.holding.proofs.set_places.first.Tie as tie
+
+cast-result : tie.Need-cast-result
+cast-result c = omega (arith, leading-le 64 (c .args .mask))
+
+pub first-spec : {M : Type 1} → statement M
+first-spec = tie.close (tie.spec cast-result (λ c. search needs))

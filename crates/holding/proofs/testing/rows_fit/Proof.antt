@@ -1,0 +1,60 @@
+-- `holding::testing::rows_fit` meets its contract. The loop's invariant: the rows fit from the first on just if they do from the i-th on.
+-- Assumes nothing.
+use mathlib.Core.Path.{_≡_, refl, sym, _∙_}
+use Prim.Native.Nat.{ℕ, _-_, _≤_}
+use native.Mathlib.Nat.{sub-self}
+use native.Mathlib.Numerals.{add-one}
+use native.Mathlib.Omega.{arith}
+use borrow.Author.Needs.{needs}
+use borrow.Author.Tests.{not-true, not-false}
+use lib.ListN.{take, drop}
+use Rattle.holding.specs.Testing.{rowsFit}
+use Rattle.holding.proofs.Fitting.{row-fit}
+use Rattle.holding.proofs.testing.rows_fit.Statement.{statement}
+use Rattle.holding.proofs.testing.rows_fit.Tie as tie
+
+abbrev Inv-loop : tie.InvT-loop
+Inv-loop rows from to signals flag i₀ i =
+    (i ≤ to) × (rowsFit flag signals (take (to - from) (drop from rows)) ≡ rowsFit flag signals (take (to - i) (drop i rows)))
+
+abbrev μ-loop : tie.MeasureT-loop
+μ-loop rows from to signals flag i₀ i = to - i
+
+returns : tie.Need-returns Inv-loop μ-loop
+returns c =
+    let x = c .before .before .before .before .before .before .args in
+    let i : ℕ = c .before .before .before .before .loop .i in
+    let here = row-fit (x .flag) (x .signals) (x .rows .now) i (x .to) (omega arith) (omega arith) in
+    let not-here = sym (c .before .row-fits .ensures) ∙ not-true _ (c .if1 .taken) in
+    sym (c .before .before .before .before .loop .inv .1 ∙ here ∙ rw not-here)
+
+loop-again : tie.Need-loop-again Inv-loop μ-loop
+loop-again c =
+    let x = c .before .before .before .before .before .before .args in
+    let i : ℕ = c .before .before .before .before .loop .i in
+    let here = row-fit (x .flag) (x .signals) (x .rows .now) i (x .to) (omega arith) (omega arith) in
+    let fits-here = sym (c .before .row-fits .ensures) ∙ not-false _ (c .if1 .left) in
+    (omega arith, c .before .before .before .before .loop .inv .1 ∙ here ∙ rw (fits-here, add-one i))
+
+returns-2 : tie.Need-returns-2 Inv-loop μ-loop
+unfolding rowsFit
+returns-2 c =
+    let x = c .before .before .before .args in
+    let all : c .before .loop .i ≡ x .to = omega arith in
+    sym (c .before .loop .inv .1 ∙ rw (all, sub-self))
+
+pub rows-fit-spec : {M : Type 1} → statement M
+rows-fit-spec =
+    tie.close
+    (tie.spec
+    Inv-loop
+    μ-loop
+    (λ c. (omega arith, refl))
+    (λ c. search needs)
+    (λ c. search needs)
+    (λ c κs. search needs)
+    returns
+    (λ c. omega arith)
+    (λ c. omega arith)
+    loop-again
+    returns-2)

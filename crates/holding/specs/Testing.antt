@@ -1,0 +1,58 @@
+-- The test of a lent holding slot by slot, as the code goes about it. proofs/Tested.antt shows that it is the test `sound` of Pictures.antt.
+use mathlib.Core.Bool.{Bool, true, false, cond, not, _&&_}
+use mathlib.Core.List.{List, [], _∷_, _++_}
+use Prim.Native.Nat.{ℕ, zero, suc, _+_, _^_}
+use lib.Bits.{bitAnd}
+use lib.Count.{ones}
+use lib.Dec.{eqb, leb, ltb}
+use lib.ListN.{length, getD, take, drop}
+use Rattle.bits.specs.BitLists.{spell}
+use Rattle.format.specs.Assigned.{satellitePlaces, signalPlaces, assigned}
+use Rattle.holding.specs.declared.Holding.{Holding}
+use Rattle.holding.specs.Building.{onesIn}
+use Rattle.holding.specs.Named.{namedIn}
+
+-- with the cell flag a row has no signal that its system has not, without it all of them
+unfoldable pub rowFits : Bool → ℕ → ℕ → Bool
+rowFits flag signals row = eqb (cond flag (bitAnd row signals) signals) row
+
+unfoldable pub rowsFit : Bool → ℕ → List ℕ → Bool
+rowsFit flag signals [] = true
+rowsFit flag signals (row ∷ rows) = rowFits flag signals row && rowsFit flag signals rows
+
+-- the slot's masks: all places assigned, and no more than 64 satellites with the n before it
+unfoldable pub masksFit : ℕ → ℕ → ℕ → ℕ → Bool
+masksFit n id sats signals =
+    ltb sats (2 ^ 40) && (assigned satellitePlaces id (spell 40 sats) && (leb (n + ones sats) 64 && assigned signalPlaces id (spell 16 signals)))
+
+-- a slot whose rows come first, after the IDs, the n satellites and the c cells of those before it
+unfoldable pub slotFits : List ℕ → ℕ → ℕ → ℕ → ℕ → ℕ → Bool → List ℕ → Bool
+slotFits before n c id sats signals flag rows =
+    let mine = take (ones sats) rows in
+    ltb id 5 && (not (namedIn id before) && (masksFit n id sats signals && (rowsFit flag signals mine && leb (c + onesIn mine) 256)))
+
+-- slots and rows that are not used
+unfoldable pub emptySlots : ℕ → List ℕ → List ℕ → List ℕ → List Bool → Bool
+emptySlots zero ids sats signals flags = true
+emptySlots (suc m) ids sats signals flags =
+    eqb (getD ids 0 0) 0 && (eqb (getD sats 0 0) 0 && (eqb (getD signals 0 0) 0 && (not (getD flags 0 false)
+    && emptySlots m (drop 1 ids) (drop 1 sats) (drop 1 signals) (drop 1 flags))))
+
+unfoldable pub emptyRows : List ℕ → Bool
+emptyRows [] = true
+emptyRows (row ∷ rows) = eqb row 0 && emptyRows rows
+
+-- m slots that are used, and then those that are not; the whole counts are nsat and ncell
+unfoldable pub slotsFit : ℕ → ℕ → ℕ → List ℕ → ℕ → ℕ → List ℕ → List ℕ → List ℕ → List Bool → List ℕ → Bool
+slotsFit nsat ncell zero before n c ids sats signals flags rows =
+    eqb n nsat && (eqb c ncell && (emptySlots (length ids) ids sats signals flags && emptyRows rows))
+slotsFit nsat ncell (suc m) before n c ids sats signals flags rows =
+    let id = getD ids 0 0 in
+    let k = ones (getD sats 0 0) in
+    slotFits before n c id (getD sats 0 0) (getD signals 0 0) (getD flags 0 false) rows
+    && slotsFit nsat ncell m (before ++ (id ∷ [])) (n + k) (c + onesIn (take k rows)) (drop 1 ids) (drop 1 sats) (drop 1 signals) (drop 1 flags) (drop k rows)
+
+unfoldable pub tested : Holding → Bool
+tested h =
+    cond (h .held) (ltb (h .iod) 16) (eqb (h .iod) 0 && eqb (h .count) 0)
+    && (leb (h .count) 5 && slotsFit (h .nsat) (h .ncell) (h .count) [] 0 0 (h .ids) (h .satellites) (h .signals) (h .flags) (h .cells))

@@ -1,0 +1,185 @@
+// The test of a lent holding, slot by slot and row by row (specs/Testing.antt).
+ghost use mathlib.Core.Path.{_≡_};
+ghost use mathlib.Core.Bool.{cond, not, _&&_};
+ghost use mathlib.Core.List.{[]};
+ghost use Prim.Native.Nat.{_-_, _≤_, _<_};
+ghost use lib.Dec.{eqb, ltb};
+ghost use lib.ListN.{length, getD, take, drop};
+ghost use Rattle.holding.specs.Testing.{rowFits, rowsFit, masksFit, slotFits, emptySlots, emptyRows, slotsFit};
+use crate::Holding;
+use crate::assigned;
+use crate::cells_in;
+use crate::named;
+use crate::set_places;
+
+// Whether the issue is one: of 4 bits where a mask is held, and none, without a system, where nothing is.
+pub fn issue_fits(held: bool, iod: u8, count: usize) -> bool
+    ensures { λ r. ⌜ r ≡ cond held (ltb iod 16) (eqb iod 0 && eqb count 0) ⌝ }
+{
+    if held {
+        return iod < 16;
+    }
+    if iod != 0 {
+        return false;
+    }
+    count == 0
+}
+
+// Whether a row has the signals that the system's flag lets it have.
+fn row_fits(flag: bool, signals: u16, row: u16) -> bool
+    ensures { λ r. ⌜ r ≡ rowFits flag signals row ⌝ }
+{
+    if flag {
+        row & signals == row
+    } else {
+        signals == row
+    }
+}
+
+// The same of the rows from one on, up to another that is not among them.
+fn rows_fit(rows: &[u16], from: usize, to: usize, signals: u16, flag: bool) -> bool
+    requires { ⌜ (from ≤ to) × (to ≤ length (now rows)) ⌝ }
+    ensures { λ r. ⌜ r ≡ rowsFit flag signals (take (to - from) (drop from (now (rows .entry)))) ⌝ }
+{
+    let mut i = from;
+    while i < to {
+        if !row_fits(flag, signals, rows[i]) {
+            return false;
+        }
+        i += 1;
+    }
+    true
+}
+
+// Whether a slot's masks fit after n satellites.
+fn masks_fit(n: usize, id: usize, satellites: u64, signals: u16) -> bool
+    requires { ⌜ (id < 5) × (n ≤ 64) ⌝ }
+    ensures { λ r. ⌜ r ≡ masksFit n id satellites signals ⌝ }
+{
+    if satellites >= 0x100_0000_0000 {
+        return false;
+    }
+    if !assigned::satellites_assigned(id, satellites) {
+        return false;
+    }
+    if n + set_places::count(satellites) > Holding::SATELLITES {
+        return false;
+    }
+    assigned::signals_assigned(id, signals as u64)
+}
+
+// Whether no row from one on is used.
+fn rows_empty(rows: &[u16], from: usize) -> bool
+    requires { ⌜ from ≤ length (now rows) ⌝ }
+    ensures { λ r. ⌜ r ≡ emptyRows (drop from (now (rows .entry))) ⌝ }
+{
+    let mut i = from;
+    while i < rows.len() {
+        if rows[i] != 0 {
+            return false;
+        }
+        i += 1;
+    }
+    true
+}
+
+// Whether a slot is as it is where it is not used.
+fn slot_empty(id: u8, satellites: u64, signals: u16, flag: bool) -> bool
+    ensures { λ r. ⌜ r ≡ (eqb id 0 && (eqb satellites 0 && (eqb signals 0 && not flag))) ⌝ }
+{
+    if id != 0 {
+        return false;
+    }
+    if satellites != 0 {
+        return false;
+    }
+    if signals != 0 {
+        return false;
+    }
+    !flag
+}
+
+// Whether no slot from one on is used.
+fn slots_empty(ids: &[u8], satellites: &[u64], signals: &[u16], flags: &[bool], from: usize) -> bool
+    requires { ⌜ (from ≤ length (now ids)) × (length (now satellites) ≡ length (now ids)) × (length (now signals) ≡ length (now ids)) × (length (now flags) ≡ length (now ids)) ⌝ }
+    ensures { λ r. ⌜ r ≡ emptySlots (length (now (ids .entry)) - from) (drop from (now (ids .entry))) (drop from (now (satellites .entry))) (drop from (now (signals .entry))) (drop from (now (flags .entry))) ⌝ }
+{
+    let mut i = from;
+    while i < ids.len() {
+        if !slot_empty(ids[i], satellites[i], signals[i], flags[i]) {
+            return false;
+        }
+        i += 1;
+    }
+    true
+}
+
+// Whether a slot fits after n satellites and c cells, its rows being those from the n-th on.
+fn slot_fits(
+    ids: &[u8],
+    i: usize,
+    n: usize,
+    c: usize,
+    satellites: u64,
+    signals: u16,
+    flag: bool,
+    rows: &[u16],
+) -> bool
+    requires { ⌜ (i < length (now ids)) × (n ≤ 64) × (c ≤ 256) × (length (now rows) ≡ 64) ⌝ }
+    ensures { λ r. ⌜ r ≡ slotFits (take i (now (ids .entry))) n c (getD (now (ids .entry)) i 0) satellites signals flag (drop n (now (rows .entry))) ⌝ }
+{
+    let id = ids[i];
+    if id >= 5 {
+        return false;
+    }
+    if named::named_in(ids, i, id) {
+        return false;
+    }
+    if !masks_fit(n, id as usize, satellites, signals) {
+        return false;
+    }
+    let to = n + set_places::count(satellites);
+    if !rows_fit(rows, n, to, signals, flag) {
+        return false;
+    }
+    cells_in::cells_in(rows, n, to) <= Holding::CELLS - c
+}
+
+// Whether count slots are used, which fit one after the other, the counts of satellites and cells are theirs, and
+// nothing else is used.
+pub fn slots_fit(
+    ids: &[u8],
+    satellites: &[u64],
+    signals: &[u16],
+    flags: &[bool],
+    rows: &[u16],
+    count: usize,
+    nsat: usize,
+    ncell: usize,
+) -> bool
+    requires { ⌜ (length (now ids) ≡ 5) × (length (now satellites) ≡ 5) × (length (now signals) ≡ 5) × (length (now flags) ≡ 5) × (length (now rows) ≡ 64) × (count ≤ 5) ⌝ }
+    ensures { λ r. ⌜ r ≡ slotsFit nsat ncell count [] 0 0 (now (ids .entry)) (now (satellites .entry)) (now (signals .entry)) (now (flags .entry)) (now (rows .entry)) ⌝ }
+{
+    let mut i = 0;
+    let mut n = 0;
+    let mut c = 0;
+    while i < count {
+        if !slot_fits(ids, i, n, c, satellites[i], signals[i], flags[i], rows) {
+            return false;
+        }
+        let to = n + set_places::count(satellites[i]);
+        c += cells_in::cells_in(rows, n, to);
+        n = to;
+        i += 1;
+    }
+    if n != nsat {
+        return false;
+    }
+    if c != ncell {
+        return false;
+    }
+    if !slots_empty(ids, satellites, signals, flags, count) {
+        return false;
+    }
+    rows_empty(rows, n)
+}
