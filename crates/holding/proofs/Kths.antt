@@ -76,7 +76,7 @@ module _ (w k row : ℕ) (rows : List ℕ) (small : row < 2 ^ w) where
       ∙ getD-append-add (spotsAt k (placesFrom 0 (spell w row))) (spots w (suc k) rows) (i - ones row) nowhere
 
 -- while places are left, so are masks
-pub some-row : (rows : List ℕ) (i left : ℕ) → left < onesIn (drop i rows) → i < length rows
+some-row : (rows : List ℕ) (i left : ℕ) → left < onesIn (drop i rows) → i < length rows
 unfolding onesIn
 some-row rows i left h = go (decLt i (length rows))
   where
@@ -89,23 +89,39 @@ some-row rows i left h = go (decLt i (length rows))
 
 module _ (w : ℕ) (rows : List ℕ) (i left : ℕ) (inside : i < length rows) (small : getD rows i 0 < 2 ^ w) where
   -- the one looked for stands in the next mask
-  pub found-here : left < ones (getD rows i 0)
+  found-here : left < ones (getD rows i 0)
       → getD (spots w i (drop i rows)) left nowhere ≡ record { row = i; place = getD (placesFrom 0 (spell w (getD rows i 0))) left 0 }
   found-here h =
       ap (λ (l : List ℕ). getD (spots w i l) left nowhere) (drop-cons rows i 0 inside)
       ∙ spot-here w i (getD rows i 0) (drop (suc i) rows) small left h
 
   -- or it does not, and is looked for behind it
-  pub found-past : ones (getD rows i 0) ≤ left
+  found-past : ones (getD rows i 0) ≤ left
       → getD (spots w i (drop i rows)) left nowhere ≡ getD (spots w (suc i) (drop (suc i) rows)) (left - ones (getD rows i 0)) nowhere
   found-past h =
       ap (λ (l : List ℕ). getD (spots w i l) left nowhere) (drop-cons rows i 0 inside)
       ∙ spot-past w i (getD rows i 0) (drop (suc i) rows) small left h
 
 -- as many places are left behind a mask
-pub ones-past : (rows : List ℕ) (i : ℕ) → i < length rows → onesIn (drop i rows) ≡ ones (getD rows i 0) + onesIn (drop (suc i) rows)
+ones-past : (rows : List ℕ) (i : ℕ) → i < length rows → onesIn (drop i rows) ≡ ones (getD rows i 0) + onesIn (drop (suc i) rows)
 unfolding onesIn
 ones-past rows i inside = ap onesIn (drop-cons rows i 0 inside)
+
+-- the k-th place of all is the one that is left over behind the first i masks
+abbrev pub Left : ℕ → List ℕ → ℕ → ℕ → ℕ → Type 0
+Left w all k left i = (i < length all) × (left < onesIn (drop i all)) × (getD (spots w 0 all) k nowhere ≡ getD (spots w i (drop i all)) left nowhere)
+
+pub left-all : (w : ℕ) (all : List ℕ) (k : ℕ) → k < onesIn all → Left w all k k 0
+left-all w all k h = (some-row all 0 k h, h, refl)
+
+module _ (w : ℕ) (all : List ℕ) (k left i : ℕ) (l : Left w all k left i) (small : getD all i 0 < 2 ^ w) where
+  pub left-here : left < ones (getD all i 0) → getD (spots w 0 all) k nowhere ≡ record { row = i; place = getD (placesFrom 0 (spell w (getD all i 0))) left 0 }
+  left-here h = l .2 ∙ found-here w all i left (l .0) small h
+
+  pub left-past : ones (getD all i 0) ≤ left → Left w all k (left - ones (getD all i 0)) (suc i)
+  left-past h =
+      let more : left - ones (getD all i 0) < onesIn (drop (suc i) all) = omega (arith, ones-past all i (l .0), l .1) in
+      (some-row all (suc i) (left - ones (getD all i 0)) more, more, l .2 ∙ found-past w all i left (l .0) small h)
 
 -- a mask moved up in its word has as many ones, and the same places
 pub ones-up : (w z n : ℕ) → n * 2 ^ z < 2 ^ (w + z) → ones (n * 2 ^ z % 2 ^ (w + z)) ≡ ones n
