@@ -1,5 +1,8 @@
--- Document 01, "Answer numbers": the number of each answer. A message has none there.
+-- Document 01, "Answer numbers": the number and the values of each answer.
 use Prim.Native.Nat.{ℕ}
+use Rattle.format.specs.declared.Answer.{Answer}
+use Rattle.format.specs.declared.Answer.the-variants.{Message, Idle, Refused}
+use Rattle.format.specs.declared.Head.{Head}
 use Rattle.format.specs.declared.Refusal.{Refusal}
 use Rattle.format.specs.declared.Refusal.the-variants.{Room, Place, Short, Number, SubType, NoMask, OtherIssue, System, Reserved, Size, Network, Value}
 
@@ -20,3 +23,14 @@ numberOf Value = 12
 -- and of idle
 abbrev pub idleNumber : ℕ
 idleNumber = 0
+
+-- What an answer to reading at a start says on paper: each of 0 to 12 its number and the start asked for; a message, which has no number there,
+-- its head, the place after it and its row count.
+pub data Said : Type 0 where
+  stop : ℕ → ℕ → Said
+  message : Head → ℕ → ℕ → Said
+
+unfoldable pub saidAt : ℕ → Answer → Said
+saidAt start Idle = stop idleNumber start
+saidAt start (Refused r) = stop (numberOf r) start
+saidAt start (Message h next rows) = message h next rows

@@ -2,11 +2,11 @@
 -- proofs/Makes.antt shows that just these masks are what bits can be read to.
 use mathlib.Core.Bool.{Bool, true, cond, not, _&&_}
 use mathlib.Core.List.{List, [], _∷_, _++_}
-use Prim.Native.Nat.{ℕ, _+_, _*_}
+use Prim.Native.Nat.{_+_, _*_}
 use lib.Dec.{leb, ltb, eqb}
 use lib.ListN.{length}
 use Rattle.format.specs.Assigned.{satellitePlaces, signalPlaces, known, assigned}
-use Rattle.format.specs.Masks.{System, Mask, Held, nothing, mask, placesFrom, satellites, cells}
+use Rattle.format.specs.Masks.{System, Held, nothing, mask, placesFrom, satellites, cells}
 use Rattle.format.specs.Messages.{named}
 
 -- one more system after others

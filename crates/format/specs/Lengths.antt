@@ -5,7 +5,7 @@ use Prim.Native.Nat.{ℕ, suc, _+_, _*_}
 use lib.Dec.{eqb}
 use lib.IntN.{ℤ, pos, natAbs}
 use lib.ListN.{length, getD}
-use Rattle.format.specs.Masks.{System, Mask, Held, nothing, mask, Satellite, satellites, cells}
+use Rattle.format.specs.Masks.{Mask, Held, nothing, mask, satellites, cells}
 use Rattle.format.specs.Messages.{Content}
 use Rattle.format.specs.Rows.{absent}
 use Rattle.format.specs.Same.{sameℤ}

@@ -77,24 +77,12 @@ combinedShape orbit clock system =
 unfoldable pub packetShape : List Column
 packetShape = plain 8 ∷ plain 8 ∷ plain 8 ∷ plain 8 ∷ plain 8 ∷ []
 
--- ---- 2, 3, 4 and 5: the head, then a row for each satellite or cell
+-- ---- 2, 3, 4 and 5: the head, then a row for each satellite or cell; which lines and which shape, the table says
 
 unfoldable pub rowsAlone : ℕ → (Mask → List Line) → Mask → Common → Program Content
 rowsAlone subType lines m h = do
   rows ← body (lines m)
   done (record { head = headOf subType h absent absent absent; rows = rows })
-
-unfoldable pub orbits : Mask → Common → Program Content
-orbits = rowsAlone 2 (λ m. satelliteLines orbitShape (satellites (m .systems)))
-
-unfoldable pub clocks : Mask → Common → Program Content
-clocks = rowsAlone 3 (λ m. satelliteLines clockShape (satellites (m .systems)))
-
-unfoldable pub codeBiases : Mask → Common → Program Content
-codeBiases = rowsAlone 4 (λ m. cellLines codeShape (cells (m .systems)))
-
-unfoldable pub phaseBiases : Mask → Common → Program Content
-phaseBiases = rowsAlone 5 (λ m. cellLines phaseShape (cells (m .systems)))
 
 -- ---- 11: flags, perhaps a network with its selection, then the selected satellites' fields
 

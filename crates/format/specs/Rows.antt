@@ -1,7 +1,7 @@
 -- Rows of eight numbers: system, satellite, signal place, v1 to v5; document 01, "What is handed out".
 use mathlib.Core.List.{List, [], _∷_, _++_}
 use mathlib.Core.Bool.{Bool}
-use Prim.Native.Nat.{ℕ, zero, suc, _+_}
+use Prim.Native.Nat.{ℕ, _+_}
 use lib.IntN.{ℤ, pos, negsuc}
 use lib.ListN.{take, drop}
 use Rattle.bits.specs.BitLists.{number, spell}

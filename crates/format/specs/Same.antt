@@ -1,11 +1,10 @@
 -- Tests that two values are the same.
 use mathlib.Core.Bool.{Bool, true, false, Bool·beq, _&&_}
 use mathlib.Core.List.{List, [], _∷_}
-use Prim.Native.Nat.{ℕ}
 use lib.Dec.{eqb}
 use lib.IntN.{ℤ, pos, negsuc}
 use Rattle.format.specs.declared.Head.{Head}
-use Rattle.format.specs.Masks.{System, Mask, Held, nothing, mask}
+use Rattle.format.specs.Masks.{System, Held, nothing, mask}
 
 unfoldable pub sameList : {A : Type 0} → (A → A → Bool) → List A → List A → Bool
 sameList same [] [] = true

@@ -1,14 +1,14 @@
 -- The saved holding: document 01, "Saved mask and listing", one line there and back.
 use mathlib.Core.Bool.{Bool, true, false, cond, _&&_}
 use mathlib.Core.List.{List, [], _∷_, _++_, flatMap}
-use Prim.Native.Nat.{ℕ, zero, suc, _+_, _-_, _*_, _/_, _%_}
+use Prim.Native.Nat.{ℕ, _+_, _-_, _*_, _/_, _%_}
 use lib.Dec.{leb, ltb, eqb}
 use lib.ListN.{length, getD, take, drop}
 use Rattle.bits.specs.BitLists.{number, spell}
 use Rattle.format.specs.declared.Refusal.{Refusal}
 use Rattle.format.specs.declared.Refusal.the-variants.{Room, Value}
 use Rattle.format.specs.Good.{good}
-use Rattle.format.specs.Masks.{System, Mask, Held, nothing, mask, placesFrom}
+use Rattle.format.specs.Masks.{System, Held, nothing, mask, placesFrom}
 use Rattle.format.specs.Same.{sameList}
 
 -- ---- characters

@@ -100,14 +100,6 @@ places-below (true ∷ l) k zero h = omega arith
 places-below (true ∷ l) k (suc i) h = omega (arith, places-below l (suc k) i (le-of-suc-le-suc h))
 places-below (false ∷ l) k i h = omega (arith, places-below l (suc k) i h)
 
--- and none stands before the first
-pub places-above : (l : List Bool) (k i : ℕ) → i < length (placesFrom k l) → k ≤ getD (placesFrom k l) i 0
-unfolding placesFrom
-places-above [] k i h = absurd (omega arith)
-places-above (true ∷ l) k zero h = omega arith
-places-above (true ∷ l) k (suc i) h = omega (arith, places-above l (suc k) i (le-of-suc-le-suc h))
-places-above (false ∷ l) k i h = omega (arith, places-above l (suc k) i h)
-
 -- ---- none beyond the assigned ones
 
 -- no bit is set where the number is 0

@@ -8,7 +8,7 @@ use native.Mathlib.Nat.{suc-inj, zero-add, mod-eq-of-lt, suc-add, le-of-suc-le-s
 use native.Mathlib.Omega.{arith}
 use lib.Bits.{bitAnd, and-block, and-le-l}
 use lib.Dec.{eqb, eqb·suc-suc}
-use lib.ListN.{length, take, replicate}
+use lib.ListN.{length, take}
 use lib.Pow.{pow-pos}
 use borrow.Author.Tests.{ne-eqb}
 use Rattle.bits.proofs.BitLists.{number-lt, length-spell, number-spell}
@@ -69,20 +69,6 @@ places-spread (false ∷ places) bits k = places-spread places bits (suc k)
 places-spread (true ∷ places) [] k = places-spread places [] (suc k)
 places-spread (true ∷ places) (true ∷ bits) k = ap (λ (ps : List ℕ). k ∷ ps) (places-spread places bits (suc k))
 places-spread (true ∷ places) (false ∷ bits) k = places-spread places bits (suc k)
-
--- every bit set, spread, is the mask itself
-pub spread-ones : (places : List Bool) (n : ℕ) → n ≡ length (placesFrom 0 places) → spread places (replicate n true) ≡ places
-unfolding spread placesFrom
-spread-ones [] n e = refl
-spread-ones (false ∷ places) n e = ap (λ (l : List Bool). false ∷ l) (spread-ones places n (e ∙ length-places places 1 0))
-spread-ones (true ∷ places) zero e = absurd (omega arith)
-spread-ones (true ∷ places) (suc n) e = ap (λ (l : List Bool). true ∷ l) (spread-ones places n (suc-inj e ∙ length-places places 1 0))
-
--- every bit set picks the whole list
-pub pick-ones : {A : Type 0} (xs : List A) → pick (replicate (length xs) true) xs ≡ xs
-unfolding pick
-pick-ones [] = refl
-pick-ones {A} (x ∷ xs) = ap (λ (l : List A). x ∷ l) (pick-ones xs)
 
 -- ---- no place set that the other list has not
 
