@@ -16,7 +16,7 @@ use Rattle.format.specs.Masks.{Held, nothing, mask, placesFrom}
 use Rattle.holding.specs.declared.Holding.{Holding}
 use Rattle.holding.specs.declared.kth.Spot.{Spot}
 use Rattle.holding.specs.Building.{onesIn}
-use Rattle.holding.specs.Kth.{spotsAt, spots, nowhere, narrow, satellitesHeld, cellsHeld, nobody, noCell}
+use Rattle.holding.specs.Kth.{spotsAt, spots, nowhere, narrow, satellitesHeld, cellsHeld, nobody, noCell, below}
 use Rattle.holding.specs.Pictures.{filled, rowsOf, pictureOf, maskOf, sound}
 use Rattle.holding.proofs.Places.{places-below}
 use Rattle.holding.proofs.PicturedRows.{picture-rows}
@@ -40,7 +40,7 @@ held-counts h e =
 -- ---- the satellite masks and the rows
 
 picture-masks : (g : Held) → good g ≡ true → (onesIn (pictureOf g .satellites) ≡ length (satellitesHeld g)) × (narrow 40 (pictureOf g .satellites) ≡ true)
-unfolding pictureOf filled satellitesHeld onesIn narrow
+unfolding pictureOf filled satellitesHeld onesIn below
 picture-masks nothing e = (ones-filled [] 5, refl)
 picture-masks (mask m) e =
     let masks = masksOf (m .systems) in

@@ -1,19 +1,18 @@
--- A bound of all entries of a table, by one test that is computed. Assumes nothing.
-use mathlib.Core.Bool.{Bool, true, _&&_}
+-- A bound of all numbers of a list or table, by one test. Assumes nothing.
+use mathlib.Core.Path.{_≡_}
+use mathlib.Core.Bool.{true}
 use mathlib.Core.List.{List, [], _∷_}
 use Prim.Native.Nat.{ℕ, zero, suc, _<_}
 use native.Mathlib.Nat.{le-of-suc-le-suc}
 use native.Mathlib.Omega.{arith}
-use lib.Dec.{T, ltb, ltb→lt}
+use borrow.Author.Tests.{ltb-true}
+use lib.Dec.{ltb}
 use lib.ListN.{length, getD}
-use mir.Facts.{and-yes}
+use Rattle.format.proofs.Sames.{and-true}
+use Rattle.holding.specs.Kth.{below}
 
--- every entry is below a number
-abbrev pub allBelow : ℕ → List ℕ → Bool
-allBelow b [] = true
-allBelow b (x ∷ xs) = ltb x b && allBelow b xs
-
-pub entry-below : (b : ℕ) (xs : List ℕ) → T (allBelow b xs) → (i : ℕ) → i < length xs → getD xs i 0 < b
-entry-below b [] t i h = absurd (omega arith)
-entry-below b (x ∷ xs) t zero h = ltb→lt x b (and-yes (ltb x b) (allBelow b xs) t .0)
-entry-below b (x ∷ xs) t (suc i) h = entry-below b xs (and-yes (ltb x b) (allBelow b xs) t .1) i (le-of-suc-le-suc h)
+pub below-at : (b : ℕ) (xs : List ℕ) → below b xs ≡ true → (i : ℕ) → i < length xs → getD xs i 0 < b
+unfolding below
+below-at b [] e i h = absurd (omega arith)
+below-at b (x ∷ xs) e zero h = ltb-true x b (and-true (ltb x b) _ e .0)
+below-at b (x ∷ xs) e (suc i) h = below-at b xs (and-true (ltb x b) _ e .1) i (le-of-suc-le-suc h)

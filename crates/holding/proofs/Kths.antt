@@ -20,7 +20,7 @@ use Rattle.format.specs.Good.{goodSystem, goodSystems, good}
 use Rattle.format.specs.Masks.{System, Mask, mask, Satellite, Cell, placesFrom, satellitesOf, satellites, cells}
 use Rattle.holding.specs.declared.kth.Spot.{Spot}
 use Rattle.holding.specs.Building.{onesIn}
-use Rattle.holding.specs.Kth.{spotsAt, spots, nowhere, narrow}
+use Rattle.holding.specs.Kth.{spotsAt, spots, nowhere, narrow, below}
 use Rattle.holding.specs.Pictures.{rowsFrom, rowsOf}
 use Rattle.holding.specs.Spread.{spread}
 use Rattle.holding.proofs.Places.{ones-places, places-up, no-place}
@@ -131,13 +131,6 @@ ones-up w z n room = rw (mod-eq-of-lt room) (ap ones (sym (add-zero (n * 2 ^ z))
 pub spots-up : (w z n : ℕ) → n < 2 ^ w → n * 2 ^ z < 2 ^ (w + z) → placesFrom 0 (spell (w + z) (n * 2 ^ z % 2 ^ (w + z))) ≡ placesFrom 0 (spell w n)
 spots-up w z n small room = rw (mod-eq-of-lt room) (places-up w z n 0 small)
 
--- a mask of some that have no more than w bits
-pub narrow-at : (w : ℕ) (masks : List ℕ) → narrow w masks ≡ true → (i : ℕ) → i < length masks → getD masks i 0 < 2 ^ w
-unfolding narrow
-narrow-at w [] e i h = absurd (omega arith)
-narrow-at w (row ∷ rows) e zero h = ltb-true _ _ (and-true (ltb row (2 ^ w)) _ e .0)
-narrow-at w (row ∷ rows) e (suc i) h = narrow-at w rows (and-true (ltb row (2 ^ w)) _ e .1) i (le-of-suc-le-suc h)
-
 -- ---- masks of zero behind
 
 no-spots : (w k n : ℕ) → spots w k (replicate n 0) ≡ []
@@ -231,14 +224,14 @@ kth-satellite m k d e h =
 -- ---- what the search asks, of a good mask
 
 narrow-append : (w : ℕ) (rows others : List ℕ) → narrow w rows ≡ true → narrow w others ≡ true → narrow w (rows ++ others) ≡ true
-unfolding narrow
+unfolding below
 narrow-append w [] others e f = f
 narrow-append w (row ∷ rows) others e f =
     let parts = and-true (ltb row (2 ^ w)) _ e in
     true-and (parts .0) (narrow-append w rows others (parts .1) f)
 
 narrow-replicate : (w n row : ℕ) → row < 2 ^ w → narrow w (replicate n row) ≡ true
-unfolding narrow
+unfolding below
 narrow-replicate w zero row small = refl
 narrow-replicate w (suc n) row small = true-and (lt-ltb row (2 ^ w) small) (narrow-replicate w n row small)
 
@@ -256,7 +249,7 @@ ones-filled rows n = ones-append rows (replicate n 0) ∙ rw (no-ones n, add-zer
 
 -- there are as many spots as ones
 pub length-spots : (w k : ℕ) (rows : List ℕ) → narrow w rows ≡ true → length (spots w k rows) ≡ onesIn rows
-unfolding narrow spots onesIn
+unfolding below spots onesIn
 length-spots w k [] e = refl
 length-spots w k (row ∷ rows) e =
     let parts = and-true (ltb row (2 ^ w)) _ e in
@@ -267,7 +260,7 @@ number-small : (w : ℕ) (l : List Bool) → length l ≡ w → number l < 2 ^ w
 number-small w l e = rw e at (number-lt l)
 
 narrow-rowsFrom : (n : ℕ) (signals bits : List Bool) → length signals ≡ 16 → narrow 16 (rowsFrom n signals bits) ≡ true
-unfolding rowsFrom narrow
+unfolding rowsFrom below
 narrow-rowsFrom zero signals bits long = refl
 narrow-rowsFrom (suc n) signals bits long =
     true-and (lt-ltb _ _ (number-small 16 (spread signals bits) (length-spread signals bits ∙ long)))
@@ -280,7 +273,7 @@ narrow-rowsBy false n signals bits long = narrow-replicate 16 n (number signals)
 
 narrow-parts : (before ss : List System) → goodSystems before ss ≡ true
     → (narrow 16 (flatMap rowsOf ss) ≡ true) × (narrow 40 (masksOf ss) ≡ true)
-unfolding goodSystems flatMap rowsOf narrow
+unfolding goodSystems flatMap rowsOf below
 narrow-parts before [] e = (refl, refl)
 narrow-parts before (s ∷ ss) e =
     let parts = and-true (goodSystem before s) _ e in

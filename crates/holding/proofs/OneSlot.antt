@@ -20,7 +20,7 @@ use Rattle.format.specs.Good.{goodSystem, good}
 use Rattle.format.specs.Masks.{System, placesFrom, pick, cellsOf, satellites, cells}
 use Rattle.format.specs.Messages.{named}
 use Rattle.holding.specs.Building.{onesIn}
-use Rattle.holding.specs.Kth.{narrow}
+use Rattle.holding.specs.Kth.{narrow, below}
 use Rattle.holding.specs.Named.{namedIn}
 use Rattle.holding.specs.Pictures.{rowsFrom, rowsOf, systemOf}
 use Rattle.holding.specs.Spread.{spread, within}
@@ -35,7 +35,7 @@ use Rattle.holding.proofs.Built.{rows-ones, flatMap-snoc}
 
 module _ (w : ℕ) where
   narrow-take : (k : ℕ) (rows : List ℕ) → narrow w rows ≡ true → narrow w (take k rows) ≡ true
-  unfolding narrow
+  unfolding below
   narrow-take zero rows e = refl
   narrow-take (suc k) [] e = refl
   narrow-take (suc k) (row ∷ rows) e =
@@ -43,7 +43,7 @@ module _ (w : ℕ) where
       true-and (parts .0) (narrow-take k rows (parts .1))
 
   pub narrow-drop : (k : ℕ) (rows : List ℕ) → narrow w rows ≡ true → narrow w (drop k rows) ≡ true
-  unfolding narrow
+  unfolding below
   narrow-drop zero rows e = e
   narrow-drop (suc k) [] e = refl
   narrow-drop (suc k) (row ∷ rows) e = narrow-drop k rows (and-true (ltb row (2 ^ w)) _ e .1)
@@ -80,7 +80,7 @@ module _ (signals : ℕ) (small : signals < 2 ^ 16) where
   -- with the cell flag: rows that fit are made of the bits that they have at the signals' places
   rows-from : (rows : List ℕ) → narrow 16 rows ≡ true → rowsFit true signals rows ≡ true
       → rowsFrom (length rows) (spell 16 signals) (flatMap (rowBits (spell 16 signals)) rows) ≡ rows
-  unfolding narrow rowsFit rowFits rowsFrom flatMap
+  unfolding below rowsFit rowFits rowsFrom flatMap
   rows-from [] thin e = refl
   rows-from (row ∷ rows) thin e =
       let g = spell 16 signals in

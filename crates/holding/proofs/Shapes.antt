@@ -10,7 +10,7 @@ use lib.ListN.{length, length-map}
 use mir.Val.{WTs, ofList}
 use Rattle.format.proofs.Sames.{true-and}
 use Rattle.holding.specs.declared.Holding.{Holding}
-use Rattle.holding.specs.Kth.{narrow}
+use Rattle.holding.specs.Kth.{narrow, below}
 use Rattle.holding.specs.Pictures.{sound}
 use Rattle.holding.specs.Testing.{tested}
 use Rattle.holding.proofs.SoundTested.{sound-tested}
@@ -22,7 +22,7 @@ as-long xs n e = sym (length-map xs _) ∙ e
 
 -- 16 bits each, by their type
 pub narrow-typed : (xs : List ℕ) → WTs (ofList (map (u16-laws .val) (map (λ x. x) xs))) → narrow 16 xs ≡ true
-unfolding narrow
+unfolding below
 narrow-typed [] w = refl
 narrow-typed (x ∷ xs) w = true-and (lt-ltb x (2 ^ 16) (w .0 .fits)) (narrow-typed xs (w .1))
 

@@ -24,7 +24,7 @@ use Rattle.holding.specs.Testing.{slotFits, emptySlots, emptyRows, slots
 use Rattle.holding.proofs.Places.{ones-places}
 use Rattle.holding.proofs.PicturedRows.{length-satellites}
 use Rattle.holding.proofs.PicturedSame.{sameHolding-refl}
-use Rattle.holding.proofs.Kths.{narrow-at}
+use Rattle.holding.proofs.Highest.{below-at}
 use Rattle.holding.proofs.OneSlot.{number-mask, narrow-drop, After, satellites-snoc, cells-snoc, fits}
 
 -- ---- filled lists
@@ -167,7 +167,7 @@ says nsat ncell (suc m) (suc n) before named a c ids sats signals flags rows roo
     let k = ones sat in
     let s = systemOf id sat signal flag rows in
     let parts = and-true (slotFits named a c id sat signal flag rows) _ e in
-    let fine : signal < 2 ^ 16 = narrow-at 16 signals small 0 (omega (arith, l .signals)) in
+    let fine : signal < 2 ^ 16 = below-at (2 ^ 16) signals small 0 (omega (arith, l .signals)) in
     let f = fits before named a c id sat signal flag rows after whole fine thin (parts .0) in
     let count : k ≡ length (placesFrom 0 (spell 40 sat)) = ones-places 40 sat 0 (f .low) in
     let left : length (drop k rows) ≡ length rows - k = length-drop k rows in

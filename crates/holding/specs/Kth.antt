@@ -22,10 +22,13 @@ spots w k (row ∷ rows) = spotsAt k (placesFrom 0 (spell w row)) ++ spots w (su
 abbrev pub nowhere : Spot
 nowhere = record { row = 0; place = 0 }
 
--- no mask has more than w bits
-unfoldable pub narrow : ℕ → List ℕ → Bool
-narrow w [] = true
-narrow w (n ∷ ns) = ltb n (2 ^ w) && narrow w ns
+-- every number is below a bound; no mask has more than w bits
+unfoldable pub below : ℕ → List ℕ → Bool
+below b [] = true
+below b (n ∷ ns) = ltb n b && below b ns
+
+abbrev pub narrow : ℕ → List ℕ → Bool
+narrow w ns = below (2 ^ w) ns
 
 -- ---- of what is held
 

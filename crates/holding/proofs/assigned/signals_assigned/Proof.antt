@@ -1,13 +1,15 @@
 -- `holding::assigned::signals_assigned` meets its contract: the rule over the table. Assumes nothing.
+use mathlib.Core.Path.{refl}
 use borrow.Author.Needs.{needs}
 use Rattle.format.specs.Assigned.{signalPlaces, assigned}
-use Rattle.holding.proofs.Highest.{entry-below}
+use Rattle.holding.specs.Kth.{below}
+use Rattle.holding.proofs.Highest.{below-at}
 use Rattle.holding.proofs.assigned.signals_assigned.Statement.{statement}
 use Rattle.holding.proofs.assigned.signals_assigned.Tie as tie
 
 ends-by-requires : tie.Need-ends-by-requires
-unfolding signalPlaces
-ends-by-requires c κs = (entry-below 16 signalPlaces tt (c .args .id) (c .pre .0), search needs, c .pre .1)
+unfolding below signalPlaces
+ends-by-requires c κs = (below-at 16 signalPlaces refl (c .args .id) (c .pre .0), search needs, c .pre .1)
 
 returns : tie.Need-returns
 unfolding signalPlaces assigned

@@ -8,7 +8,8 @@ use native.Mathlib.Omega.{arith}
 use borrow.Author.Needs.{needs}
 use lib.ListN.{length, getD}
 use Rattle.holding.specs.declared.kth.Spot.{Spot}
-use Rattle.holding.proofs.Kths.{Left, left-all, left-here, left-past, ones-up, spots-up, narrow-at}
+use Rattle.holding.proofs.Highest.{below-at}
+use Rattle.holding.proofs.Kths.{Left, left-all, left-here, left-past, ones-up, spots-up}
 use Rattle.holding.proofs.kth.satellite.Statement.{statement}
 use Rattle.holding.proofs.kth.satellite.Tie as tie
 
@@ -25,7 +26,7 @@ nth-requires : tie.Need-nth-requires Inv-loop μ-loop
 nth-requires c κs =
     let masks : List ℕ = c .before .before .before .before .before .args .masks .now in
     let s = c .before .before .before .loop in
-    let small : getD masks (s .i) 0 < 2 ^ 40 = narrow-at 40 masks (c .before .before .before .before .before .pre .1) (s .i) (s .inv .0) in
+    let small : getD masks (s .i) 0 < 2 ^ 40 = below-at (2 ^ 40) masks (c .before .before .before .before .before .pre .1) (s .i) (s .inv .0) in
     rw (ones-up 40 24 (getD masks (s .i) 0) (omega arith)) (omega (arith, c .before .count .ensures))
 
 returns : tie.Need-returns Inv-loop μ-loop
@@ -33,7 +34,7 @@ returns c =
     let masks : List ℕ = c .before .before .before .before .before .before .args .masks .now in
     let s = c .before .before .before .before .loop in
     let mask : ℕ = getD masks (s .i) 0 in
-    let small : mask < 2 ^ 40 = narrow-at 40 masks (c .before .before .before .before .before .before .pre .1) (s .i) (s .inv .0) in
+    let small : mask < 2 ^ 40 = below-at (2 ^ 40) masks (c .before .before .before .before .before .before .pre .1) (s .i) (s .inv .0) in
     let place = c .nth .ensures ∙ ap (λ (l : List ℕ). getD l (s .left) 0) (spots-up 40 24 mask small (omega arith)) in
     ap (λ (p : ℕ). spot (s .i) p) place ∙ sym (left-here 40 masks _ (s .left) (s .i) (s .inv) small (omega (arith, c .before .before .count .ensures)))
 
@@ -41,7 +42,7 @@ loop-again : tie.Need-loop-again Inv-loop μ-loop
 loop-again c =
     let masks : List ℕ = c .before .before .before .before .before .args .masks .now in
     let s = c .before .before .before .loop in
-    let small : getD masks (s .i) 0 < 2 ^ 40 = narrow-at 40 masks (c .before .before .before .before .before .pre .1) (s .i) (s .inv .0) in
+    let small : getD masks (s .i) 0 < 2 ^ 40 = below-at (2 ^ 40) masks (c .before .before .before .before .before .pre .1) (s .i) (s .inv .0) in
     rw (add-one (s .i), c .before .count .ensures) (left-past 40 masks _ (s .left) (s .i) (s .inv) small (omega (arith, c .before .count .ensures)))
 
 pub satellite-spec : {M : Type 1} → statement M
