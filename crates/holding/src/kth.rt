@@ -2,7 +2,10 @@
 ghost use mathlib.Core.Path.{_≡_};
 ghost use mathlib.Core.Bool.{true};
 ghost use Prim.Native.Nat.{_<_};
+ghost use lib.Count.{ones};
 ghost use lib.ListN.{getD};
+ghost use Rattle.bits.specs.BitLists.{spell};
+ghost use Rattle.format.specs.Masks.{placesFrom};
 ghost use Rattle.holding.specs.Building.{onesIn};
 ghost use Rattle.holding.specs.Kth.{spots, nowhere, narrow};
 use crate::set_places;
@@ -12,6 +15,17 @@ use crate::set_places;
 pub struct Spot {
     pub row: usize,
     pub place: usize,
+}
+
+// The k-th place of a mask that stands at an index, its place 0 moved up to the highest bit of 64.
+fn spot_at(row: usize, word: u64, k: usize) -> Spot
+    requires { ⌜ k < ones word ⌝ }
+    ensures { λ r. ⌜ r ≡ record { row = row; place = getD (placesFrom 0 (spell 64 word)) k 0 } ⌝ }
+{
+    Spot {
+        row,
+        place: set_places::nth(word, k),
+    }
 }
 
 // The k-th cell: its satellite's index over all systems, and its signal's place.
@@ -25,10 +39,7 @@ pub fn cell(rows: &[u16], k: usize) -> Spot
         let row = rows[i] as u64;
         let n = set_places::count(row);
         if left < n {
-            return Spot {
-                row: i,
-                place: set_places::nth(row << 48, left),
-            };
+            return spot_at(i, row << 48, left);
         }
         left -= n;
         i += 1;
@@ -46,10 +57,7 @@ pub fn satellite(masks: &[u64], k: usize) -> Spot
         let mask = masks[i];
         let n = set_places::count(mask);
         if left < n {
-            return Spot {
-                row: i,
-                place: set_places::nth(mask << 24, left),
-            };
+            return spot_at(i, mask << 24, left);
         }
         left -= n;
         i += 1;

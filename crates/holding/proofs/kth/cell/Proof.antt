@@ -24,8 +24,8 @@ abbrev μ-loop : tie.MeasureT-loop
 cast-row : tie.Need-cast-row Inv-loop μ-loop
 cast-row c = omega (arith, c .shared-slice-known2 .given (c .before .loop .i))
 
-nth-requires : tie.Need-nth-requires Inv-loop μ-loop
-nth-requires c κs =
+spot-at-requires : tie.Need-spot-at-requires Inv-loop μ-loop
+spot-at-requires c κs =
     let rows : List ℕ = c .before .before .before .before .before .args .rows .now in
     let s = c .before .before .before .loop in
     let small : getD rows (s .i) 0 < 2 ^ 16 = c .before .before .shared-slice-known2 .given (s .i) .fits in
@@ -37,8 +37,8 @@ returns c =
     let s = c .before .before .before .before .loop in
     let row : ℕ = getD rows (s .i) 0 in
     let small : row < 2 ^ 16 = c .before .before .before .shared-slice-known2 .given (s .i) .fits in
-    let place = c .nth .ensures ∙ ap (λ (l : List ℕ). getD l (s .left) 0) (spots-up 16 48 row small (omega arith)) in
-    ap (λ (p : ℕ). spot (s .i) p) place ∙ sym (left-here 16 rows _ (s .left) (s .i) (s .inv) small (omega (arith, c .before .before .count .ensures)))
+    let same = ap (λ (l : List ℕ). spot (s .i) (getD l (s .left) 0)) (spots-up 16 48 row small (omega arith)) in
+    c .spot-at .ensures ∙ same ∙ sym (left-here 16 rows _ (s .left) (s .i) (s .inv) small (omega (arith, c .before .before .count .ensures)))
 
 loop-again : tie.Need-loop-again Inv-loop μ-loop
 loop-again c =
@@ -58,7 +58,7 @@ cell-spec =
     (λ c. search needs)
     cast-row
     (λ c κs. search needs)
-    nth-requires
+    spot-at-requires
     returns
     (λ c. omega arith)
     (λ c. omega arith)

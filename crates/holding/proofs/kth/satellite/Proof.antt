@@ -22,8 +22,8 @@ Inv-loop masks k left₀ i₀ left i = Left 40 masks k left i
 abbrev μ-loop : tie.MeasureT-loop
 μ-loop masks k left₀ i₀ left i = length masks - i
 
-nth-requires : tie.Need-nth-requires Inv-loop μ-loop
-nth-requires c κs =
+spot-at-requires : tie.Need-spot-at-requires Inv-loop μ-loop
+spot-at-requires c κs =
     let masks : List ℕ = c .before .before .before .before .before .args .masks .now in
     let s = c .before .before .before .loop in
     let small : getD masks (s .i) 0 < 2 ^ 40 = below-at (2 ^ 40) masks (c .before .before .before .before .before .pre .1) (s .i) (s .inv .0) in
@@ -35,8 +35,8 @@ returns c =
     let s = c .before .before .before .before .loop in
     let mask : ℕ = getD masks (s .i) 0 in
     let small : mask < 2 ^ 40 = below-at (2 ^ 40) masks (c .before .before .before .before .before .before .pre .1) (s .i) (s .inv .0) in
-    let place = c .nth .ensures ∙ ap (λ (l : List ℕ). getD l (s .left) 0) (spots-up 40 24 mask small (omega arith)) in
-    ap (λ (p : ℕ). spot (s .i) p) place ∙ sym (left-here 40 masks _ (s .left) (s .i) (s .inv) small (omega (arith, c .before .before .count .ensures)))
+    let same = ap (λ (l : List ℕ). spot (s .i) (getD l (s .left) 0)) (spots-up 40 24 mask small (omega arith)) in
+    c .spot-at .ensures ∙ same ∙ sym (left-here 40 masks _ (s .left) (s .i) (s .inv) small (omega (arith, c .before .before .count .ensures)))
 
 loop-again : tie.Need-loop-again Inv-loop μ-loop
 loop-again c =
@@ -55,7 +55,7 @@ satellite-spec =
     (λ c. search needs)
     (λ c. search needs)
     (λ c κs. search needs)
-    nth-requires
+    spot-at-requires
     returns
     (λ c. omega arith)
     (λ c. omega arith)
