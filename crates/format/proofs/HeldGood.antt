@@ -4,13 +4,11 @@ use mathlib.Core.Bool.{Bool, true}
 use mathlib.Core.List.{List}
 use Prim.Native.Nat.{ℕ}
 use lib.IntN.{ℤ}
-use lib.ListN.{take, drop}
-use Rattle.bits.specs.BitLists.{bits}
 use Rattle.format.specs.declared.Refusal.the-variants.{SubType}
 use Rattle.format.specs.Good.{good}
 use Rattle.format.specs.Masks.{Held, mask}
 use Rattle.format.specs.Programs.{well, run}
-use Rattle.format.specs.Reading.{reading, heldAfter}
+use Rattle.format.specs.Reading.{bitsFrom, reading, heldAfter}
 use Rattle.format.specs.Table.{Message, Kind, other, free, masked, adopts, alone, kinds, table, byKind, message}
 use Rattle.format.proofs.Makes.{makes-good}
 use Rattle.format.proofs.Steps.{Gives, gives-done, gives-refuse, gives-bind}
@@ -49,4 +47,4 @@ stays-good held fine = message-stays held fine .gives
 pub reading-good : (held : Held) (bytes : List ℕ) (end start : ℕ) (rows : List ℤ) → good held ≡ true → good (heldAfter (reading true held bytes end start rows)) ≡ true
 unfolding heldAfter
 reading-good held bytes stop start rows fine =
-    reading-ends (λ o. good (heldAfter o) ≡ true) held (λ r missing. fine) true bytes stop start rows fine (stays-good held fine (drop start (take stop (bits bytes))))
+    reading-ends (λ o. good (heldAfter o) ≡ true) held (λ r missing. fine) true bytes stop start rows fine (stays-good held fine (bitsFrom bytes stop start))

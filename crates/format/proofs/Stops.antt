@@ -5,14 +5,13 @@ use mathlib.Core.List.{List}
 use Prim.Native.Nat.{ℕ, _+_}
 use lib.Dec.{leb}
 use lib.IntN.{ℤ}
-use lib.ListN.{length, take, drop}
-use Rattle.bits.specs.BitLists.{bits}
+use lib.ListN.{length}
 use Rattle.format.specs.declared.Refusal.{Refusal}
 use Rattle.format.specs.declared.Refusal.the-variants.{Room, Place, Value}
 use Rattle.format.specs.Assigned.{blank}
 use Rattle.format.specs.Masks.{Held}
 use Rattle.format.specs.Programs.{Ended, well, badly, run}
-use Rattle.format.specs.Reading.{rowRoom, Outcome, accepted, idle, refused, endedAt, readFrom, placed, reading, heldAfter, rowsAfter}
+use Rattle.format.specs.Reading.{rowRoom, Outcome, accepted, idle, refused, endedAt, readFrom, bitsFrom, placed, reading, heldAfter, rowsAfter}
 use Rattle.format.specs.Table.{Message, message}
 
 -- ---- how a reading ends
@@ -33,11 +32,11 @@ module _ (P : Outcome → Type 0) where
     -- what holds of stops that keep the holding, and of whatever message is read, holds of a reading
     pub reading-ends :
         (sound : Bool) (bytes : List ℕ) (end start : ℕ) (rows : List ℤ) → P (idle held)
-        → ((m : Message) (taken : ℕ) → run (message held) (drop start (take end (bits bytes))) ≡ well m taken → P (accepted m (start + taken)))
+        → ((m : Message) (taken : ℕ) → run (message held) (bitsFrom bytes end start) ≡ well m taken → P (accepted m (start + taken)))
         → P (reading sound held bytes end start rows)
     unfolding reading readFrom
     reading-ends sound bytes end start rows none said =
-        let l : List Bool = drop start (take end (bits bytes)) in
+        let l : List Bool = bitsFrom bytes end start in
         branch (leb rowRoom (length rows)) _ _
         (branch (placed bytes end start) _ _ (branch sound _ _ (branch (blank l) _ _ none (ended start (run (message held) l) said)) (stop Value 0)) (stop Place 0))
         (stop Room 0)

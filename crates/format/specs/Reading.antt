@@ -37,6 +37,10 @@ endedAt held place (badly r missing) = refused r missing held
 unfoldable pub readFrom : Held → ℕ → List Bool → Outcome
 readFrom held place l = cond (blank l) (idle held) (endedAt held place (run (message held) l))
 
+-- the bits of a string from a place on, up to the end
+unfoldable pub bitsFrom : List ℕ → ℕ → ℕ → List Bool
+bitsFrom bytes end place = drop place (take end (bits bytes))
+
 -- a stretch and a start in it
 unfoldable pub placed : List ℕ → ℕ → ℕ → Bool
 placed bytes end start = leb end stretchLimit && (leb end (8 * length bytes) && leb start end)
@@ -46,7 +50,7 @@ unfoldable pub reading : Bool → Held → List ℕ → ℕ → ℕ → List ℤ
 reading sound held bytes end start rows =
     cond (leb rowRoom (length rows))
     (cond (placed bytes end start)
-    (cond sound (readFrom held start (drop start (take end (bits bytes)))) (refused Value 0 held))
+    (cond sound (readFrom held start (bitsFrom bytes end start)) (refused Value 0 held))
     (refused Place 0 held))
     (refused Room 0 held)
 

@@ -1,0 +1,46 @@
+/* Hundurzek for C: one Compact SSR message at a time. docs/HOST.md fixes, byte by byte, how a holding and
+   rows pass, and what each function answers for every input. A slice is a pointer and a count; the
+   pointer of a slice of no elements may point anywhere but must not be null. */
+#ifndef HUNDURZEK_H
+#define HUNDURZEK_H
+
+#include <stddef.h>
+#include <stdint.h>
+
+/* Bytes of a holding, numbers of a row, the numbers that a row buffer needs, and what isn't there. */
+#define HUNDURZEK_HOLDING 194
+#define HUNDURZEK_ROW 8
+#define HUNDURZEK_ROOM 2048
+#define HUNDURZEK_ABSENT (-32768)
+
+/* The answer to reading that is a message; 0 to 12 are document 01's numbers. */
+#define HUNDURZEK_MESSAGE 13
+
+typedef struct {
+  int32_t subtype;
+  int32_t epoch;
+  int32_t interval;
+  int32_t indicator;
+  int32_t iod;
+  int32_t a;
+  int32_t b;
+  int32_t c;
+} hundurzek_head;
+
+typedef struct {
+  uint64_t answer;    /* 0 to 12, or HUNDURZEK_MESSAGE */
+  size_t place;       /* after the message; else the start asked for */
+  size_t rows;        /* of the message; else 0 */
+  size_t raw_offset;  /* the message's raw bytes: where they begin in the stretch, */
+  size_t raw_count;   /* and how many; else 0 and 0 */
+  hundurzek_head head; /* of the message; else eight times HUNDURZEK_ABSENT */
+} hundurzek_reading;
+
+/* Makes the empty holding: 0, or 1 and nothing changed where fewer than HUNDURZEK_HOLDING bytes are lent. */
+uint64_t hundurzek_empty(uint8_t *holding, size_t holding_count);
+
+/* Reads the message at bit place start of a stretch of end bits. */
+hundurzek_reading hundurzek_read(uint8_t *holding, size_t holding_count, const uint8_t *bytes, size_t count, size_t end,
+                                 size_t start, int32_t *rows, size_t row_count);
+
+#endif
