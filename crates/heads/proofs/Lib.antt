@@ -1,2 +1,3 @@
 pub mod Openings
 pub mod Parts
+pub mod Chosen

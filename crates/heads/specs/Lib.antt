@@ -1,1 +1,3 @@
 pub mod Openings
+pub mod Lines
+pub mod Headings
