@@ -1,15 +1,19 @@
 -- What a message says before its body, by places of a byte string: its head, which lines its body has, and where the body begins.
 -- proofs/Headed.antt shows that crate format's programs run there as this says.
-use mathlib.Core.Bool.{Bool, true, false, cond}
+use mathlib.Core.Bool.{Bool, true, false, cond, _&&_}
 use mathlib.Core.List.{List}
-use Prim.Native.Nat.{ℕ, suc, _+_, _-_, _*_, _/_, _%_, _^_}
-use lib.Dec.{eqb, ltb}
+use Prim.Native.Nat.{ℕ, zero, suc, _+_, _-_, _*_, _/_, _%_, _^_}
+use lib.Dec.{eqb, leb, ltb}
 use lib.IntN.{ℤ, pos}
+use lib.ListN.{take}
 use Rattle.bits.specs.Places.{field}
 use Rattle.format.specs.declared.Head.{Head}
 use Rattle.format.specs.declared.Refusal.the-variants as Refusal
+use Rattle.format.specs.Masks.{Held, nothing, mask}
 use Rattle.format.specs.Messages as Messages
-use Rattle.format.specs.Rows.{absent}
+use Rattle.format.specs.Reading.{Outcome, accepted, refused, bitsFrom}
+use Rattle.format.specs.Rows.{absent, bodyWidth, rowsOf}
+use Rattle.format.specs.Table.{Message}
 use Rattle.heads.specs.declared.CommonHead.{CommonHead}
 use Rattle.heads.specs.declared.Opened.{Opened}
 use Rattle.heads.specs.declared.Opened.the-variants as Opened
@@ -17,6 +21,7 @@ use Rattle.heads.specs.declared.lines.Lines.{Lines}
 use Rattle.heads.specs.declared.lines.Lines.the-variants.{Orbits, Clocks, Codes, Phases, Combined, Packet}
 use Rattle.heads.specs.declared.heading.Heading.{Heading}
 use Rattle.heads.specs.declared.heading.Heading.the-variants.{Rows, Refused}
+use Rattle.heads.specs.Lines.{linesOf}
 use Rattle.heads.specs.Openings.{commonAt, commonOf}
 
 -- the eight numbers, from the common head
@@ -56,6 +61,14 @@ combinedAt n bs end place h =
 
 -- ---- the gate after IOD SSR: 6, then 7. Held are n satellites under an issue, or nothing
 
+unfoldable pub isHeld : Held → Bool
+isHeld nothing = false
+isHeld (mask m) = true
+
+unfoldable pub issueOf : Held → ℕ
+issueOf nothing = 0
+issueOf (mask m) = m .iod
+
 unfoldable pub gatedAt : Bool → ℕ → ℕ → ℕ → List ℕ → ℕ → ℕ → CommonHead → Heading
 gatedAt held iod n subType bs end place h =
     cond held
@@ -63,6 +76,10 @@ gatedAt held iod n subType bs end place h =
     (cond (eqb subType 11) (combinedAt n bs end place h) (Rows (headWith subType h absent absent absent) (linesAlone subType) place))
     (Refused Refusal.OtherIssue 0))
     (Refused Refusal.NoMask 0)
+
+-- sub types 2, 3, 4, 5 and 11 are read under the mask
+unfoldable pub isMasked : ℕ → Bool
+isMasked subType = cond (eqb subType 11) true (leb 2 subType && leb subType 5)
 
 -- after the common head
 unfoldable pub maskedBy : Bool → ℕ → ℕ → ℕ → List ℕ → ℕ → ℕ → Opened → Heading
@@ -87,3 +104,17 @@ packetAt bs end place =
     { subtype = pos 10; epoch = absent; interval = absent; indicator = pos (field bs place 1); iod = absent; a = pos (field bs (place + 1) 3); b = pos size; c = absent })
     (Packet (suc size))
     (place + 6))
+
+-- ---- what reading comes to, from what a message says before its body
+
+-- by how many bits of the body are missing
+unfoldable pub bodied : Held → Message → ℕ → ℕ → Outcome
+bodied held m next zero = accepted m next
+bodied held m next (suc missing) = refused Refusal.Short (suc missing) held
+
+unfoldable pub headedBy : Held → List ℕ → ℕ → Heading → Outcome
+headedBy held bs end (Rows head lines at) =
+    let ls = linesOf held lines in
+    let w = bodyWidth ls in
+    bodied held (record { content = record { head = head; rows = rowsOf ls (take w (bitsFrom bs end at)) }; after = held }) (at + w) (w - (end - at))
+headedBy held bs end (Refused r missing) = refused r missing held
