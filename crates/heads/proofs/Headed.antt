@@ -1,6 +1,6 @@
 -- Crate format's programs of sub types 2, 3, 4, 5, 10 and 11 run as the heading at their place says.
 -- Assumes nothing.
-use mathlib.Core.Path.{_≡_, refl, sym, ap, _∙_}
+use mathlib.Core.Path.{_≡_, refl, ap, _∙_}
 use mathlib.Core.Bool.{Bool, true, false, cond}
 use mathlib.Core.List.{List}
 use Prim.Native.Nat.{ℕ, zero, suc, _+_, _-_, _*_, _≤_, _<_}
@@ -11,7 +11,6 @@ use lib.IntN.{pos}
 use lib.ListN.{length}
 use borrow.Author.Tests.{eqb-true, lt-ltb, le-ltb, lt-leb, le-leb}
 use Rattle.bits.specs.Places.{field}
-use Rattle.format.specs.declared.Refusal.the-variants as Refusal
 use Rattle.format.specs.Masks.{Mask, Held, nothing, mask, satellites}
 use Rattle.format.specs.Messages.{Content, Common, common, body, headOf, rowsAlone, combined, packetLines, packet}
 use Rattle.format.specs.Programs.{Program, done, _>>=_, _>>_, numbered, require, later, run}

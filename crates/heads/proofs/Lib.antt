@@ -5,3 +5,4 @@ pub mod Bodied
 pub mod Picked
 pub mod Networks
 pub mod Headed
+pub mod Sorted

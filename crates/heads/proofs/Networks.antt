@@ -1,21 +1,21 @@
 -- Sub type 11 after the gate: crate format's program runs as the flags, the network and its selection at its place say.
 -- Assumes nothing.
-use mathlib.Core.Path.{_≡_, refl, sym, ap, _∙_}
+use mathlib.Core.Path.{_≡_, refl, ap, _∙_}
 use mathlib.Core.Bool.{Bool, true, false, cond, not}
 use mathlib.Core.List.{List}
 use Prim.Native.Nat.{ℕ, zero, suc, _+_, _-_, _*_, _^_, _≤_, _<_}
 use native.Mathlib.Decide.{decLt}
 use native.Mathlib.Omega.{arith}
 use lib.Dec.{eqb}
-use lib.IntN.{ℤ, pos}
+use lib.IntN.{pos}
 use lib.ListN.{length}
 use borrow.Author.Tests.{lt-ltb, le-ltb}
 use Rattle.bits.specs.BitLists.{spell}
 use Rattle.bits.specs.Places.{field}
 use Rattle.bits.proofs.Fields.{field-lt}
 use Rattle.format.specs.declared.Refusal.the-variants as Refusal
-use Rattle.format.specs.Masks.{Mask, Held, nothing, mask, Satellite, pick, satellites}
-use Rattle.format.specs.Messages.{Content, Common, body, headOf, satelliteLines, combinedShape, Selected, selection, combined}
+use Rattle.format.specs.Masks.{Mask, nothing, mask, Satellite, pick, satellites}
+use Rattle.format.specs.Messages.{Content, body, headOf, satelliteLines, combinedShape, Selected, selection, combined}
 use Rattle.format.specs.Programs.{Program, done, _>>=_, _>>_, taking, numbered, require, later, run}
 use Rattle.format.specs.Reading.{endedAt, bitsFrom}
 use Rattle.format.specs.Rows.{absent}
@@ -25,7 +25,7 @@ use Rattle.heads.specs.declared.CommonHead.{CommonHead}
 use Rattle.heads.specs.declared.heading.Heading.the-variants.{Rows}
 use Rattle.heads.specs.declared.lines.Lines.the-variants.{Combined}
 use Rattle.heads.specs.Headings.{headWith, chosenAt, selectionAt, combinedAt, headedBy}
-use Rattle.heads.specs.Lines.{shapeFor, linesOf}
+use Rattle.heads.specs.Lines.{linesOf}
 use Rattle.heads.specs.Openings.{commonOf}
 use Rattle.holding.specs.Kth.{satellitesHeld}
 use Rattle.heads.proofs.Bodied.{ended-later, ended-body}

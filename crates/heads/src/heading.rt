@@ -2,7 +2,6 @@
 // refusal on the way there (document 01, "Reader's order").
 ghost use mathlib.Core.Path.{_≡_};
 ghost use Prim.Native.Nat.{_^_, _≤_, _<_};
-ghost use lib.IntN.{pos};
 ghost use Rattle.heads.specs.Openings.{Small};
 ghost use Rattle.heads.specs.Headings.{headWith, linesAlone, chosenAt, selectionAt, combinedAt, gatedAt, maskedAt, packetShort, packetAt};
 use crate::CommonHead;
