@@ -1,0 +1,2 @@
+// How a holding passes as bytes (docs/HOST.md): out of a lent slice, and into one.
+pub mod take;
