@@ -1,1 +1,2 @@
 pub mod Littles
+pub mod Parts

@@ -1,12 +1,12 @@
 -- Numbers of bytes, the least byte first, by places. Assumes nothing.
-use mathlib.Core.Path.{_≡_, refl, ap}
+use mathlib.Core.Path.{_≡_, refl, sym, ap, _∙_}
 use mathlib.Core.Bool.{Bool, true, false, _&&_}
 use mathlib.Core.List.{List, [], _∷_, _++_}
 use Prim.Native.Nat.{ℕ, zero, suc, _+_, _*_, _^_, _≤_}
 use native.Mathlib.Nat.{add-zero}
 use native.Mathlib.Omega.{arith}
 use lib.ListN.{length, getD, drop, take}
-use lib.Seq.{drop-cons, drop-drop, getD-drop}
+use lib.Seq.{take-all, drop-cons, drop-drop, getD-drop}
 use Rattle.passing.specs.Bytes.{little, littles}
 
 -- the number from a byte on: that byte, and 256 times the number from the next on
@@ -46,18 +46,22 @@ long-at bs i =
     )
 
 -- five elements from one on
-pub five : (bs : List ℕ) (i : ℕ) → i + 5 ≤ length bs
-    → take 5 (drop i bs) ≡ getD bs i 0 ∷ getD bs (i + 1) 0 ∷ getD bs (i + 2) 0 ∷ getD bs (i + 3) 0 ∷ getD bs (i + 4) 0 ∷ []
-five bs i room =
+pub five : {A : Type 0} (d : A) (l : List A) (i : ℕ) → i + 5 ≤ length l
+    → take 5 (drop i l) ≡ getD l i d ∷ getD l (i + 1) d ∷ getD l (i + 2) d ∷ getD l (i + 3) d ∷ getD l (i + 4) d ∷ []
+five d l i room =
     let e₁ : suc i ≡ i + 1 = omega arith in
     let e₂ : suc (i + 1) ≡ i + 2 = omega arith in
     let e₃ : suc (i + 2) ≡ i + 3 = omega arith in
     let e₄ : suc (i + 3) ≡ i + 4 = omega arith in
-    let d₀ = rw e₁ at (drop-cons bs i 0 (omega arith)) in
-    let d₁ = rw e₂ at (drop-cons bs (i + 1) 0 (omega arith)) in
-    let d₂ = rw e₃ at (drop-cons bs (i + 2) 0 (omega arith)) in
-    let d₃ = rw e₄ at (drop-cons bs (i + 3) 0 (omega arith)) in
-    rw (d₀, d₁, d₂, d₃, drop-cons bs (i + 4) 0 (omega arith))
+    let d₀ = rw e₁ at (drop-cons l i d (omega arith)) in
+    let d₁ = rw e₂ at (drop-cons l (i + 1) d (omega arith)) in
+    let d₂ = rw e₃ at (drop-cons l (i + 2) d (omega arith)) in
+    let d₃ = rw e₄ at (drop-cons l (i + 3) d (omega arith)) in
+    rw (d₀, d₁, d₂, d₃, drop-cons l (i + 4) d (omega arith))
+
+-- and all of five
+pub all-five : {A : Type 0} (d : A) (l : List A) → length l ≡ 5 → getD l 0 d ∷ getD l 1 d ∷ getD l 2 d ∷ getD l 3 d ∷ getD l 4 d ∷ [] ≡ l
+all-five d l e = sym (five d l 0 (omega arith)) ∙ take-all 5 l (omega arith)
 
 -- five numbers from a byte on
 pub five-littles : (k : ℕ) (bs : List ℕ) (i : ℕ)

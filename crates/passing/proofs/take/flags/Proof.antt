@@ -12,7 +12,7 @@ use Rattle.passing.proofs.take.flags.Tie as tie
 
 returns : tie.Need-returns
 unfolding truth
-returns c = ap (λ (l : List ℕ). map truth l) (sym (five (c .before .before .before .before .before .args .bytes .now) 11 (omega arith)))
+returns c = ap (λ (l : List ℕ). map truth l) (sym (five 0 (c .before .before .before .before .before .args .bytes .now) 11 (omega arith)))
 
 pub flags-spec : {M : Type 1} → statement M
 flags-spec =

@@ -8,7 +8,7 @@ use Rattle.passing.proofs.take.ids.Statement.{statement}
 use Rattle.passing.proofs.take.ids.Tie as tie
 
 returns : tie.Need-returns
-returns c = sym (five (c .before .before .before .before .before .args .bytes .now) 6 (omega arith))
+returns c = sym (five 0 (c .before .before .before .before .before .args .bytes .now) 6 (omega arith))
 
 pub ids-spec : {M : Type 1} → statement M
 ids-spec =

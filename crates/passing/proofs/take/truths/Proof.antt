@@ -15,31 +15,31 @@ returns : tie.Need-returns
 unfolding truths
 returns c =
     let bs = c .before .before .args .bytes .now in
-    rw (five bs 11 (omega arith), lt-leb (getD bs 11 0) 1 (omega arith))
+    rw (five 0 bs 11 (omega arith), lt-leb (getD bs 11 0) 1 (omega arith))
 
 returns-2 : tie.Need-returns-2
 unfolding truths
 returns-2 c =
     let bs = c .before .before .before .before .args .bytes .now in
-    rw (five bs 11 (omega arith), le-leb (getD bs 11 0) 1 (omega arith), lt-leb (getD bs 12 0) 1 (omega arith))
+    rw (five 0 bs 11 (omega arith), le-leb (getD bs 11 0) 1 (omega arith), lt-leb (getD bs 12 0) 1 (omega arith))
 
 returns-3 : tie.Need-returns-3
 unfolding truths
 returns-3 c =
     let bs = c .before .before .before .before .before .before .args .bytes .now in
-    rw (five bs 11 (omega arith), le-leb (getD bs 11 0) 1 (omega arith), le-leb (getD bs 12 0) 1 (omega arith), lt-leb (getD bs 13 0) 1 (omega arith))
+    rw (five 0 bs 11 (omega arith), le-leb (getD bs 11 0) 1 (omega arith), le-leb (getD bs 12 0) 1 (omega arith), lt-leb (getD bs 13 0) 1 (omega arith))
 
 returns-4 : tie.Need-returns-4
 unfolding truths
 returns-4 c =
     let bs = c .before .before .before .before .before .before .before .before .args .bytes .now in
-    rw (five bs 11 (omega arith), le-leb (getD bs 11 0) 1 (omega arith), le-leb (getD bs 12 0) 1 (omega arith), le-leb (getD bs 13 0) 1 (omega arith), lt-leb (getD bs 14 0) 1 (omega arith))
+    rw (five 0 bs 11 (omega arith), le-leb (getD bs 11 0) 1 (omega arith), le-leb (getD bs 12 0) 1 (omega arith), le-leb (getD bs 13 0) 1 (omega arith), lt-leb (getD bs 14 0) 1 (omega arith))
 
 returns-5 : tie.Need-returns-5
 unfolding truths
 returns-5 c =
     let bs = c .before .before .before .before .before .before .before .before .before .args .bytes .now in
-    rw (five bs 11 (omega arith), le-leb (getD bs 11 0) 1 (omega arith), le-leb (getD bs 12 0) 1 (omega arith), le-leb (getD bs 13 0) 1 (omega arith), le-leb (getD bs 14 0) 1 (omega arith)) (sym (and-last (leb (getD bs 15 0) 1)))
+    rw (five 0 bs 11 (omega arith), le-leb (getD bs 11 0) 1 (omega arith), le-leb (getD bs 12 0) 1 (omega arith), le-leb (getD bs 13 0) 1 (omega arith), le-leb (getD bs 14 0) 1 (omega arith)) (sym (and-last (leb (getD bs 15 0) 1)))
 
 pub truths-spec : {M : Type 1} → statement M
 truths-spec =
