@@ -1,10 +1,12 @@
 // A holding into lent bytes.
 ghost use mathlib.Core.Path.{_≡_};
-ghost use mathlib.Core.List.{_∷_, map};
+ghost use mathlib.Core.Bool.{true};
+ghost use mathlib.Core.List.{_∷_, _++_, map};
 ghost use Prim.Native.Nat.{_*_, _^_, _≤_, _<_};
 ghost use lib.ListN.{length};
 ghost use Rattle.bits.specs.BitLists.{digit};
 ghost use Rattle.format.specs.Reading.{over};
+ghost use Rattle.holding.specs.Pictures.{sound};
 ghost use Rattle.passing.specs.Bytes.{parts, partsOf};
 ghost use Rattle.passing.specs.Passing.{bytesOf};
 use holding::Holding;
@@ -91,20 +93,43 @@ fn flags(part: &mut [u8], flags: &[bool])
     part[4] = flags[4] as u8;
 }
 
+// Both of these, by system; and the masks.
+fn names(part: &mut [u8], all: &[u8], marks: &[bool])
+    requires { ⌜ (length (now part) ≡ 10) × (length (now all) ≡ 5) × (length (now marks) ≡ 5) ⌝ }
+    ensures { λ _. ⌜ now (part .exit) ≡ now (all .entry) ++ map digit (now (marks .entry)) ⌝ }
+{
+    ids(&mut part[0..5], all);
+    flags(&mut part[5..10], marks);
+}
+
+fn masks(part: &mut [u8], signals: &[u16], satellites: &[u64])
+    requires { ⌜ (length (now part) ≡ 50) × (length (now signals) ≡ 5) × (length (now satellites) ≡ 5) ⌝ }
+    ensures { λ _. ⌜ now (part .exit) ≡ partsOf 2 (now (signals .entry)) ++ partsOf 8 (now (satellites .entry)) ⌝ }
+{
+    words(&mut part[0..10], signals);
+    longs(&mut part[10..50], satellites);
+}
+
+// All that stands by system.
+fn systems(part: &mut [u8], all: &[u8], marks: &[bool], signals: &[u16], satellites: &[u64])
+    requires { ⌜ (length (now part) ≡ 60) × (length (now all) ≡ 5) × (length (now marks) ≡ 5) × (length (now signals) ≡ 5) × (length (now satellites) ≡ 5) ⌝ }
+    ensures { λ _. ⌜ now (part .exit) ≡ now (all .entry) ++ (map digit (now (marks .entry)) ++ (partsOf 2 (now (signals .entry)) ++ partsOf 8 (now (satellites .entry)))) ⌝ }
+{
+    names(&mut part[0..10], all, marks);
+    masks(&mut part[10..60], signals, satellites);
+}
+
 // A holding over the first 194 bytes.
 pub fn holding_over(bytes: &mut [u8], h: Holding)
-    requires { ⌜ (194 ≤ length (now bytes)) × (h .count < 256) × (h .nsat < 256) × (h .ncell < 2 ^ 16) ⌝ }
+    requires { ⌜ (194 ≤ length (now bytes)) × (sound h ≡ true) ⌝ }
     ensures { λ _. ⌜ now (bytes .exit) ≡ over (bytesOf h) (now (bytes .entry)) ⌝ }
 {
     let all = h.ids;
-    let masks = h.satellites;
-    let codes = h.signals;
     let marks = h.flags;
+    let signals = h.signals;
+    let satellites = h.satellites;
     let rows = h.cells;
     start(&mut bytes[0..6], h.held, h.iod, h.count, h.nsat, h.ncell);
-    ids(&mut bytes[6..11], &all);
-    flags(&mut bytes[11..16], &marks);
-    words(&mut bytes[16..26], &codes);
-    longs(&mut bytes[26..66], &masks);
+    systems(&mut bytes[6..66], &all, &marks, &signals, &satellites);
     words(&mut bytes[66..194], &rows);
 }
