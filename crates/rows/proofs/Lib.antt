@@ -1,1 +1,3 @@
+pub mod Columns
 pub mod RowsAt
+pub mod Stored
