@@ -1,3 +1,4 @@
 pub mod Columns
+pub mod Cuts
 pub mod RowsAt
 pub mod Stored

@@ -63,6 +63,7 @@ fn wide(row: &mut [i32], system: i32, satellite: i32, signal: i32, bytes: &[u8],
     requires { ⌜ (length (now row) ≡ 8) × (at < 2 ^ 32) × FormedShape shape ⌝ }
     ensures { λ _. ⌜ now (row .exit) ≡ system ∷ satellite ∷ signal ∷ valuesAt (columnsOf shape) (now (bytes .entry)) at ⌝ }
 {
+    let behind = at + shape.v1.width + shape.v2.width + shape.v3.width + shape.v4.width;
     let half = read::window_at(bytes, at / 8) >> 1;
     let first = 63 - at % 8 - shape.v1.width;
     let second = first - shape.v2.width;
@@ -77,7 +78,7 @@ fn wide(row: &mut [i32], system: i32, satellite: i32, signal: i32, bytes: &[u8],
         shape::value(half >> second, shape.v2),
         shape::value(half >> third, shape.v3),
         shape::value(half >> fourth, shape.v4),
-        alone(bytes, at + shape.v1.width + shape.v2.width + shape.v3.width + shape.v4.width, shape.v5),
+        alone(bytes, behind, shape.v5),
     );
 }
 
