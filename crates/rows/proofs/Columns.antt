@@ -20,10 +20,10 @@ use Rattle.rows.specs.At.{valueBy}
 use Rattle.rows.specs.Shapes.{columnFor, columnOf, Formed}
 
 -- a column that numbers can be: a gap, or of 1 to 15 bits
-unfoldable pub Fine : Column → Type 0
-Fine gap = Unit {0}
-Fine (plain w) = (1 ≤ w) × (w ≤ 15)
-Fine (counts w) = (1 ≤ w) × (w ≤ 15)
+pub data Fine : Column → Type 0 where
+  fine-gap : Fine gap
+  fine-plain : (w : ℕ) → 1 ≤ w → w ≤ 15 → Fine (plain w)
+  fine-counts : (w : ℕ) → 1 ≤ w → w ≤ 15 → Fine (counts w)
 
 -- ---- numbers and their column
 
@@ -37,19 +37,19 @@ width-of c = go (eqb (c .width) 0) (eqb (c .half) 0) (eqb-true (c .width) 0)
     go false false e = refl
 
 pub fine-of : (c : CodeColumn) → c .width ≤ 15 → Fine (columnOf c)
-unfolding columnOf Fine
+unfolding columnOf
 fine-of c narrow = go (eqb (c .width) 0) (eqb (c .half) 0) (eqb-false (c .width) 0)
   where
     go : (p q : Bool) → (p ≡ false → c .width ≡ 0 → ⊥) → Fine (cond p gap (cond q (plain (c .width)) (counts (c .width))))
-    go true q e = tt
-    go false true e = let some : ¬ (c .width ≡ 0) = e refl in (omega arith, narrow)
-    go false false e = let some : ¬ (c .width ≡ 0) = e refl in (omega arith, narrow)
+    go true q e = fine-gap
+    go false true e = let some : ¬ (c .width ≡ 0) = e refl in fine-plain (c .width) (omega arith) narrow
+    go false false e = let some : ¬ (c .width ≡ 0) = e refl in fine-counts (c .width) (omega arith) narrow
 
-pub column-back : (k : Column) → Fine k → columnOf (columnFor k) ≡ k
-unfolding columnOf columnFor Fine
-column-back gap fine = refl
-column-back (plain w) fine = rw (ne-eqb w 0 λ e. omega arith)
-column-back (counts w) fine = rw (ne-eqb w 0 λ e. omega arith, ne-eqb (2 ^ (w - 1)) 0 λ e. omega (arith, pow-pos (w - 1)))
+pub column-back : {k : Column} → Fine k → columnOf (columnFor k) ≡ k
+unfolding columnOf columnFor
+column-back fine-gap = refl
+column-back (fine-plain w some few) = rw (ne-eqb w 0 λ e. omega arith)
+column-back (fine-counts w some few) = rw (ne-eqb w 0 λ e. omega arith, ne-eqb (2 ^ (w - 1)) 0 λ e. omega (arith, pow-pos (w - 1)))
 
 pub width-for : (k : Column) → columnFor k .width ≡ widthOf k
 unfolding columnFor widthOf
@@ -57,14 +57,14 @@ width-for gap = refl
 width-for (plain w) = refl
 width-for (counts w) = refl
 
-pub narrow-for : (k : Column) → Fine k → columnFor k .width ≤ 15
-unfolding columnFor Fine
-narrow-for gap fine = omega arith
-narrow-for (plain w) fine = fine .1
-narrow-for (counts w) fine = fine .1
+pub narrow-for : {k : Column} → Fine k → columnFor k .width ≤ 15
+unfolding columnFor
+narrow-for fine-gap = omega arith
+narrow-for (fine-plain w some few) = few
+narrow-for (fine-counts w some few) = few
 
-pub formed-for : (k : Column) → Fine k → Formed (columnFor k)
-formed-for k fine = record { numbers = ap columnFor (column-back k fine); narrow = narrow-for k fine }
+pub formed-for : {k : Column} → Fine k → Formed (columnFor k)
+formed-for fine = record { numbers = ap columnFor (column-back fine); narrow = narrow-for fine }
 
 -- ---- bounds
 
@@ -73,16 +73,16 @@ pub record Bounded (c : CodeColumn) : Type 0 where
   pub mask : c .mask < 2 ^ 15
   pub less : c .less ≤ 2 ^ 15
 
-bounded-for : (k : Column) → Fine k → Bounded (columnFor k)
-unfolding columnFor Fine
-bounded-for gap fine = record { half = omega arith; mask = omega arith; less = omega arith }
-bounded-for (plain w) fine = record { half = omega arith; mask = omega (arith, pow-mono (fine .1), pow-pos w); less = omega arith }
-bounded-for (counts w) fine =
+bounded-for : {k : Column} → Fine k → Bounded (columnFor k)
+unfolding columnFor
+bounded-for fine-gap = record { half = omega arith; mask = omega arith; less = omega arith }
+bounded-for (fine-plain w some few) = record { half = omega arith; mask = omega (arith, pow-mono few, pow-pos w); less = omega arith }
+bounded-for (fine-counts w some few) =
     let low : w - 1 ≤ 14 = omega arith in
-    record { half = pow-mono low; mask = omega (arith, pow-mono (fine .1), pow-pos w); less = omega (arith, pow-mono low) }
+    record { half = pow-mono low; mask = omega (arith, pow-mono few, pow-pos w); less = omega (arith, pow-mono low) }
 
 pub bounded : (c : CodeColumn) → Formed c → Bounded c
-bounded c formed = subst (λ (d : CodeColumn). Bounded d) (formed .numbers) (bounded-for (columnOf c) (fine-of c (formed .narrow)))
+bounded c formed = subst (λ (d : CodeColumn). Bounded d) (formed .numbers) (bounded-for (fine-of c (formed .narrow)))
 
 -- ---- the value
 
@@ -111,18 +111,18 @@ turned w n wide small = go (decLt (n * 2) (2 ^ w))
 unfoldable pub computed : CodeColumn → ℕ → ℤ
 computed c x = pos (bitAnd (x + c .half) (c .mask)) -ℤ pos (c .less)
 
-computed-for : (k : Column) (x : ℕ) → Fine k → computed (columnFor k) x ≡ valueBy k (x % 2 ^ (columnFor k .width))
-unfolding computed columnFor valueBy Fine
-computed-for gap x fine = rw (and-zero-r (x + 0))
-computed-for (plain w) x fine = rw (add-zero x, and-mask x w) (ap pos (omega arith))
-computed-for (counts w) x fine =
+computed-for : {k : Column} (x : ℕ) → Fine k → computed (columnFor k) x ≡ valueBy k (x % 2 ^ (columnFor k .width))
+unfolding computed columnFor valueBy
+computed-for x fine-gap = rw (and-zero-r (x + 0))
+computed-for x (fine-plain w some few) = rw (add-zero x, and-mask x w) (ap pos (omega arith))
+computed-for x (fine-counts w some few) =
     rw (and-mask (x + 2 ^ (w - 1)) w, minus ((x + 2 ^ (w - 1)) % 2 ^ w) (2 ^ (w - 1)), ← (mod-add-mod x (2 ^ w) (2 ^ (w - 1))))
-    (turned w (x % 2 ^ w) (fine .0) (mod-lt x (pow-pos w)))
+    (turned w (x % 2 ^ w) some (mod-lt x (pow-pos w)))
 
 pub value-computed : (c : CodeColumn) (x : ℕ) → Formed c → computed c x ≡ valueBy (columnOf c) (x % 2 ^ (c .width))
 value-computed c x formed =
     subst (λ (d : CodeColumn). computed d x ≡ valueBy (columnOf c) (x % 2 ^ (d .width))) (formed .numbers)
-    (computed-for (columnOf c) x (fine-of c (formed .narrow)))
+    (computed-for x (fine-of c (formed .narrow)))
 
 -- ---- how large it is
 

@@ -11,7 +11,7 @@ use Rattle.format.specs.Messages.{iodeWidth, orbitShape, clockShape, codeShape,
 use Rattle.format.specs.Rows.{Column, gap, plain, counts, widthOf}
 use Rattle.rows.specs.declared.shape.Shape.{Shape}
 use Rattle.rows.specs.Shapes.{columnFor, columnOf, columnsOf, isGap, shapeWith, FormedShape}
-use Rattle.rows.proofs.Columns.{Fine, column-back, width-for, formed-for}
+use Rattle.rows.proofs.Columns.{Fine, fine-gap, fine-plain, fine-counts, column-back, width-for, formed-for}
 
 -- ---- five columns
 
@@ -22,8 +22,8 @@ pub data FineShape : List Column → Type 0 where
 
 pub columns-of : {cs : List Column} → FineShape cs → columnsOf (shapeWith cs) ≡ cs
 unfolding columnsOf shapeWith
-columns-of (five {a} {b} {c} {d} {e} fa fb fc fd fe room) =
-    rw (column-back a fa, column-back b fb, column-back c fc, column-back d fd, column-back e fe)
+columns-of (five fa fb fc fd fe room) =
+    rw (column-back fa, column-back fb, column-back fc, column-back fd, column-back fe)
 
 gap-is : (k : Column) → isGap k ≡ true → columnFor k ≡ columnFor gap
 unfolding isGap
@@ -42,11 +42,11 @@ pub formed-shape : {cs : List Column} → FineShape cs → FormedShape (shapeWit
 unfolding shapeWith
 formed-shape (five {a} {b} {c} {d} {e} fa fb fc fd fe room) =
     record {
-      first = formed-for a fa;
-      second = formed-for b fb;
-      third = formed-for c fc;
-      fourth = formed-for d fd;
-      fifth = formed-for e fe;
+      first = formed-for fa;
+      second = formed-for fb;
+      third = formed-for fc;
+      fourth = formed-for fd;
+      fifth = formed-for fe;
       window = omega (arith, width-for a, width-for b, width-for c, width-for d);
       slim = gaps-are c d e;
     }
@@ -61,7 +61,7 @@ slim-columns s formed narrow =
 
 -- ---- the messages' shapes
 
-fine-iode : (system : ℕ) → (1 ≤ iodeWidth system) × (iodeWidth system ≤ 10)
+pub fine-iode : (system : ℕ) → (1 ≤ iodeWidth system) × (iodeWidth system ≤ 10)
 unfolding iodeWidth
 fine-iode system = go (eqb system 2)
   where
@@ -70,15 +70,15 @@ fine-iode system = go (eqb system 2)
     go false = (omega arith, omega arith)
 
 pub combined-fine : (orbit clock : Bool) (system : ℕ) → FineShape (combinedShape orbit clock system)
-unfolding combinedShape Fine widthOf
+unfolding combinedShape widthOf
 combined-fine true true system =
     let iode = fine-iode system in
-    five (iode .0, omega arith) (omega arith, omega arith) (omega arith, omega arith) (omega arith, omega arith) (omega arith, omega arith) (omega arith)
+    five (fine-plain (iodeWidth system) (iode .0) (omega arith)) (fine-counts 15 (omega arith) (omega arith)) (fine-counts 13 (omega arith) (omega arith)) (fine-counts 13 (omega arith) (omega arith)) (fine-counts 15 (omega arith) (omega arith)) (omega arith)
 combined-fine true false system =
     let iode = fine-iode system in
-    five (iode .0, omega arith) (omega arith, omega arith) (omega arith, omega arith) (omega arith, omega arith) tt (omega arith)
-combined-fine false true system = five tt tt tt tt (omega arith, omega arith) (omega arith)
-combined-fine false false system = five tt tt tt tt tt (omega arith)
+    five (fine-plain (iodeWidth system) (iode .0) (omega arith)) (fine-counts 15 (omega arith) (omega arith)) (fine-counts 13 (omega arith) (omega arith)) (fine-counts 13 (omega arith) (omega arith)) fine-gap (omega arith)
+combined-fine false true system = five fine-gap fine-gap fine-gap fine-gap (fine-counts 15 (omega arith) (omega arith)) (omega arith)
+combined-fine false false system = five fine-gap fine-gap fine-gap fine-gap fine-gap (omega arith)
 
 -- sub type 2's rows are sub type 11's with the orbit flag alone
 pub orbit-combined : (system : ℕ) → orbitShape system ≡ combinedShape true false system
@@ -89,17 +89,17 @@ pub orbit-fine : (system : ℕ) → FineShape (orbitShape system)
 orbit-fine system = rw (orbit-combined system) (combined-fine true false system)
 
 pub clock-fine : (system : ℕ) → FineShape (clockShape system)
-unfolding clockShape Fine widthOf
-clock-fine system = five (omega arith, omega arith) tt tt tt tt (omega arith)
+unfolding clockShape widthOf
+clock-fine system = five (fine-counts 15 (omega arith) (omega arith)) fine-gap fine-gap fine-gap fine-gap (omega arith)
 
 pub code-fine : FineShape codeShape
-unfolding codeShape Fine widthOf
-code-fine = five (omega arith, omega arith) tt tt tt tt (omega arith)
+unfolding codeShape widthOf
+code-fine = five (fine-counts 11 (omega arith) (omega arith)) fine-gap fine-gap fine-gap fine-gap (omega arith)
 
 pub phase-fine : FineShape phaseShape
-unfolding phaseShape Fine widthOf
-phase-fine = five (omega arith, omega arith) (omega arith, omega arith) tt tt tt (omega arith)
+unfolding phaseShape widthOf
+phase-fine = five (fine-counts 15 (omega arith) (omega arith)) (fine-plain 2 (omega arith) (omega arith)) fine-gap fine-gap fine-gap (omega arith)
 
 pub packet-fine : FineShape packetShape
-unfolding packetShape Fine widthOf
-packet-fine = five (omega arith, omega arith) (omega arith, omega arith) (omega arith, omega arith) (omega arith, omega arith) (omega arith, omega arith) (omega arith)
+unfolding packetShape widthOf
+packet-fine = five (fine-plain 8 (omega arith) (omega arith)) (fine-plain 8 (omega arith) (omega arith)) (fine-plain 8 (omega arith) (omega arith)) (fine-plain 8 (omega arith) (omega arith)) (fine-plain 8 (omega arith) (omega arith)) (omega arith)

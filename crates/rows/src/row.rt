@@ -7,10 +7,10 @@ ghost use Rattle.bits.specs.Places.{field};
 ghost use Rattle.format.specs.Rows.{gap};
 ghost use Rattle.rows.specs.At.{valueBy, valuesAt};
 ghost use Rattle.rows.specs.Shapes.{columnOf, columnsOf, Formed, FormedShape};
-use bits::read;
 use crate::shape;
 use crate::shape::Column;
 use crate::shape::Shape;
+use bits::read;
 
 // Eight numbers, stored.
 fn store(row: &mut [i32], a: i32, b: i32, c: i32, d: i32, e: i32, f: i32, g: i32, h: i32)
@@ -38,7 +38,16 @@ fn alone(bytes: &[u8], at: usize, c: Column) -> i32
 
 // A row of two columns and three gaps: both values are cut from one window. The window is halved first, so
 // that a shift by all of it, for a column of no bits at its front, stays below 64.
-fn slim(row: &mut [i32], system: i32, satellite: i32, signal: i32, bytes: &[u8], at: usize, v1: Column, v2: Column)
+fn slim(
+    row: &mut [i32],
+    system: i32,
+    satellite: i32,
+    signal: i32,
+    bytes: &[u8],
+    at: usize,
+    v1: Column,
+    v2: Column,
+)
     requires { ⌜ (length (now row) ≡ 8) × Formed v1 × Formed v2 ⌝ }
     ensures { λ _. ⌜ now (row .exit) ≡ system ∷ satellite ∷ signal ∷ valuesAt (columnOf v1 ∷ columnOf v2 ∷ gap ∷ gap ∷ gap ∷ []) (now (bytes .entry)) at ⌝ }
 {
@@ -59,7 +68,15 @@ fn slim(row: &mut [i32], system: i32, satellite: i32, signal: i32, bytes: &[u8],
 }
 
 // A row of five columns: four values are cut from one window, the last from the one behind them.
-fn wide(row: &mut [i32], system: i32, satellite: i32, signal: i32, bytes: &[u8], at: usize, shape: Shape)
+fn wide(
+    row: &mut [i32],
+    system: i32,
+    satellite: i32,
+    signal: i32,
+    bytes: &[u8],
+    at: usize,
+    shape: Shape,
+)
     requires { ⌜ (length (now row) ≡ 8) × (at < 2 ^ 32) × FormedShape shape ⌝ }
     ensures { λ _. ⌜ now (row .exit) ≡ system ∷ satellite ∷ signal ∷ valuesAt (columnsOf shape) (now (bytes .entry)) at ⌝ }
 {
@@ -83,7 +100,15 @@ fn wide(row: &mut [i32], system: i32, satellite: i32, signal: i32, bytes: &[u8],
 }
 
 // A row of a shape at a place, into a part of eight numbers.
-pub fn put(row: &mut [i32], system: i32, satellite: i32, signal: i32, bytes: &[u8], at: usize, shape: Shape)
+pub fn put(
+    row: &mut [i32],
+    system: i32,
+    satellite: i32,
+    signal: i32,
+    bytes: &[u8],
+    at: usize,
+    shape: Shape,
+)
     requires { ⌜ (length (now row) ≡ 8) × (at < 2 ^ 32) × FormedShape shape ⌝ }
     ensures { λ _. ⌜ now (row .exit) ≡ system ∷ satellite ∷ signal ∷ valuesAt (columnsOf shape) (now (bytes .entry)) at ⌝ }
 {
@@ -91,5 +116,14 @@ pub fn put(row: &mut [i32], system: i32, satellite: i32, signal: i32, bytes: &[u
         wide(row, system, satellite, signal, bytes, at, shape);
         return;
     }
-    slim(row, system, satellite, signal, bytes, at, shape.v1, shape.v2);
+    slim(
+        row,
+        system,
+        satellite,
+        signal,
+        bytes,
+        at,
+        shape.v1,
+        shape.v2,
+    );
 }
