@@ -12,6 +12,9 @@ use crate::shape::Column;
 use crate::shape::Shape;
 use bits::read;
 
+// What a gap holds (document 01, "What is handed out").
+const ABSENT: i32 = -32768;
+
 // Eight numbers, stored.
 fn store(row: &mut [i32], a: i32, b: i32, c: i32, d: i32, e: i32, f: i32, g: i32, h: i32)
     requires { ⌜ length (now row) ≡ 8 ⌝ }
@@ -61,9 +64,9 @@ fn slim(
         signal,
         shape::value(half >> first, v1),
         shape::value(half >> second, v2),
-        -32768,
-        -32768,
-        -32768,
+        ABSENT,
+        ABSENT,
+        ABSENT,
     );
 }
 
