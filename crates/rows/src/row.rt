@@ -1,7 +1,7 @@
 // One row, written: its three keys, and the values that its columns have at a place.
 ghost use mathlib.Core.Path.{_≡_};
 ghost use mathlib.Core.List.{[], _∷_};
-ghost use Prim.Native.Nat.{_+_, _^_, _≤_, _<_};
+ghost use Prim.Native.Nat.{_^_, _<_};
 ghost use lib.ListN.{length};
 ghost use Rattle.bits.specs.Places.{field};
 ghost use Rattle.format.specs.Rows.{gap};
