@@ -1,15 +1,10 @@
 // The body of a message: one reader of rows over their shapes, for all sub types.
+pub mod row;
+pub mod shape;
+pub mod satellites;
+pub mod shapes;
+
 ghost use mathlib.Core.Path.{_≡_};
-ghost use mathlib.Core.Bool.{true};
-ghost use mathlib.Core.List.{flatten};
-ghost use Prim.Native.Nat.{_+_, _*_, _^_, _≤_};
-ghost use lib.ListN.{length};
-ghost use Rattle.body.specs.Lines.{linesOf};
-ghost use Rattle.format.specs.Reading.{over};
-ghost use Rattle.format.specs.Rows.{bodyWidth};
-ghost use Rattle.holding.specs.Pictures.{maskOf, sound};
-ghost use Rattle.rows.specs.At.{rowsAt};
-use holding::Holding;
 
 // Which rows a body has: one for each satellite or cell of the mask; for each satellite chosen, by the orbit
 // flag, the clock flag and a selection with the first satellite's bit as the highest of 64; for each 40 bits.
@@ -20,4 +15,10 @@ pub enum Lines {
     Phases,
     Combined(bool, bool, u64),
     Packet(usize),
+}
+
+// Where writing rows ended: how many numbers they are, and the place behind their bits.
+pub struct End {
+    pub filled: usize,
+    pub at: usize,
 }

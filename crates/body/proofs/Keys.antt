@@ -1,0 +1,10 @@
+-- A row's key as the code makes it of an unsigned number. Assumes nothing.
+use mathlib.Core.Path.{_≡_, ap, _∙_}
+use Prim.Native.Nat.{ℕ, _^_, _<_}
+use lib.IntN.{pos}
+use mir.Facts.{toZ-pos}
+use mir.Syntax.{w32}
+use mir.Val.{toZ}
+
+pub key : (n m : ℕ) → n < 2 ^ 31 → n ≡ m → toZ w32 n ≡ pos m
+key n m small e = toZ-pos w32 {n = n} small ∙ ap pos e

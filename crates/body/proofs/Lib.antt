@@ -1,0 +1,5 @@
+pub mod RowsAt
+pub mod Going
+pub mod Keys
+pub mod Picks
+pub mod Slots

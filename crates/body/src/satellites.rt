@@ -1,0 +1,84 @@
+// Rows of satellites.
+ghost use mathlib.Core.Path.{_≡_};
+ghost use mathlib.Core.Bool.{true};
+ghost use Prim.Native.Nat.{_≤_};
+ghost use lib.ListN.{length};
+ghost use Rattle.body.specs.Lines.{shapeFor};
+ghost use Rattle.body.specs.Shapes.{columnsOf, FormedShape};
+ghost use Rattle.body.specs.Slots.{satellitesIn, slotSatellites, chosenLines};
+ghost use Rattle.body.specs.Written.{numbersAt, Room, Wrote};
+ghost use Rattle.format.specs.Reading.{over};
+ghost use Rattle.holding.specs.Kth.{narrow};
+use crate::End;
+use crate::Lines;
+use crate::row;
+use crate::shape;
+use crate::shape::Shape;
+use crate::shapes;
+use holding::set_places;
+
+// The rows of one system's satellites that are chosen: its mask and the selection each begin at the highest of
+// 64 bits.
+fn slot(
+    id: u8,
+    word: u64,
+    chosen: u64,
+    shape: Shape,
+    bytes: &[u8],
+    at: usize,
+    rows: &mut [i32],
+) -> End
+    requires { ⌜ FormedShape shape × Room (chosenLines (λ _. columnsOf shape) chosen (satellitesIn 64 id word)) (now bytes) at (now rows) ⌝ }
+    ensures { λ r. ⌜ Wrote (chosenLines (λ _. columnsOf shape) chosen (satellitesIn 64 id word)) (now (bytes .entry)) at (now (rows .entry)) (now (rows .exit)) r ⌝ }
+{
+    let system = id as i32;
+    let width = shape::width(shape);
+    let mut left = word;
+    let mut marks = chosen;
+    let mut k = 0;
+    let mut place = at;
+    while left > 0 {
+        let number = set_places::first(left) + 1;
+        let mark = marks;
+        left = set_places::rest(left);
+        marks = marks << 1;
+        if mark >= 0x8000_0000_0000_0000 {
+            let e = k + 8;
+            row::put(&mut rows[k..e], system, number as i32, -32768, bytes, place, shape);
+            k = e;
+            place += width;
+        }
+    }
+    End {
+        filled: k,
+        at: place,
+    }
+}
+
+// The rows of all systems' satellites that are chosen.
+pub fn write(
+    ids: &[u8],
+    masks: &[u64],
+    lines: Lines,
+    chosen: u64,
+    bytes: &[u8],
+    at: usize,
+    rows: &mut [i32],
+)
+    requires { ⌜ (length (now ids) ≤ length (now masks)) × (narrow 40 (now masks) ≡ true) × Room (chosenLines (shapeFor lines) chosen (slotSatellites (now ids) (now masks))) (now bytes) at (now rows) ⌝ }
+    ensures { λ _. ⌜ now (rows .exit) ≡ over (numbersAt (chosenLines (shapeFor lines) chosen (slotSatellites (now (ids .entry)) (now (masks .entry)))) (now (bytes .entry)) at) (now (rows .entry)) ⌝ }
+{
+    let mut marks = chosen;
+    let mut k = 0;
+    let mut place = at;
+    let mut i = 0;
+    while i < ids.len() {
+        let mask = masks[i];
+        let shape = shapes::shape_for(lines, ids[i]);
+        let end = slot(ids[i], mask << 24, marks, shape, bytes, place, &mut rows[k..]);
+        k += end.filled;
+        place = end.at;
+        marks = marks << set_places::count(mask);
+        i += 1;
+    }
+}
