@@ -149,7 +149,7 @@ module _ {bs : List ℕ} {all : List Line} {from : ℕ} {old : List ℤ} (some m
   pub part-written : (new : List ℤ) (end : End) → Wrote some bs at (take (length buffer - j) (drop j buffer)) new end
       → Going bs all from old more (j + end .filled) (end .at) (take j buffer ++ (new ++ drop (length buffer - j) (drop j buffer)))
   part-written new end w =
-      let none : drop (length buffer - j) (drop j buffer) ≡ [] = drop-of-length-le (drop j buffer) (omega (arith, length-drop j buffer)) in
+      let none : drop (length buffer - j) (drop j buffer) ≡ [] = drop-of-length-le (drop j buffer) {i = length buffer - j} (omega (arith, length-drop j buffer)) in
       let same : new ++ drop (length buffer - j) (drop j buffer) ≡ over (numbersAt some bs at) (drop j buffer) =
       ap (λ (l : List ℤ). new ++ l) none ∙ append-nil new ∙ w .numbers ∙ ap (over (numbersAt some bs at)) lent in
       rw (same, w .filled, w .place) (going-part some more j at buffer g)

@@ -74,8 +74,9 @@ pub fn write(
     let mut i = 0;
     while i < ids.len() {
         let mask = masks[i];
-        let shape = shapes::shape_for(lines, ids[i]);
-        let end = slot(ids[i], mask << 24, marks, shape, bytes, place, &mut rows[k..]);
+        let id = ids[i];
+        let shape = shapes::shape_for(lines, id);
+        let end = slot(id, mask << 24, marks, shape, bytes, place, &mut rows[k..]);
         k += end.filled;
         place = end.at;
         marks = marks << set_places::count(mask);
