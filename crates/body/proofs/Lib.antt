@@ -3,3 +3,4 @@ pub mod Going
 pub mod Keys
 pub mod Picks
 pub mod Slots
+pub mod SlotCells

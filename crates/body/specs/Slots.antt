@@ -2,7 +2,7 @@
 use mathlib.Core.List.{List, [], _∷_, _++_, map}
 use Prim.Native.Nat.{ℕ, suc}
 use Rattle.bits.specs.BitLists.{spell}
-use Rattle.format.specs.Masks.{Satellite, placesFrom, pick}
+use Rattle.format.specs.Masks.{Satellite, Cell, placesFrom, pick}
 use Rattle.format.specs.Messages.{satelliteLines}
 use Rattle.format.specs.Rows.{Column, Line}
 
@@ -19,3 +19,7 @@ slotSatellites (id ∷ ids) (m ∷ masks) = satellitesIn 40 id m ++ slotSatellit
 -- a line for each satellite that a selection chooses, the first one's bit being the highest of 64
 unfoldable pub chosenLines : (ℕ → List Column) → ℕ → List Satellite → List Line
 chosenLines shape chosen sats = satelliteLines shape (pick (spell 64 chosen) sats)
+
+-- the cells of one satellite, by a row of w bits
+unfoldable pub cellsIn : ℕ → Satellite → ℕ → List Cell
+cellsIn w sat row = map (λ place. record { satellite = sat; signal = place }) (placesFrom 0 (spell w row))
