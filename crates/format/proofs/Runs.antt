@@ -30,7 +30,7 @@ run-short w next l over =
     let some : 0 < w - length l = omega arith in
     rw (← (suc-pred-eq-of-pos some))
 
-drop-take : (w n : ℕ) (l : List Bool) → w ≤ length l → drop w (take (w + n) l) ≡ take n (drop w l)
+pub drop-take : (w n : ℕ) (l : List Bool) → w ≤ length l → drop w (take (w + n) l) ≡ take n (drop w l)
 drop-take w n l h = ap (drop w) (take-add w n l) ∙ drop-at (take w l) (take n (drop w l)) w (length-take-le w l h)
 
 -- ---- ends

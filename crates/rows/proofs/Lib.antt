@@ -1,0 +1,5 @@
+pub mod Columns
+pub mod Cuts
+pub mod RowsAt
+pub mod Shaped
+pub mod Stored
