@@ -10,9 +10,9 @@ use lib.IntN.{ℤ}
 use lib.ListN.{length, take, drop, length-append, length-take, length-drop, take-append-drop, drop-of-length-le}
 use lib.Seq.{take-all, drop-drop, take-append-seam, drop-append-seam, take-append-add, drop-append-add, length-take-le}
 use Rattle.body.specs.declared.End.{End}
-use Rattle.body.specs.At.{valuesAt, rowsAt}
+use Rattle.rows.specs.At.{valuesAt, rowsAt}
 use Rattle.body.specs.Written.{numbersAt, Room, Wrote}
-use Rattle.body.proofs.RowsAt.{width-append, rows-at-append, values-length}
+use Rattle.rows.proofs.RowsAt.{width-append, rows-at-append, values-length}
 use Rattle.format.specs.Reading.{over}
 use Rattle.format.specs.Rows.{Line, shapeWidth, bodyWidth}
 

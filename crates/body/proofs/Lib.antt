@@ -1,4 +1,4 @@
-pub mod RowsAt
+pub mod Fine
 pub mod Going
 pub mod Keys
 pub mod Picks

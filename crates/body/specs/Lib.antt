@@ -1,5 +1,3 @@
-pub mod At
-pub mod Shapes
 pub mod Lines
 pub mod Slots
 pub mod Written

@@ -5,7 +5,7 @@ use Prim.Native.Nat.{ℕ, _+_, _^_, _≤_, _<_}
 use lib.IntN.{ℤ}
 use lib.ListN.{length}
 use Rattle.body.specs.declared.End.{End}
-use Rattle.body.specs.At.{rowsAt}
+use Rattle.rows.specs.At.{rowsAt}
 use Rattle.format.specs.Reading.{over}
 use Rattle.format.specs.Rows.{Line, bodyWidth}
 

@@ -3,7 +3,7 @@ ghost use mathlib.Core.Path.{_≡_};
 ghost use mathlib.Core.Bool.{true};
 ghost use Prim.Native.Nat.{_≤_, _<_, _^_};
 ghost use lib.ListN.{length};
-ghost use Rattle.body.specs.Shapes.{columnsOf, FormedShape};
+ghost use Rattle.rows.specs.Shapes.{columnsOf, FormedShape};
 ghost use Rattle.body.specs.Slots.{satellitesIn, slotSatellites, cellsIn};
 ghost use Rattle.body.specs.Written.{numbersAt, Room, Wrote};
 ghost use Rattle.format.specs.Messages.{cellLines};
@@ -11,9 +11,9 @@ ghost use Rattle.format.specs.Reading.{over};
 ghost use Rattle.holding.proofs.PicturedCells.{rowCells};
 ghost use Rattle.holding.specs.Kth.{narrow};
 use crate::End;
-use crate::row;
-use crate::shape;
-use crate::shape::Shape;
+use rows::row;
+use rows::shape;
+use rows::shape::Shape;
 use holding::set_places;
 
 // The rows of one satellite's cells, by its row of signals, which begins at the highest of 64 bits.

@@ -1,9 +1,7 @@
 // The body of a message: one reader of rows over their shapes, for all sub types.
-pub mod row;
-pub mod shape;
 pub mod cells;
 pub mod satellites;
-pub mod shapes;
+pub mod columns;
 
 ghost use mathlib.Core.Path.{_≡_};
 

@@ -4,17 +4,17 @@ ghost use mathlib.Core.Bool.{true};
 ghost use Prim.Native.Nat.{_≤_};
 ghost use lib.ListN.{length};
 ghost use Rattle.body.specs.Lines.{shapeFor};
-ghost use Rattle.body.specs.Shapes.{columnsOf, FormedShape};
+ghost use Rattle.rows.specs.Shapes.{columnsOf, FormedShape};
 ghost use Rattle.body.specs.Slots.{satellitesIn, slotSatellites, chosenLines};
 ghost use Rattle.body.specs.Written.{numbersAt, Room, Wrote};
 ghost use Rattle.format.specs.Reading.{over};
 ghost use Rattle.holding.specs.Kth.{narrow};
 use crate::End;
 use crate::Lines;
-use crate::row;
-use crate::shape;
-use crate::shape::Shape;
-use crate::shapes;
+use rows::row;
+use rows::shape;
+use rows::shape::Shape;
+use crate::columns;
 use holding::set_places;
 
 // The rows of one system's satellites that are chosen: its mask and the selection each begin at the highest of
@@ -75,7 +75,7 @@ pub fn write(
     while i < ids.len() {
         let mask = masks[i];
         let id = ids[i];
-        let shape = shapes::shape_for(lines, id);
+        let shape = columns::shape_for(lines, id);
         let end = slot(id, mask << 24, marks, shape, bytes, place, &mut rows[k..]);
         k += end.filled;
         place = end.at;

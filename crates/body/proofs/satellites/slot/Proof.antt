@@ -13,8 +13,8 @@ use lib.ListN.{length}
 use lib.Pow.{pow-pos}
 use Rattle.format.specs.Masks.{Satellite}
 use Rattle.format.specs.Rows.{Column, Line, absent, shapeWidth}
-use Rattle.body.specs.At.{valuesAt}
-use Rattle.body.specs.Shapes.{columnsOf}
+use Rattle.rows.specs.At.{valuesAt}
+use Rattle.rows.specs.Shapes.{columnsOf}
 use Rattle.body.specs.Slots.{satellitesIn, chosenLines}
 use Rattle.body.proofs.Going.{Going, going-start, row-room, row-near, row-part, row-written, going-end}
 use Rattle.body.proofs.Keys.{key}
@@ -24,8 +24,8 @@ use Rattle.body.proofs.satellites.slot.Statement.{statement}
 use Rattle.body.proofs.satellites.slot.Tie as tie
 use Rattle.body.proofs.satellites.slot.Reads as reads
 use Rattle.body.proofs.satellites.slot.Lts as lts
-use Rattle.body.proofs.row.put.Reads as put-reads
-use Rattle.body.proofs.shape.width.Reads as width-reads
+use Rattle.rows.proofs.row.put.Reads as put-reads
+use Rattle.rows.proofs.shape.width.Reads as width-reads
 use Rattle.holding.proofs.set_places.first.Reads as first-reads
 use Rattle.holding.proofs.set_places.rest.Reads as rest-reads
 

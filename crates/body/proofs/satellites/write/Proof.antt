@@ -11,8 +11,9 @@ use lib.ListN.{length, getD, drop}
 use Rattle.format.specs.Rows.{Column, Line}
 use Rattle.holding.proofs.Highest.{below-at}
 use Rattle.body.specs.Lines.{shapeFor}
-use Rattle.body.specs.Shapes.{columnsOf}
+use Rattle.rows.specs.Shapes.{columnsOf}
 use Rattle.body.specs.Slots.{satellitesIn, slotSatellites, chosenLines}
+use Rattle.body.proofs.Fine.{columns-for, formed-for}
 use Rattle.body.proofs.Going.{Going, going-start, part-start, part-room, part-written, going-end}
 use Rattle.body.proofs.Slots.{chosen-nil, chosen-next, no-slot}
 use Rattle.body.proofs.satellites.write.Statement.{statement}
@@ -20,7 +21,7 @@ use Rattle.body.proofs.satellites.write.Tie as tie
 use Rattle.body.proofs.satellites.write.Reads as reads
 use Rattle.body.proofs.satellites.write.Lts as lts
 use Rattle.body.proofs.satellites.slot.Reads as slot-reads
-use Rattle.body.proofs.shapes.shape_for.Reads as shape-for-reads
+use Rattle.body.proofs.columns.shape_for.Reads as shape-for-reads
 use Rattle.holding.proofs.set_places.count.Reads as count-reads
 
 abbrev Inv-loop : tie.InvT-loop
@@ -49,6 +50,9 @@ module _ (c : tie.After-shape-for Inv-loop μ-loop) where
   abbrev marks : ℕ
   marks = c .before .before .before .before .loop .marks
 
+  same : columnsOf (c .shape-for .result) ≡ shape (getD ids i 0)
+  same = columns-for _ _ (c .shape-for .result) (c .shape-for .ensures)
+
   inside : i < length masks
   inside = omega (arith, c .before .before .before .loop-test .taken, c .before .before .before .before .before .before .before .before .pre .0)
 
@@ -73,13 +77,13 @@ module _ (c : tie.After-shape-for Inv-loop μ-loop) where
 
   going : (n : ℕ) → n ≡ ones (getD masks i 0) → Then (here ++ behind n)
   going n many =
-      let e = chosen-next shape marks n (columnsOf (c .shape-for .result)) ids masks i (c .before .before .before .loop-test .taken) inside small (c .shape-for .ensures .0) many in
+      let e = chosen-next shape marks n (columnsOf (c .shape-for .result)) ids masks i (c .before .before .before .loop-test .taken) inside small same many in
       subst (λ (lines : List Line). Then lines) e (c .before .before .before .before .loop .inv)
 
 slot-requires : tie.Need-slot-requires Inv-loop μ-loop
 slot-requires c κs =
     let p = c .before in
-    (p .shape-for .ensures .1, part-room (here p) (behind p (ones (getD (masks p) (i p) 0))) _ _ _ (going p _ refl))
+    (formed-for _ _ (p .shape-for .result) (p .shape-for .ensures), part-room (here p) (behind p (ones (getD (masks p) (i p) 0))) _ _ _ (going p _ refl))
 
 add-k : tie.Need-add-k Inv-loop μ-loop
 add-k c =
