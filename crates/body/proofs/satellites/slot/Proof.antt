@@ -1,23 +1,22 @@
 -- `body::satellites::slot` meets its contract. The loop's invariant: the rows of the satellites that are left, chosen by the marks that are left, are still to
 -- come.
 -- Assumes nothing.
-use mathlib.Core.Path.{_≡_, refl, ap, ap₂, _∙_, subst}
+use mathlib.Core.Path.{_≡_, refl, ap, _∙_, subst}
 use mathlib.Core.List.{List, _∷_, []}
 use Prim.Native.Nat.{ℕ, suc, _+_, _-_, _*_, _%_, _^_, _<_, _≤_}
 use native.Mathlib.Nat.{mod-lt}
 use native.Mathlib.Omega.{arith}
 use borrow.Author.Needs.{needs}
 use lib.Count.{leadingZeros}
-use lib.IntN.{ℤ, pos}
+use lib.IntN.{pos}
 use lib.ListN.{length}
 use lib.Pow.{pow-pos}
 use Rattle.format.specs.Masks.{Satellite}
 use Rattle.format.specs.Rows.{Column, Line, absent, shapeWidth}
-use Rattle.rows.specs.At.{valuesAt}
 use Rattle.rows.specs.Shapes.{columnsOf}
 use Rattle.body.specs.Slots.{satellitesIn, chosenLines}
 use Rattle.body.proofs.Going.{Going, going-start, row-room, row-near, row-part, row-written, going-end}
-use Rattle.body.proofs.Keys.{key}
+use Rattle.body.proofs.Keys.{key, keyed}
 use Rattle.body.proofs.Slots.{none-in, next-in, chosen-nil, chosen-one, chosen-none}
 use Rattle.holding.proofs.Places.{next-place}
 use Rattle.body.proofs.satellites.slot.Statement.{statement}
@@ -136,7 +135,7 @@ loop-again c =
     let g = chosen r (c .before .before .before .if1 .taken) in
     let system = key (x .args .id) (x .args .id) (omega (arith, x .fits .id)) refl in
     let number = key (r .before .first .result + 1) (suc (leadingZeros 64 (left r))) (omega (arith, next r .0, r .before .first .ensures)) (omega (arith, r .before .first .ensures)) in
-    let row = c .before .put .ensures ∙ ap₂ (λ (s n : ℤ). s ∷ n ∷ absent ∷ valuesAt (columns r) (x .args .bytes .now) (place r)) system number in
+    let row = c .before .put .ensures ∙ keyed _ system number refl in
     (omega (arith, fewer r), mod-lt _ (omega arith), row-written (line r) (behind r) (k r) (place r) _ refl (five r) g _ _ (r .before .before .before .before .width .ensures) row)
 
 loop-again-2 : tie.Need-loop-again-2 Inv-loop μ-loop
