@@ -52,16 +52,18 @@ module _ (columns : List Column) where
   lines-append xs ys = rw map-append
 
   -- the lines of a slot's next satellite, then those of the others
-  pub cells-next : (id x rest n : ℕ) (rows : List ℕ) → 0 < x → x < 2 ^ 64 → rest ≡ x - 2 ^ (63 - leadingZeros 64 x) → n < length rows → getD rows n 0 < 2 ^ 16
+  pub cells-next : (id number x rest n : ℕ) (rows : List ℕ) → 0 < x → x < 2 ^ 64 → rest ≡ x - 2 ^ (63 - leadingZeros 64 x) → number ≡ suc (leadingZeros 64 x)
+      → n < length rows → getD rows n 0 < 2 ^ 16
       → cellLines columns (rowCells (satellitesIn 64 id x) (drop n rows))
-      ≡ cellLines columns (cellsIn 64 (record { system = id; number = suc (leadingZeros 64 x) }) (getD rows n 0 * 2 ^ 48 % 2 ^ 64))
+      ≡ cellLines columns (cellsIn 64 (record { system = id; number = number }) (getD rows n 0 * 2 ^ 48 % 2 ^ 64))
       ++ cellLines columns (rowCells (satellitesIn 64 id rest) (drop (suc n) rows))
   unfolding rowCells cellsIn
-  cells-next id x rest n rows some small e inside row =
-      let sat : Satellite = record { system = id; number = suc (leadingZeros 64 x) } in
-      ap₂ (λ (s : List Satellite) (r : List ℕ). cellLines columns (rowCells s r)) (next-in id x rest some small e) (drop-cons rows n 0 inside)
-      ∙ lines-append (cellsIn 16 sat (getD rows n 0)) (rowCells (satellitesIn 64 id rest) (drop (suc n) rows))
-      ∙ ap (λ (l : List Cell). cellLines columns l ++ cellLines columns (rowCells (satellitesIn 64 id rest) (drop (suc n) rows))) (sym (up-of sat (getD rows n 0) row))
+  cells-next id number x rest n rows some small e place inside row =
+      let sat : ℕ → Satellite = λ k. record { system = id; number = k } in
+      ap₂ (λ (s : List Satellite) (r : List ℕ). cellLines columns (rowCells s r))
+      (next-in id x rest some small e ∙ ap (λ (k : ℕ). sat k ∷ satellitesIn 64 id rest) (sym place)) (drop-cons rows n 0 inside)
+      ∙ lines-append (cellsIn 16 (sat number) (getD rows n 0)) (rowCells (satellitesIn 64 id rest) (drop (suc n) rows))
+      ∙ ap (λ (l : List Cell). cellLines columns l ++ cellLines columns (rowCells (satellitesIn 64 id rest) (drop (suc n) rows))) (sym (up-of (sat number) (getD rows n 0) row))
 
   -- the lines of the next slot, then those of the others
   pub cells-slot : (ids masks rows : List ℕ) (i n m : ℕ) → i < length ids → i < length masks → getD masks i 0 < 2 ^ 40 → m ≡ ones (getD masks i 0)

@@ -33,7 +33,7 @@ returns-4 c = answered _ _ _ _ (c .before .enum-told4 .given .1) (c .phase .ensu
 
 returns-5 : tie.Need-returns-5
 unfolding shapeFor
-returns-5 c = answered _ _ _ _ {! c .before .known-told .given !} {! c .before .before .lines .given !}
+returns-5 c = answered _ _ _ _ (c .before .before .lines .given .1) (c .combined2 .ensures)
 
 returns-6 : tie.Need-returns-6
 unfolding shapeFor
