@@ -44,6 +44,10 @@ module _ (j : ℕ) (old new more : List ℤ) (room : j + length new ≤ length o
   unfolding over
   over-length = simp (length-append, length-drop) (omega (arith, short))
 
+-- the part from the j-th entry on, as it is lent
+pub lent : {A : Type 0} (j : ℕ) (l : List A) → take (length l - j) (drop j l) ≡ drop j l
+lent j l = take-all (length l - j) (drop j l) (omega (arith, length-drop j l))
+
 flatten-append : (xs ys : List (List ℤ)) → flatten (xs ++ ys) ≡ flatten xs ++ flatten ys
 unfolding flatten
 flatten-append [] ys = refl
@@ -134,12 +138,9 @@ module _ {bs : List ℕ} {all : List Line} {from : ℕ} {old : List ℤ} (some m
   pub part-start : j ≤ length buffer
   part-start = omega (arith, g .room)
 
-  lent : take (length buffer - j) (drop j buffer) ≡ drop j buffer
-  lent = take-all (length buffer - j) (drop j buffer) (omega (arith, length-drop j buffer))
-
   pub part-room : Room some bs at (take (length buffer - j) (drop j buffer))
   part-room =
-      rw lent
+      rw (lent j buffer)
       (record {
         room = omega (arith, long, g .room, length-drop j buffer);
         few = omega (arith, long, g .count, g .few);
@@ -151,7 +152,7 @@ module _ {bs : List ℕ} {all : List Line} {from : ℕ} {old : List ℤ} (some m
   part-written new end w =
       let none : drop (length buffer - j) (drop j buffer) ≡ [] = drop-of-length-le (drop j buffer) {i = length buffer - j} (omega (arith, length-drop j buffer)) in
       let same : new ++ drop (length buffer - j) (drop j buffer) ≡ over (numbersAt some bs at) (drop j buffer) =
-      ap (λ (l : List ℤ). new ++ l) none ∙ append-nil new ∙ w .numbers ∙ ap (over (numbersAt some bs at)) lent in
+      ap (λ (l : List ℤ). new ++ l) none ∙ append-nil new ∙ w .numbers ∙ ap (over (numbersAt some bs at)) (lent j buffer) in
       rw (same, w .filled, w .place) (going-part some more j at buffer g)
 
 -- no line is left

@@ -7,7 +7,7 @@ use Prim.Native.Nat.{ℕ, zero, suc, _+_, _-_, _*_, _/_, _%_, _^_, _≤_, _<_}
 use native.Mathlib.Omega.{arith}
 use lib.Count.{ones, leadingZeros, ones-le}
 use lib.IntN.{pos}
-use lib.ListN.{length, getD, drop, length-map, drop-of-length-le}
+use lib.ListN.{length, getD, drop, length-append, length-map, drop-of-length-le}
 use lib.Seq.{drop-cons}
 use Rattle.bits.specs.BitLists.{spell}
 use Rattle.format.specs.Masks.{Satellite, placesFrom, pick}
@@ -47,6 +47,18 @@ pub next-slot : (ids masks : List ℕ) (i : ℕ) → i < length ids → i < leng
     → slotSatellites (drop i ids) (drop i masks) ≡ satellitesIn 40 (getD ids i 0) (getD masks i 0) ++ slotSatellites (drop (suc i) ids) (drop (suc i) masks)
 unfolding slotSatellites
 next-slot ids masks i inside within = rw (drop-cons ids i 0 inside, drop-cons masks i 0 within)
+
+-- how many the next slot has, and how many the others
+pub slot-count : (ids masks : List ℕ) (i m : ℕ) → i < length ids → i < length masks → getD masks i 0 < 2 ^ 40 → m ≡ ones (getD masks i 0)
+    → (length (satellitesIn 64 (getD ids i 0) (getD masks i 0 * 2 ^ 24 % 2 ^ 64)) ≡ m)
+    × (length (slotSatellites (drop i ids) (drop i masks)) ≡ m + length (slotSatellites (drop (suc i) ids) (drop (suc i) masks)))
+slot-count ids masks i m inside within small many =
+    let here : List Satellite = satellitesIn 40 (getD ids i 0) (getD masks i 0) in
+    let others : List Satellite = slotSatellites (drop (suc i) ids) (drop (suc i) masks) in
+    let count : length here ≡ m = count-in 40 (getD ids i 0) (getD masks i 0) small ∙ sym many in (
+      ap length (up-in (getD ids i 0) (getD masks i 0) small) ∙ count,
+      ap length (next-slot ids masks i inside within) ∙ length-append here others ∙ ap (λ (k : ℕ). k + length others) count,
+    )
 
 -- ---- chosen ones
 
