@@ -4,3 +4,4 @@ pub mod Keys
 pub mod Picks
 pub mod Slots
 pub mod SlotCells
+pub mod Sizes

@@ -1,10 +1,11 @@
--- What writing some rows asks of the part of the row buffer lent to it, and what it leaves there.
+-- How long a body is; what writing some rows asks of the part of the row buffer lent to it, and what it leaves there.
 use mathlib.Core.Path.{_≡_}
 use mathlib.Core.List.{List, flatten}
 use Prim.Native.Nat.{ℕ, _+_, _^_, _≤_, _<_}
 use lib.IntN.{ℤ}
 use lib.ListN.{length}
 use Rattle.body.specs.declared.End.{End}
+use Rattle.body.specs.declared.Size.{Size}
 use Rattle.rows.specs.At.{rowsAt}
 use Rattle.format.specs.Reading.{over}
 use Rattle.format.specs.Rows.{Line, bodyWidth}
@@ -24,3 +25,13 @@ pub record Wrote (lines : List Line) (bytes : List ℕ) (at : ℕ) (rows after :
   pub numbers : after ≡ over (numbersAt lines bytes at) rows
   pub filled : end .filled ≡ length (numbersAt lines bytes at)
   pub place : end .at ≡ at + bodyWidth lines
+
+-- the bits and the rows of a body
+pub record Counts (lines : List Line) (size : Size) : Type 0 where
+  pub bits : size .bits ≡ bodyWidth lines
+  pub rows : size .rows ≡ length lines
+
+-- neither is as many as 2 ^ 32
+pub record Countable (lines : List Line) : Type 0 where
+  pub bits : bodyWidth lines < 2 ^ 32
+  pub rows : length lines < 2 ^ 32

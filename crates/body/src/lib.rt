@@ -1,7 +1,8 @@
 // The body of a message: one reader of rows over their shapes, for all sub types.
 pub mod cells;
-pub mod satellites;
 pub mod columns;
+pub mod packet;
+pub mod satellites;
 
 ghost use mathlib.Core.Path.{_≡_};
 
@@ -14,6 +15,12 @@ pub enum Lines {
     Phases,
     Combined(bool, bool, u64),
     Packet(usize),
+}
+
+// How long a body is, in bits and in rows.
+pub struct Size {
+    pub bits: usize,
+    pub rows: usize,
 }
 
 // Where writing rows ended: how many numbers they are, and the place behind their bits.

@@ -1,16 +1,18 @@
 // Rows of satellites.
 ghost use mathlib.Core.Path.{_≡_};
 ghost use mathlib.Core.Bool.{true};
-ghost use Prim.Native.Nat.{_≤_};
+ghost use Prim.Native.Nat.{_-_, _/_, _^_, _≤_};
+ghost use lib.Count.{ones};
 ghost use lib.ListN.{length};
 ghost use Rattle.body.specs.Lines.{shapeFor};
 ghost use Rattle.rows.specs.Shapes.{columnsOf, FormedShape};
 ghost use Rattle.body.specs.Slots.{satellitesIn, slotSatellites, chosenLines};
-ghost use Rattle.body.specs.Written.{numbersAt, Room, Wrote};
+ghost use Rattle.body.specs.Written.{numbersAt, Room, Wrote, Countable, Counts};
 ghost use Rattle.format.specs.Reading.{over};
 ghost use Rattle.holding.specs.Kth.{narrow};
 use crate::End;
 use crate::Lines;
+use crate::Size;
 use rows::row;
 use rows::shape;
 use rows::shape::Shape;
@@ -82,4 +84,36 @@ pub fn write(
         marks = marks << set_places::count(mask);
         i += 1;
     }
+}
+
+// How many of the next n satellites a selection chooses: its first n bits that are set.
+fn picked(chosen: u64, n: usize) -> usize
+    requires { ⌜ n ≤ 64 ⌝ }
+    ensures { λ r. ⌜ r ≡ ones (chosen / 2 ^ (64 - n)) ⌝ }
+{
+    if n == 0 {
+        return 0;
+    }
+    set_places::count(chosen >> (64 - n))
+}
+
+// How many bits and rows the satellites that are chosen have.
+pub fn size(ids: &[u8], masks: &[u64], lines: Lines, chosen: u64) -> Size
+    requires { ⌜ (length (now ids) ≤ length (now masks)) × (narrow 40 (now masks) ≡ true) × Countable (chosenLines (shapeFor lines) chosen (slotSatellites (now ids) (now masks))) ⌝ }
+    ensures { λ r. ⌜ Counts (chosenLines (shapeFor lines) chosen (slotSatellites (now (ids .entry)) (now (masks .entry)))) r ⌝ }
+{
+    let mut marks = chosen;
+    let mut bits = 0;
+    let mut count = 0;
+    let mut i = 0;
+    while i < ids.len() {
+        let n = set_places::count(masks[i]);
+        let some = picked(marks, n);
+        let width = shape::width(columns::shape_for(lines, ids[i]));
+        bits += some * width;
+        count += some;
+        marks = marks << n;
+        i += 1;
+    }
+    Size { bits, rows: count }
 }
