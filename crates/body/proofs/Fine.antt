@@ -8,7 +8,7 @@ use Rattle.body.specs.declared.Lines.{Lines}
 use Rattle.body.specs.declared.Lines.the-variants.{Orbits, Clocks, Codes, Phases, Combined, Packet}
 use Rattle.body.specs.Lines.{shapeFor}
 
-fine : (lines : Lines) (system : ℕ) → FineShape (shapeFor lines system)
+pub fine : (lines : Lines) (system : ℕ) → FineShape (shapeFor lines system)
 unfolding shapeFor
 fine Orbits system = orbit-fine system
 fine Clocks system = clock-fine system

@@ -5,3 +5,5 @@ pub mod Picks
 pub mod Slots
 pub mod SlotCells
 pub mod Sizes
+pub mod Held
+pub mod HeldLines

@@ -15,11 +15,12 @@ use Rattle.body.specs.Slots.{satellitesIn, slotSatellites, chosenLines}
 use Rattle.body.proofs.Picks.{picked}
 use Rattle.body.proofs.Slots.{slot-count, chosen-next}
 
--- lines of one shape
-pub same-width : (columns : List Column) (sats : List Satellite) → bodyWidth (satelliteLines (λ _. columns) sats) ≡ length sats * shapeWidth columns
+-- lines of one width
+pub same-width : (shape : ℕ → List Column) (width : ℕ) (sats : List Satellite) → ((system : ℕ) → shapeWidth (shape system) ≡ width)
+    → bodyWidth (satelliteLines shape sats) ≡ length sats * width
 unfolding satelliteLines bodyWidth
-same-width columns [] = sym (zero-mul (shapeWidth columns))
-same-width columns (s ∷ sats) = omega (arith, same-width columns sats, suc-mul (length sats) (shapeWidth columns))
+same-width shape width [] e = sym (zero-mul width)
+same-width shape width (s ∷ sats) e = omega (arith, e (s .system), same-width shape width sats e, suc-mul (length sats) width)
 
 -- the satellites of one shape that a selection chooses
 module _ (columns : List Column) (c n some : ℕ) (sats : List Satellite) (small : c < 2 ^ 64) (many : length sats ≡ n) (few : n ≤ 64) (e : some ≡ ones (c / 2 ^ (64 - n))) where
@@ -30,7 +31,7 @@ module _ (columns : List Column) (c n some : ℕ) (sats : List Satellite) (small
 
   chosen-bits : bodyWidth (chosenLines (λ _. columns) c sats) ≡ some * shapeWidth columns
   unfolding chosenLines satelliteLines
-  chosen-bits = same-width columns (pick (spell 64 c) sats) ∙ ap (λ (k : ℕ). k * shapeWidth columns) (sym (length-map (pick (spell 64 c) sats) _) ∙ chosen-rows)
+  chosen-bits = same-width (λ _. columns) (shapeWidth columns) (pick (spell 64 c) sats) (λ system. refl) ∙ ap (λ (k : ℕ). k * shapeWidth columns) (sym (length-map (pick (spell 64 c) sats) _) ∙ chosen-rows)
 
 -- those of the next slot, and those of the others
 module _ (shape : ℕ → List Column) (c n some width : ℕ) (columns : List Column) (ids masks : List ℕ) (i : ℕ) (inside : i < length ids) (within : i < length masks)

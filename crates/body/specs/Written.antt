@@ -5,7 +5,7 @@ use Prim.Native.Nat.{ℕ, _+_, _^_, _≤_, _<_}
 use lib.IntN.{ℤ}
 use lib.ListN.{length}
 use Rattle.body.specs.declared.End.{End}
-use Rattle.body.specs.declared.Size.{Size}
+use Rattle.body.specs.declared.Extent.{Extent}
 use Rattle.rows.specs.At.{rowsAt}
 use Rattle.format.specs.Reading.{over}
 use Rattle.format.specs.Rows.{Line, bodyWidth}
@@ -27,7 +27,7 @@ pub record Wrote (lines : List Line) (bytes : List ℕ) (at : ℕ) (rows after :
   pub place : end .at ≡ at + bodyWidth lines
 
 -- the bits and the rows of a body
-pub record Counts (lines : List Line) (size : Size) : Type 0 where
+pub record Counts (lines : List Line) (size : Extent) : Type 0 where
   pub bits : size .bits ≡ bodyWidth lines
   pub rows : size .rows ≡ length lines
 

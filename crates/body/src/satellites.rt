@@ -12,7 +12,7 @@ ghost use Rattle.format.specs.Reading.{over};
 ghost use Rattle.holding.specs.Kth.{narrow};
 use crate::End;
 use crate::Lines;
-use crate::Size;
+use crate::Extent;
 use rows::row;
 use rows::shape;
 use rows::shape::Shape;
@@ -98,7 +98,7 @@ fn picked(chosen: u64, n: usize) -> usize
 }
 
 // How many bits and rows the satellites that are chosen have.
-pub fn size(ids: &[u8], masks: &[u64], lines: Lines, chosen: u64) -> Size
+pub fn size(ids: &[u8], masks: &[u64], lines: Lines, chosen: u64) -> Extent
     requires { ⌜ (length (now ids) ≤ length (now masks)) × (narrow 40 (now masks) ≡ true) × Countable (chosenLines (shapeFor lines) chosen (slotSatellites (now ids) (now masks))) ⌝ }
     ensures { λ r. ⌜ Counts (chosenLines (shapeFor lines) chosen (slotSatellites (now (ids .entry)) (now (masks .entry)))) r ⌝ }
 {
@@ -115,5 +115,5 @@ pub fn size(ids: &[u8], masks: &[u64], lines: Lines, chosen: u64) -> Size
         marks = marks << n;
         i += 1;
     }
-    Size { bits, rows: count }
+    Extent { bits, rows: count }
 }
