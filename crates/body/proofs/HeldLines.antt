@@ -22,21 +22,7 @@ use Rattle.body.specs.Lines.{shapeFor, linesOf, partsOf}
 use Rattle.body.specs.Slots.{chosenLines}
 use Rattle.body.specs.Written.{Counts, Countable}
 use Rattle.body.proofs.Fine.{fine}
-use Rattle.body.proofs.Picks.{pick-all}
 use Rattle.body.proofs.Sizes.{same-width}
-
--- ---- which lines
-
--- a selection of all ones chooses all satellites
-pub all-chosen : (shape : ℕ → List Column) (sats : List Satellite) → length sats ≤ 64 → chosenLines shape 18446744073709551615 sats ≡ satelliteLines shape sats
-unfolding chosenLines
-all-chosen shape sats few = ap (satelliteLines shape) (pick-all sats few)
-
--- the satellites that a combined message chooses
-pub combined-lines : (held : Held) (orbit clock : Bool) (chosen : ℕ)
-    → chosenLines (shapeFor (Combined orbit clock chosen)) chosen (satellitesHeld held) ≡ linesOf held (Combined orbit clock chosen)
-unfolding chosenLines satelliteLines linesOf shapeFor
-combined-lines held orbit clock chosen = refl
 
 -- ---- a shape
 
@@ -152,18 +138,18 @@ packet-width k zero = refl
 packet-width k (suc n) = omega (arith, packet-width (suc k) n)
 
 module _ (held : Held) where
-  pub clocks : (n : ℕ) → n ≡ length (satellitesHeld held) → Counts (linesOf held Clocks) (record { bits = n * 15; rows = n })
+  pub clocks-size : (n : ℕ) → n ≡ length (satellitesHeld held) → Counts (linesOf held Clocks) (record { bits = n * 15; rows = n })
   unfolding linesOf
-  clocks n e = clock-size (satellitesHeld held) n e
+  clocks-size n e = clock-size (satellitesHeld held) n e
 
-  pub codes : (n : ℕ) → n ≡ length (cellsHeld held) → Counts (linesOf held Codes) (record { bits = n * 11; rows = n })
+  pub codes-size : (n : ℕ) → n ≡ length (cellsHeld held) → Counts (linesOf held Codes) (record { bits = n * 11; rows = n })
   unfolding linesOf codeShape shapeWidth widthOf
-  codes n e = cell-size codeShape 11 n (cellsHeld held) refl e
+  codes-size n e = cell-size codeShape 11 n (cellsHeld held) refl e
 
-  pub phases : (n : ℕ) → n ≡ length (cellsHeld held) → Counts (linesOf held Phases) (record { bits = n * 17; rows = n })
+  pub phases-size : (n : ℕ) → n ≡ length (cellsHeld held) → Counts (linesOf held Phases) (record { bits = n * 17; rows = n })
   unfolding linesOf phaseShape shapeWidth widthOf
-  phases n e = cell-size phaseShape 17 n (cellsHeld held) refl e
+  phases-size n e = cell-size phaseShape 17 n (cellsHeld held) refl e
 
-  pub packet : (n : ℕ) → Counts (linesOf held (Packet n)) (record { bits = n * 40; rows = n })
+  pub packet-size : (n : ℕ) → Counts (linesOf held (Packet n)) (record { bits = n * 40; rows = n })
   unfolding linesOf
-  packet n = record { bits = sym (packet-width 1 n); rows = sym (packet-count 1 n) }
+  packet-size n = record { bits = sym (packet-width 1 n); rows = sym (packet-count 1 n) }

@@ -7,3 +7,4 @@ pub mod SlotCells
 pub mod Sizes
 pub mod Held
 pub mod HeldLines
+pub mod HeldBodies
