@@ -1,6 +1,6 @@
 -- Columns as numbers: which column they are, their bounds, and that the sum, the mask and the difference give the column's value.
 -- Assumes nothing.
-use mathlib.Core.Path.{_≡_, refl, sym, ap, _∙_, subst}
+use mathlib.Core.Path.{_≡_, refl, sym, ap, subst}
 use mathlib.Core.Bool.{Bool, true, false, cond}
 use Prim.Native.Nat.{ℕ, zero, suc, _+_, _-_, _*_, _%_, _^_, _≤_, _<_}
 use native.Mathlib.Nat.{add-zero, mod-lt, mod-eq-of-lt, mod-add-mod, mod-eq-sub-mod}

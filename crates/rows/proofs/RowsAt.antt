@@ -3,7 +3,7 @@
 use mathlib.Core.Path.{_≡_, refl, sym, ap, ap₂, _∙_}
 use mathlib.Core.Bool.{Bool}
 use mathlib.Core.List.{List, [], _∷_, _++_, flatten}
-use Prim.Native.Nat.{ℕ, zero, suc, _+_, _-_, _*_, _≤_}
+use Prim.Native.Nat.{ℕ, suc, _+_, _-_, _*_, _≤_}
 use native.Mathlib.Nat.{add-zero, add-assoc}
 use native.Mathlib.Omega.{arith}
 use lib.IntN.{ℤ}
@@ -12,7 +12,6 @@ use lib.Seq.{take-take, drop-drop}
 use Rattle.bits.proofs.BitLists.{length-bits}
 use Rattle.bits.proofs.Bridge.{field-number}
 use Rattle.bits.specs.BitLists.{number, bits}
-use Rattle.bits.specs.Places.{field}
 use Rattle.format.proofs.Bodies.{All, none, more}
 use Rattle.format.proofs.Runs.{drop-take}
 use Rattle.format.specs.Reading.{bitsFrom}

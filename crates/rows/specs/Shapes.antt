@@ -2,7 +2,7 @@
 use mathlib.Core.Path.{_≡_}
 use mathlib.Core.Bool.{Bool, true, false, cond, not, _&&_}
 use mathlib.Core.List.{List, [], _∷_}
-use Prim.Native.Nat.{ℕ, _+_, _-_, _^_, _≤_}
+use Prim.Native.Nat.{_+_, _-_, _^_, _≤_}
 use lib.Dec.{eqb}
 use lib.ListN.{getD}
 use Rattle.format.specs.Rows.{Column, gap, plain, counts}

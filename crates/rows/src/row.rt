@@ -1,7 +1,7 @@
 // One row, written: its three keys, and the values that its columns have at a place.
 ghost use mathlib.Core.Path.{_≡_};
 ghost use mathlib.Core.List.{[], _∷_};
-ghost use Prim.Native.Nat.{_+_, _^_, _≤_, _<_};
+ghost use Prim.Native.Nat.{_^_, _<_};
 ghost use lib.ListN.{length};
 ghost use Rattle.bits.specs.Places.{field};
 ghost use Rattle.format.specs.Rows.{gap};
@@ -11,6 +11,9 @@ use crate::shape;
 use crate::shape::Column;
 use crate::shape::Shape;
 use bits::read;
+
+// What a gap holds (document 01, "What is handed out").
+const ABSENT: i32 = -32768;
 
 // Eight numbers, stored.
 fn store(row: &mut [i32], a: i32, b: i32, c: i32, d: i32, e: i32, f: i32, g: i32, h: i32)
@@ -61,9 +64,9 @@ fn slim(
         signal,
         shape::value(half >> first, v1),
         shape::value(half >> second, v2),
-        -32768,
-        -32768,
-        -32768,
+        ABSENT,
+        ABSENT,
+        ABSENT,
     );
 }
 

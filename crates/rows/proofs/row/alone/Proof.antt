@@ -12,7 +12,7 @@ value-requires : tie.Need-value-requires
 value-requires c κs =
     let s = c .before .before .before in
     let x = s .args in
-    (half-lt (x .bytes .now) (x .at) (c .before .window-at .ensures) (63 - x .at % 8 - x .c .width), s .pre)
+    (half-lt (x .bytes .now) (x .at) (c .before .window-at .ensures) _, s .pre)
 
 returns : tie.Need-returns
 returns c =

@@ -19,13 +19,13 @@ value-requires : tie.Need-value-requires
 value-requires c κs =
     let w = c .before .before .before in
     let s = w .before .before in
-    (half-lt (s .args .bytes .now) (s .args .at) (w .window-at .ensures) (below s), s .pre .1)
+    (half-lt (s .args .bytes .now) (s .args .at) (w .window-at .ensures) _, s .pre .1)
 
 value-requires-2 : tie.Need-value-requires-2
 value-requires-2 c κs =
     let w = c .before .before .before .before in
     let s = w .before .before in
-    (half-lt (s .args .bytes .now) (s .args .at) (w .window-at .ensures) (below s - s .args .v2 .width), s .pre .2)
+    (half-lt (s .args .bytes .now) (s .args .at) (w .window-at .ensures) _, s .pre .2)
 
 returns : tie.Need-returns
 returns c =

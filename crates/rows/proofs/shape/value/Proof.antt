@@ -1,25 +1,24 @@
 -- `rows::shape::value` meets its contract. Assumes nothing.
 use mathlib.Core.Path.{_≡_}
-use Prim.Native.Nat.{_+_, _^_, _≤_, _<_}
+use Prim.Native.Nat.{_+_, _^_, _<_}
 use native.Mathlib.Omega.{arith}
 use lib.Bits.{bitAnd}
 use lib.IntN.{_-ℤ_}
 use mir.Facts.{toZ-ofZ, toZ-pos}
 use mir.Syntax.{w32}
 use mir.Val.{SFits, toZ}
-use Rattle.rows.proofs.Columns.{bounded, masked-lt, computed, value-computed, value-small}
+use Rattle.rows.proofs.Columns.{Bounded, bounded, masked-lt, computed, value-computed, value-small}
 use Rattle.rows.proofs.shape.value.Statement.{statement}
 use Rattle.rows.proofs.shape.value.Tie as tie
 
--- facts at the start
-half-small : (c : tie.Start) → c .args .c .half ≤ 2 ^ 14
-half-small c = bounded (c .args .c) (c .pre .1) .half
+limits : (c : tie.Start) → Bounded (c .args .c)
+limits c = bounded (c .args .c) (c .pre .1)
 
 masked-small : (c : tie.Start) → bitAnd (c .args .x + c .args .c .half) (c .args .c .mask) < 2 ^ 31
 masked-small c = omega (arith, masked-lt (c .args .c) (c .args .x) (c .pre .1))
 
 less-small : (c : tie.Start) → c .args .c .less < 2 ^ 31
-less-small c = omega (arith, bounded (c .args .c) (c .pre .1) .less)
+less-small c = omega (arith, limits c .less)
 
 -- the difference, as code has it
 difference : (c : tie.Start) → toZ w32 (bitAnd (c .args .x + c .args .c .half) (c .args .c .mask)) -ℤ toZ w32 (c .args .c .less) ≡ computed (c .args .c) (c .args .x)
@@ -30,13 +29,13 @@ small : (c : tie.Start) → SFits w32 (computed (c .args .c) (c .args .x))
 small c = record { sfits = omega (arith, value-small (c .args .c) (c .args .x) (c .pre .1)) }
 
 add-y : tie.Need-add-y
-add-y c = record { fits = omega (arith, half-small (c .before)) }
+add-y c = let l = limits (c .before) in record { fits = omega arith }
 
 cast-result : tie.Need-cast-result
 cast-result c = record { sfits = masked-small (c .before .before) }
 
 cast-result-2 : tie.Need-cast-result-2
-cast-result-2 c = record { sfits = less-small (c .before .before .before) }
+cast-result-2 c = let l = limits (c .before .before .before) in record { sfits = omega arith }
 
 sub-result : tie.Need-sub-result
 sub-result c = let s = c .before .before .before in rw (difference s) (small s)
