@@ -8,7 +8,7 @@ use native.Mathlib.Omega.{arith}
 use lib.Dec.{ltb}
 use lib.ListN.{length, take, replicate, length-append, length-map, length-replicate}
 use lib.Seq.{take-at}
-use Rattle.bits.specs.BitLists.{number, spell}
+use Rattle.bits.specs.BitLists.{number}
 use Rattle.format.proofs.Sames.{and-true}
 use Rattle.format.specs.Good.{goodSystem, goodSystems, good}
 use Rattle.format.specs.Masks.{System, Mask, Held, nothing, mask, Satellite, satellitesOf, satellites, cells}

@@ -3,7 +3,7 @@
 use mathlib.Core.Path.{_≡_, refl, sym, ap, ap₂, _∙_}
 use mathlib.Core.Bool.{Bool, true, false}
 use mathlib.Core.List.{List, [], _∷_}
-use Prim.Native.Nat.{ℕ, zero, suc, _+_, _*_, _≤_}
+use Prim.Native.Nat.{ℕ, zero, suc, _*_, _≤_}
 use native.Mathlib.Nat.{suc-mul, zero-mul}
 use native.Mathlib.Omega.{arith}
 use lib.ListN.{length, length-map}
@@ -11,7 +11,7 @@ use Rattle.bits.specs.BitLists.{spell}
 use Rattle.format.proofs.Bodies.{none, more}
 use Rattle.format.specs.Masks.{Held, Satellite, Cell, pick}
 use Rattle.format.specs.Messages.{satelliteLines, cellLines, packetLines, clockShape, codeShape, phaseShape, combinedShape, packetShape}
-use Rattle.format.specs.Rows.{Column, Line, shapeWidth, widthOf, bodyWidth}
+use Rattle.format.specs.Rows.{Column, shapeWidth, widthOf, bodyWidth}
 use Rattle.holding.specs.Kth.{satellitesHeld, cellsHeld}
 use Rattle.rows.proofs.Columns.{narrow-for, width-for}
 use Rattle.rows.proofs.RowsAt.{Eights}

@@ -8,7 +8,7 @@ use lib.ListN.{length, getD, drop}
 use lib.Seq.{drop-cons, drop-nil, drop-drop}
 use Rattle.format.specs.Masks.{Satellite, Cell}
 use Rattle.format.specs.Messages.{cellLines}
-use Rattle.format.specs.Rows.{Column, Line}
+use Rattle.format.specs.Rows.{Column}
 use Rattle.holding.proofs.Kths.{spots-up}
 use Rattle.holding.proofs.PicturedCells.{rowCells}
 use Rattle.holding.proofs.Places.{no-place, next-place}

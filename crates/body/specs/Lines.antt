@@ -1,5 +1,5 @@
 -- Which lines a body has, by the cases of the code's enum: document 01, "Message layouts", under what is held.
-use mathlib.Core.List.{List, []}
+use mathlib.Core.List.{List}
 use Prim.Native.Nat.{ℕ}
 use Rattle.bits.specs.BitLists.{spell}
 use Rattle.body.specs.declared.Lines.{Lines}

@@ -11,10 +11,10 @@ ghost use Rattle.format.specs.Reading.{over};
 ghost use Rattle.holding.proofs.PicturedCells.{rowCells};
 ghost use Rattle.holding.specs.Kth.{narrow};
 use crate::End;
+use holding::set_places;
 use rows::row;
 use rows::shape;
 use rows::shape::Shape;
-use holding::set_places;
 
 // The rows of one satellite's cells, by its row of signals, which begins at the highest of 64 bits.
 fn satellite(
@@ -38,7 +38,15 @@ fn satellite(
     while left > 0 {
         let signal = set_places::first(left) as i32;
         let e = k + 8;
-        row::put(&mut rows[k..e], system, satellite, signal, bytes, place, shape);
+        row::put(
+            &mut rows[k..e],
+            system,
+            satellite,
+            signal,
+            bytes,
+            place,
+            shape,
+        );
         left = set_places::rest(left);
         k = e;
         place += width;
@@ -101,7 +109,15 @@ pub fn write(
     while i < ids.len() {
         let id = ids[i];
         let mask = masks[i];
-        let end = slot(id, mask << 24, &cells[n..], shape, bytes, place, &mut rows[k..]);
+        let end = slot(
+            id,
+            mask << 24,
+            &cells[n..],
+            shape,
+            bytes,
+            place,
+            &mut rows[k..],
+        );
         n += set_places::count(mask);
         k += end.filled;
         place = end.at;

@@ -6,13 +6,15 @@ pub mod satellites;
 
 ghost use mathlib.Core.Path.{_≡_};
 ghost use mathlib.Core.Bool.{true};
+ghost use mathlib.Core.List.{flatten};
 ghost use Prim.Native.Nat.{_+_, _^_, _≤_, _<_};
 ghost use lib.ListN.{length};
 ghost use Rattle.body.specs.Lines.{linesOf, partsOf};
-ghost use Rattle.body.specs.Written.{numbersAt, Counts};
+ghost use Rattle.body.specs.Written.{Counts};
 ghost use Rattle.format.specs.Reading.{over};
 ghost use Rattle.format.specs.Rows.{bodyWidth};
 ghost use Rattle.holding.specs.Pictures.{maskOf, sound};
+ghost use Rattle.rows.specs.At.{rowsAt};
 use holding::Holding;
 use rows::shapes;
 
@@ -72,7 +74,7 @@ pub fn size(h: Holding, lines: Lines) -> Extent
 // The rows of the body whose bits begin at a place, into the row buffer.
 pub fn write(h: Holding, lines: Lines, bytes: &[u8], at: usize, rows: &mut [i32])
     requires { ⌜ (sound h ≡ true) × (partsOf lines ≤ 4) × (at + bodyWidth (linesOf (maskOf h) lines) < 2 ^ 32) × (2048 ≤ length (now rows)) ⌝ }
-    ensures { λ _. ⌜ now (rows .exit) ≡ over (numbersAt (linesOf (maskOf h) lines) (now (bytes .entry)) at) (now (rows .entry)) ⌝ }
+    ensures { λ _. ⌜ now (rows .exit) ≡ over (flatten (rowsAt (linesOf (maskOf h) lines) (now (bytes .entry)) at)) (now (rows .entry)) ⌝ }
 {
     let ids = h.ids;
     let masks = h.satellites;
@@ -80,16 +82,48 @@ pub fn write(h: Holding, lines: Lines, bytes: &[u8], at: usize, rows: &mut [i32]
     let cells = h.cells;
     match lines {
         Lines::Orbits => {
-            satellites::write(&ids[..count], &masks, lines, 0xFFFF_FFFF_FFFF_FFFF, bytes, at, rows)
+            satellites::write(
+                &ids[..count],
+                &masks,
+                lines,
+                0xFFFF_FFFF_FFFF_FFFF,
+                bytes,
+                at,
+                rows,
+            )
         }
         Lines::Clocks => {
-            satellites::write(&ids[..count], &masks, lines, 0xFFFF_FFFF_FFFF_FFFF, bytes, at, rows)
+            satellites::write(
+                &ids[..count],
+                &masks,
+                lines,
+                0xFFFF_FFFF_FFFF_FFFF,
+                bytes,
+                at,
+                rows,
+            )
         }
         Lines::Codes => {
-            cells::write(&ids[..count], &masks, &cells, shapes::code(), bytes, at, rows)
+            cells::write(
+                &ids[..count],
+                &masks,
+                &cells,
+                shapes::code(),
+                bytes,
+                at,
+                rows,
+            )
         }
         Lines::Phases => {
-            cells::write(&ids[..count], &masks, &cells, shapes::phase(), bytes, at, rows)
+            cells::write(
+                &ids[..count],
+                &masks,
+                &cells,
+                shapes::phase(),
+                bytes,
+                at,
+                rows,
+            )
         }
         Lines::Combined(_, _, chosen) => {
             satellites::write(&ids[..count], &masks, lines, chosen, bytes, at, rows)

@@ -17,7 +17,15 @@ pub fn write(parts: usize, bytes: &[u8], at: usize, rows: &mut [i32])
     while i < parts {
         i += 1;
         let e = k + 8;
-        row::put(&mut rows[k..e], -32768, -32768, i as i32, bytes, place, shape);
+        row::put(
+            &mut rows[k..e],
+            -32768,
+            -32768,
+            i as i32,
+            bytes,
+            place,
+            shape,
+        );
         k = e;
         place += 40;
     }

@@ -11,13 +11,13 @@ ghost use Rattle.body.specs.Written.{numbersAt, Room, Wrote, Countable, 
 ghost use Rattle.format.specs.Reading.{over};
 ghost use Rattle.holding.specs.Kth.{narrow};
 use crate::End;
-use crate::Lines;
 use crate::Extent;
+use crate::Lines;
+use crate::columns;
+use holding::set_places;
 use rows::row;
 use rows::shape;
 use rows::shape::Shape;
-use crate::columns;
-use holding::set_places;
 
 // The rows of one system's satellites that are chosen: its mask and the selection each begin at the highest of
 // 64 bits.
@@ -46,7 +46,15 @@ fn slot(
         marks = marks << 1;
         if mark >= 0x8000_0000_0000_0000 {
             let e = k + 8;
-            row::put(&mut rows[k..e], system, number as i32, -32768, bytes, place, shape);
+            row::put(
+                &mut rows[k..e],
+                system,
+                number as i32,
+                -32768,
+                bytes,
+                place,
+                shape,
+            );
             k = e;
             place += width;
         }

@@ -7,7 +7,6 @@ use borrow.Author.Needs.{needs}
 use Rattle.format.specs.Rows.{Line}
 use Rattle.holding.proofs.HeldKths.{held-counts}
 use Rattle.holding.specs.Pictures.{maskOf}
-use Rattle.body.specs.declared.Extent.{Extent}
 use Rattle.body.specs.declared.Lines.{Lines}
 use Rattle.body.specs.Lines.{linesOf}
 use Rattle.body.specs.Written.{Counts}

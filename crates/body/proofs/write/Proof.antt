@@ -1,5 +1,5 @@
 -- `body::write` meets its contract. Assumes nothing.
-use mathlib.Core.Path.{_≡_, ap, _∙_, subst, sym}
+use mathlib.Core.Path.{ap, _∙_, subst, sym}
 use mathlib.Core.List.{List}
 use borrow.Author.Needs.{needs}
 use Rattle.format.specs.Reading.{over}

@@ -1,6 +1,6 @@
 -- `body::satellites::size` meets its contract. The loop's invariant: with the bits and rows of the slots that are left it is the whole.
 -- Assumes nothing.
-use mathlib.Core.Path.{_≡_, refl, ap, _∙_}
+use mathlib.Core.Path.{_≡_, ap, _∙_}
 use mathlib.Core.List.{List}
 use Prim.Native.Nat.{ℕ, suc, _+_, _-_, _*_, _%_, _^_, _≤_, _<_}
 use native.Mathlib.Nat.{mod-lt}
@@ -79,13 +79,21 @@ module _ (c : tie.After-width Inv-loop μ-loop) where
   bits : p .before .loop .bits + some * c .width .result + bodyWidth behind
       ≡ bodyWidth (chosenLines shape (p .before .before .before .before .args .chosen) (slotSatellites ids (masks p)))
   bits =
-      omega (arith, p .before .loop .inv .1, slot-bits shape marks n some (c .width .result) columns ids (masks p) (i p) (p .loop-test .taken) (inside p) (small p) same
-      (c .before .before .before .before .count .ensures) (p .before .loop .inv .0) (c .before .before .before .picked .ensures) (c .width .ensures))
+      omega (
+        arith,
+        p .before .loop .inv .1,
+        slot-bits shape marks n some (c .width .result) columns ids (masks p) (i p) (p .loop-test .taken) (inside p) (small p) same
+            (c .before .before .before .before .count .ensures) (p .before .loop .inv .0) (c .before .before .before .picked .ensures) (c .width .ensures),
+      )
 
   rows : p .before .loop .count + some + length behind ≡ length (chosenLines shape (p .before .before .before .before .args .chosen) (slotSatellites ids (masks p)))
   rows =
-      omega (arith, p .before .loop .inv .2, slot-rows shape marks n some (c .width .result) columns ids (masks p) (i p) (p .loop-test .taken) (inside p) (small p) same
-      (c .before .before .before .before .count .ensures) (p .before .loop .inv .0) (c .before .before .before .picked .ensures) (c .width .ensures))
+      omega (
+        arith,
+        p .before .loop .inv .2,
+        slot-rows shape marks n some (c .width .result) columns ids (masks p) (i p) (p .loop-test .taken) (inside p) (small p) same
+            (c .before .before .before .before .count .ensures) (p .before .loop .inv .0) (c .before .before .before .picked .ensures) (c .width .ensures),
+      )
 
   room : (p .before .loop .bits + some * c .width .result < 2 ^ 32) × (p .before .loop .count + some < 2 ^ 32)
   room = let all = p .before .before .before .before .pre .2 in (omega (arith, bits, all .bits), omega (arith, rows, all .rows))

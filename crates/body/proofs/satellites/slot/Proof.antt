@@ -11,8 +11,7 @@ use lib.Count.{leadingZeros}
 use lib.IntN.{pos}
 use lib.ListN.{length}
 use lib.Pow.{pow-pos}
-use Rattle.format.specs.Masks.{Satellite}
-use Rattle.format.specs.Rows.{Column, Line, absent, shapeWidth}
+use Rattle.format.specs.Rows.{Column, Line, absent}
 use Rattle.rows.specs.Shapes.{columnsOf}
 use Rattle.body.specs.Slots.{satellitesIn, chosenLines}
 use Rattle.body.proofs.Going.{Going, going-start, row-room, row-near, row-part, row-written, going-end}
@@ -21,12 +20,6 @@ use Rattle.body.proofs.Slots.{none-in, next-in, chosen-nil, chosen-one,
 use Rattle.holding.proofs.Places.{next-place}
 use Rattle.body.proofs.satellites.slot.Statement.{statement}
 use Rattle.body.proofs.satellites.slot.Tie as tie
-use Rattle.body.proofs.satellites.slot.Reads as reads
-use Rattle.body.proofs.satellites.slot.Lts as lts
-use Rattle.rows.proofs.row.put.Reads as put-reads
-use Rattle.rows.proofs.shape.width.Reads as width-reads
-use Rattle.holding.proofs.set_places.first.Reads as first-reads
-use Rattle.holding.proofs.set_places.rest.Reads as rest-reads
 
 abbrev Inv-loop : tie.InvT-loop
 Inv-loop id word chosen shape bytes at rows₀ system width left₀ marks₀ k₀ place₀ rows left marks k place =

@@ -14,15 +14,10 @@ use Rattle.body.specs.Lines.{shapeFor}
 use Rattle.rows.specs.Shapes.{columnsOf}
 use Rattle.body.specs.Slots.{satellitesIn, slotSatellites, chosenLines}
 use Rattle.body.proofs.Fine.{columns-for, formed-for}
-use Rattle.body.proofs.Going.{Going, going-start, part-start, part-room, part-written, going-end}
+use Rattle.body.proofs.Going.{Going, going-start, part-room, part-written, going-end}
 use Rattle.body.proofs.Slots.{chosen-nil, chosen-next, no-slot}
 use Rattle.body.proofs.satellites.write.Statement.{statement}
 use Rattle.body.proofs.satellites.write.Tie as tie
-use Rattle.body.proofs.satellites.write.Reads as reads
-use Rattle.body.proofs.satellites.write.Lts as lts
-use Rattle.body.proofs.satellites.slot.Reads as slot-reads
-use Rattle.body.proofs.columns.shape_for.Reads as shape-for-reads
-use Rattle.holding.proofs.set_places.count.Reads as count-reads
 
 abbrev Inv-loop : tie.InvT-loop
 Inv-loop ids masks lines chosen bytes at rows₀ marks₀ k₀ place₀ i₀ rows marks k place i =
