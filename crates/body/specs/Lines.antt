@@ -1,5 +1,5 @@
 -- Which lines a body has, by the cases of the code's enum: document 01, "Message layouts", under what is held.
-use mathlib.Core.List.{List, []}
+use mathlib.Core.List.{List}
 use Prim.Native.Nat.{ℕ}
 use Rattle.bits.specs.BitLists.{spell}
 use Rattle.body.specs.declared.Lines.{Lines}
@@ -26,3 +26,12 @@ linesOf held Codes = cellLines codeShape (cellsHeld held)
 linesOf held Phases = cellLines phaseShape (cellsHeld held)
 linesOf held (Combined orbit clock chosen) = satelliteLines (combinedShape orbit clock) (pick (spell 64 chosen) (satellitesHeld held))
 linesOf held (Packet parts) = packetLines 1 parts
+
+-- how many rows a packet has
+unfoldable pub partsOf : Lines → ℕ
+partsOf Orbits = 0
+partsOf Clocks = 0
+partsOf Codes = 0
+partsOf Phases = 0
+partsOf (Combined orbit clock chosen) = 0
+partsOf (Packet parts) = parts
