@@ -1,4 +1,6 @@
 // Sub type 1: a mask message, read into a holding that it makes (document 01, "Message layouts").
+pub mod spread;
+
 ghost use mathlib.Core.Path.{_≡_};
 ghost use Prim.Native.Nat.{_*_, _^_, _≤_};
 ghost use lib.ListN.{length};
