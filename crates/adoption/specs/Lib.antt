@@ -1,1 +1,2 @@
 pub mod Adoptions
+pub mod Growing

@@ -1,4 +1,5 @@
 // Sub type 1: a mask message, read into a holding that it makes (document 01, "Message layouts").
+pub mod grow;
 pub mod spread;
 
 ghost use mathlib.Core.Path.{_≡_};

@@ -2,9 +2,8 @@
 -- are the whole row.
 -- Assumes nothing.
 use mathlib.Core.Path.{_≡_}
-use Prim.Native.Nat.{ℕ, _+_, _^_, _<_}
+use Prim.Native.Nat.{_+_, _^_, _<_}
 use native.Mathlib.Omega.{arith}
-use borrow.Author.Needs.{needs}
 use Rattle.adoption.proofs.Bitwise.{spreadOf, spread-lt, spread-none, Next, next}
 use Rattle.adoption.proofs.spread.spread_row.Statement.{statement}
 use Rattle.adoption.proofs.spread.spread_row.Tie as tie
