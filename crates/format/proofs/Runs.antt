@@ -30,7 +30,7 @@ run-short w next l over =
     let some : 0 < w - length l = omega arith in
     rw (← (suc-pred-eq-of-pos some))
 
-drop-take : (w n : ℕ) (l : List Bool) → w ≤ length l → drop w (take (w + n) l) ≡ take n (drop w l)
+pub drop-take : (w n : ℕ) (l : List Bool) → w ≤ length l → drop w (take (w + n) l) ≡ take n (drop w l)
 drop-take w n l h = ap (drop w) (take-add w n l) ∙ drop-at (take w l) (take n (drop w l)) w (length-take-le w l h)
 
 -- ---- ends
@@ -40,7 +40,7 @@ unfolding later
 later-zero (well a taken) = ap (well a) (zero-add taken)
 later-zero (badly r missing) = refl
 
-later-later : {A : Type 0} (v w : ℕ) (e : Ended A) → later v (later w e) ≡ later (v + w) e
+pub later-later : {A : Type 0} (v w : ℕ) (e : Ended A) → later v (later w e) ≡ later (v + w) e
 unfolding later
 later-later v w (well a taken) = ap (well a) (sym (add-assoc v w taken))
 later-later v w (badly r missing) = refl
@@ -50,7 +50,7 @@ unfolding later
 later-well w (well b rest) a taken e = (rest, cc, cc)
 later-well w (badly r missing) a taken e = absurd (let z : _≡_ {A = ℕ} 0 1 = cc in omega arith)
 
-badly-later : {A : Type 0} (w : ℕ) (r : Refusal) (missing : ℕ) → later {A = A} w (badly r missing) ≡ badly r missing
+pub badly-later : {A : Type 0} (w : ℕ) (r : Refusal) (missing : ℕ) → later {A = A} w (badly r missing) ≡ badly r missing
 unfolding later
 badly-later w r missing = refl
 

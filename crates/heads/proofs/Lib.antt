@@ -1,0 +1,2 @@
+pub mod Openings
+pub mod Parts
