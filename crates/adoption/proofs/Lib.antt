@@ -1,2 +1,3 @@
 pub mod Bitwise
 pub mod Adding
+pub mod StageRuns

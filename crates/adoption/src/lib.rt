@@ -1,6 +1,7 @@
 // Sub type 1: a mask message, read into a holding that it makes (document 01, "Message layouts").
 pub mod grow;
 pub mod spread;
+pub mod stages;
 
 ghost use mathlib.Core.Path.{_≡_};
 ghost use Prim.Native.Nat.{_*_, _^_, _≤_};
