@@ -55,7 +55,7 @@ next-row n i at signals l more small =
     rw (e, ones-places 16 signals 0 small, ← (drop-drop (length (placesFrom 0 (spell 16 signals))) at l))
 
 -- bits past those that the mask has places for are not looked at
-spread-front : (places l : List Bool) (k : ℕ) → spread places (take (length (placesFrom k places)) l) ≡ spread places l
+pub spread-front : (places l : List Bool) (k : ℕ) → spread places (take (length (placesFrom k places)) l) ≡ spread places l
 unfolding spread placesFrom
 spread-front [] l k = refl
 spread-front (false ∷ places) l k = ap (λ (m : List Bool). false ∷ m) (spread-front places l (suc k))

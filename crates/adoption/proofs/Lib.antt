@@ -1,3 +1,5 @@
 pub mod Bitwise
 pub mod Adding
 pub mod StageRuns
+pub mod CellRuns
+pub mod CellsMade

@@ -20,7 +20,7 @@ use Rattle.bits.specs.Places.{field}
 use Rattle.format.proofs.Placed.{numbered-there, numbered-short, taking-there, taking-short}
 use Rattle.format.specs.Assigned.{satellitePlaces, signalPlaces, known, assigned}
 use Rattle.format.specs.declared.Refusal.the-variants as Refusal
-use Rattle.format.specs.Programs.{Program, done, _>>_, taking, require, later, run}
+use Rattle.format.specs.Programs.{Program, done, _>>=_, _>>_, taking, require, later, run}
 use Rattle.format.specs.Reading.{bitsFrom}
 use Rattle.holding.proofs.Places.{ones-places}
 use Rattle.holding.specs.Named.{namedIn}

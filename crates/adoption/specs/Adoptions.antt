@@ -5,16 +5,21 @@ use Rattle.adoption.specs.declared.Adoption.{Adoption}
 use Rattle.adoption.specs.declared.Grown.{Grown}
 use Rattle.adoption.specs.declared.Made.the-variants as Made
 use Rattle.adoption.specs.declared.Step.the-variants as Step
-use Rattle.format.specs.Masks.{System, Mask, Held, nothing, mask}
+use Rattle.format.specs.Lengths.{maskOr}
+use Rattle.format.specs.Masks.{System, Mask, mask}
 use Rattle.format.specs.Messages.{Adopted}
 use Rattle.format.specs.Programs.{Ended, well, badly}
 use Rattle.holding.specs.declared.Holding.{Holding}
-use Rattle.holding.specs.Pictures.{pictureOf}
+use Rattle.holding.specs.Pictures.{pictureOf, maskOf}
 
 -- a mask message read at a place: the head, the place after it and the mask adopted; or the refusal, and what was held
 unfoldable pub adoptionAt : Holding → ℕ → Ended Adopted → Adoption
 adoptionAt old place (well d taken) = record { made = Made.Mask (d .head) (place + taken); holding = pictureOf (mask (d .made)) }
 adoptionAt old place (badly r missing) = record { made = Made.Refused r missing; holding = old }
+
+-- the mask that a holding holds; one of no systems where it holds none
+unfoldable pub maskIn : Holding → Mask
+maskIn h = maskOr (maskOf h)
 
 -- one more system after those of a mask
 unfoldable pub grownAt : Mask → ℕ → Ended System → Grown
