@@ -40,6 +40,12 @@ pub none-left : (first : Holding) (rows : List ℕ) (h : Holding) → Adding fir
 unfolding withRows
 none-left first rows h a = sym (a .same)
 
+-- no row adds a system
+pub rows-count : (h : Holding) (rows : List ℕ) → withRows h rows .count ≡ h .count
+unfolding withRows withRow
+rows-count h [] = refl
+rows-count h (row ∷ rows) = rows-count (withRow h row) rows
+
 -- ---- the next row
 
 pub next-same : {A : Type 0} (n i : ℕ) (x : A) → i < n → replicate (n - i) x ≡ x ∷ replicate (n - suc i) x

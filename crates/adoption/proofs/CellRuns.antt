@@ -3,36 +3,29 @@
 use mathlib.Core.Path.{_≡_, refl, sym, ap, _∙_}
 use mathlib.Core.Bool.{Bool, true, false, cond}
 use mathlib.Core.List.{List, [], _∷_, _++_, append-nil, flatMap}
-use Prim.Native.Nat.{ℕ, zero, suc, _+_, _-_, _*_, _^_, _≤_, _<_}
-use native.Mathlib.Nat.{zero-mul, one-mul, suc-mul, add-zero, add-comm, mod-eq-of-lt}
+use Prim.Native.Nat.{ℕ, _+_, _-_, _*_, _≤_, _<_}
+use native.Mathlib.Nat.{zero-mul, one-mul, add-zero}
 use native.Mathlib.Omega.{arith}
-use lib.Count.{ones}
 use lib.Dec.{leb}
-use lib.ListN.{length, take, drop, replicate, length-append, length-drop}
-use lib.Seq.{take-take}
-use Rattle.adoption.proofs.Adding.{spread-front, rows-built}
+use lib.ListN.{length, length-append}
+use Rattle.adoption.proofs.Adding.{rows-built}
 use Rattle.adoption.specs.Adoptions.{grownAt}
 use Rattle.adoption.specs.declared.Grown.{Grown}
 use Rattle.adoption.specs.declared.Step.the-variants as Step
 use Rattle.adoption.specs.Growing.{withRows, settled}
 use Rattle.adoption.specs.Stages.{BothMasks, systemWith, systemCells}
-use Rattle.bits.proofs.BitLists.{number-spell, length-spell}
-use Rattle.bits.proofs.Bridge.{spell-field}
 use Rattle.bits.specs.BitLists.{number, spell, bits}
 use Rattle.bits.specs.Places.{field}
 use Rattle.format.proofs.Placed.{numbered-there, numbered-short, taking-there, taking-short}
-use Rattle.format.proofs.Runs.{drop-take}
 use Rattle.format.specs.declared.Refusal.the-variants as Refusal
 use Rattle.format.specs.Masks.{System, Mask, mask, placesFrom, satellites, cells}
 use Rattle.format.specs.Programs.{done, _>>=_, _>>_, require, Ended, well, badly, later, run}
 use Rattle.format.specs.Reading.{bitsFrom}
 use Rattle.holding.proofs.Built.{begun-picture, rows-ones, flatMap-snoc, system-built}
-use Rattle.holding.proofs.PicturedRows.{length-rows, picture-rows}
-use Rattle.holding.proofs.Places.{ones-places}
-use Rattle.holding.specs.Building.{withRow, withSystem, onesIn, begun}
+use Rattle.holding.proofs.PicturedRows.{picture-rows}
+use Rattle.holding.specs.Building.{withSystem, begun}
 use Rattle.holding.specs.declared.Holding.{Holding}
-use Rattle.holding.specs.Pictures.{rowsFrom, rowsOf, pictureOf}
-use Rattle.holding.specs.Spread.{spread}
+use Rattle.holding.specs.Pictures.{rowsOf, pictureOf}
 
 -- ---- the program
 

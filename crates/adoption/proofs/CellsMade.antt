@@ -2,7 +2,7 @@
 use mathlib.Core.Path.{_≡_, refl, sym, ap, _∙_}
 use mathlib.Core.Bool.{Bool, true, false}
 use mathlib.Core.List.{List, []}
-use Prim.Native.Nat.{ℕ, zero, suc, _+_, _*_, _^_, _≤_, _<_}
+use Prim.Native.Nat.{ℕ, zero, suc, _+_, _-_, _*_, _^_, _≤_, _<_}
 use native.Mathlib.Nat.{suc-mul, add-assoc, add-comm, mod-eq-of-lt}
 use native.Mathlib.Omega.{arith}
 use lib.Count.{ones}
@@ -10,7 +10,7 @@ use lib.Dec.{eqb}
 use lib.ListN.{length, take, drop, replicate, length-drop}
 use lib.Seq.{take-take}
 use Rattle.adoption.proofs.Adding.{spread-front}
-use Rattle.adoption.proofs.CellRuns.{endOf, plain-run, flagged-run, begun-rows, settled-end}
+use Rattle.adoption.proofs.CellRuns.{endOf, plain-run, mask-short, flagged-run, begun-rows, settled-end}
 use Rattle.adoption.specs.Adoptions.{grownAt}
 use Rattle.adoption.specs.Growing.{withRows, settled}
 use Rattle.adoption.specs.Stages.{BothMasks, systemWith, systemCells}
@@ -19,8 +19,9 @@ use Rattle.bits.proofs.Bridge.{spell-field}
 use Rattle.bits.specs.BitLists.{number, spell, bits}
 use Rattle.bits.specs.Places.{field}
 use Rattle.format.proofs.Runs.{drop-take}
-use Rattle.format.specs.Masks.{System, Mask, mask, placesFrom}
-use Rattle.format.specs.Programs.{run}
+use Rattle.format.specs.declared.Refusal.the-variants.{Short}
+use Rattle.format.specs.Masks.{Mask, mask, placesFrom}
+use Rattle.format.specs.Programs.{badly, run}
 use Rattle.format.specs.Reading.{bitsFrom}
 use Rattle.holding.proofs.PicturedRows.{length-rows}
 use Rattle.holding.proofs.Places.{ones-places}
@@ -89,6 +90,10 @@ module _ (bs : List ℕ) (end : ℕ) (inside : end ≤ 8 * length bs) (place : �
 
   width-is : width ≡ ones sats * ones signals
   width-is = rw (satellites-are, signals-are)
+
+  pub mask-short-by : field bs place 1 ≡ 1 → place + 1 ≤ end → end - (place + 1) < ones sats * ones signals
+      → run (systemCells (m .systems) id masks) (bitsFrom bs end place) ≡ badly Short (ones sats * ones signals - (end - (place + 1)))
+  mask-short-by flag there short = rw (← width-is) (mask-short bs end inside place (m .systems) id masks there flag (rw width-is short))
 
   flagged-rows : place + 1 + width ≤ end → rowsOf (systemWith id masks 1 cellMask) ≡ rowsFrom (ones sats) (spell 16 signals) (drop (place + 1) (bits bs))
   unfolding rowsOf systemWith

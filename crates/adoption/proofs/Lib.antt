@@ -3,3 +3,4 @@ pub mod Adding
 pub mod StageRuns
 pub mod CellRuns
 pub mod CellsMade
+pub mod Holds

@@ -1,4 +1,5 @@
 // Sub type 1: a mask message, read into a holding that it makes (document 01, "Message layouts").
+pub mod cells;
 pub mod grow;
 pub mod spread;
 pub mod stages;
