@@ -4,3 +4,4 @@ pub mod StageRuns
 pub mod CellRuns
 pub mod CellsMade
 pub mod Holds
+pub mod SystemRuns

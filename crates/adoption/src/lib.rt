@@ -3,6 +3,7 @@ pub mod cells;
 pub mod grow;
 pub mod spread;
 pub mod stages;
+pub mod systems;
 
 ghost use mathlib.Core.Path.{_≡_};
 ghost use Prim.Native.Nat.{_*_, _^_, _≤_};
