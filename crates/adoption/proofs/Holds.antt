@@ -1,9 +1,11 @@
 -- The mask that a sound holding holds, and what its numbers are to it. Assumes nothing.
 use mathlib.Core.Path.{_≡_, sym, ap, _∙_}
 use mathlib.Core.Bool.{true}
-use Prim.Native.Nat.{ℕ, _≤_}
+use mathlib.Core.List.{List, _++_, map}
+use Prim.Native.Nat.{ℕ, _-_, _≤_}
 use native.Mathlib.Omega.{arith}
-use lib.ListN.{length}
+use lib.ListN.{length, take, replicate, length-append, length-map}
+use lib.Seq.{take-at}
 use Rattle.adoption.specs.Adoptions.{maskIn, grownAt}
 use Rattle.adoption.specs.declared.Grown.{Grown}
 use Rattle.adoption.specs.declared.Step.the-variants as Step
@@ -15,7 +17,7 @@ use Rattle.format.specs.Programs.{badly}
 use Rattle.holding.proofs.Pictured.{picture-sound}
 use Rattle.holding.proofs.PicturedRows.{few-satellites, few-cells}
 use Rattle.holding.specs.declared.Holding.{Holding}
-use Rattle.holding.specs.Pictures.{pictureOf, maskOf, sound}
+use Rattle.holding.specs.Pictures.{filled, pictureOf, maskOf, sound}
 
 is-mask : (h : Holding) → h .held ≡ true → maskOf h ≡ mask (maskIn h)
 unfolding maskOf maskIn maskOr
@@ -46,6 +48,16 @@ holds h e held =
       few-sats = omega (arith, few-satellites m fine);
       few-held = omega (arith, few-cells m fine);
     }
+
+-- the IDs named so far are the first of the struct's
+pub ids-named : (h : Holding) → Holds h → (h .count ≤ length (h .ids)) × (take (h .count) (h .ids) ≡ map (λ s. s .id) (maskIn h .systems))
+unfolding pictureOf filled
+ids-named h held =
+    let named = map (λ s. s .id) (maskIn h .systems) in
+    let rest : List ℕ = replicate (5 - length named) 0 in
+    let ids : h .ids ≡ named ++ rest = ap (λ (g : Holding). g .ids) (held .picture) in
+    let long : length named ≡ h .count = length-map (maskIn h .systems) _ ∙ sym (held .count) in
+    (omega (arith, ap length ids, length-append named rest, long), ap (take (h .count)) ids ∙ take-at named rest (h .count) long)
 
 -- a refusal leaves it as it is
 pub refused-held : (h : Holding) → Holds h → (r : Refusal) (missing place : ℕ)

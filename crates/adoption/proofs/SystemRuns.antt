@@ -1,14 +1,13 @@
 -- One system of a mask message, part by part: what the code's answer to each part says of how the program runs.
 -- Assumes nothing.
-use mathlib.Core.Path.{_≡_, refl, sym, ap, _∙_}
-use mathlib.Core.Bool.{Bool, true, false, not, _&&_}
-use mathlib.Core.List.{List, [], _∷_, _++_, map}
-use Prim.Native.Nat.{ℕ, _+_, _-_, _*_, _^_, _≤_, _<_}
-use native.Mathlib.Nat.{add-assoc, mod-eq-of-lt}
+use mathlib.Core.Path.{_≡_, refl, ap, _∙_}
+use mathlib.Core.Bool.{Bool, true, false, not}
+use mathlib.Core.List.{List, map}
+use Prim.Native.Nat.{ℕ, _+_, _*_, _^_, _≤_, _<_}
+use native.Mathlib.Nat.{add-assoc}
 use native.Mathlib.Omega.{arith}
 use lib.Count.{ones}
-use lib.Dec.{leb}
-use lib.ListN.{length, take, drop}
+use lib.ListN.{length}
 use borrow.Author.Tests.{leb-true, not-true}
 use Rattle.adoption.specs.Adoptions.{grownAt}
 use Rattle.adoption.specs.declared.stages.Masked.the-variants as Masked
@@ -105,10 +104,11 @@ module _ (bs : List ℕ) (end : ℕ) (inside : end ≤ 8 * length bs) (m : Mask)
   onward : {A : Type 0} (p : Program A) (k : A → Program System) (place : ℕ) → place ≤ end → (a : A) (taken : ℕ) → run p (bitsFrom bs end place) ≡ well a taken
       → (place + taken ≤ end) × (grownAt m place (run (p >>= k) (bitsFrom bs end place)) ≡ grownAt m (place + taken) (run (k a) (bitsFrom bs end (place + taken))))
   onward p k place room a taken e =
-      let l = bitsFrom bs end place in
-      (omega (arith, taken-le p l a taken e, length-from bs end inside place),
-          ap (grownAt m place) (run-bind p k l a taken e ∙ ap (λ (more : List Bool). later taken (run (k a) more)) (drop-from bs end inside place taken))
-          ∙ grown-later m place taken (run (k a) (bitsFrom bs end (place + taken))))
+      let l = bitsFrom bs end place in (
+        omega (arith, taken-le p l a taken e, length-from bs end inside place),
+        ap (grownAt m place) (run-bind p k l a taken e ∙ ap (λ (more : List Bool). later taken (run (k a) more)) (drop-from bs end inside place taken))
+            ∙ grown-later m place taken (run (k a) (bitsFrom bs end (place + taken))),
+      )
 
   module _ (place : ℕ) (room : place ≤ end) where
     pub id-refused : (r : Refusal) (missing : ℕ) → Named.Refused r missing ≡ namedAt place (run (systemId ids) (bitsFrom bs end place))
