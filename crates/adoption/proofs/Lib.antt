@@ -5,3 +5,4 @@ pub mod CellRuns
 pub mod CellsMade
 pub mod Holds
 pub mod SystemRuns
+pub mod ManySystems

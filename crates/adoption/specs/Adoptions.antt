@@ -1,4 +1,4 @@
--- What the code answers to a mask message, and to one system of it, by how crate format's program ends.
+-- What the code answers to a mask message, to one system of it and to all of them, by how crate format's program ends.
 use mathlib.Core.List.{List, [], _∷_, _++_}
 use Prim.Native.Nat.{ℕ, _+_}
 use Rattle.adoption.specs.declared.Adoption.{Adoption}
@@ -26,3 +26,8 @@ unfoldable pub grownAt : Mask → ℕ → Ended System → Grown
 grownAt m place (well s taken) =
     record { step = Step.Fine (place + taken); holding = pictureOf (mask (record { iod = m .iod; systems = m .systems ++ (s ∷ []) })) }
 grownAt m place (badly r missing) = record { step = Step.Refused r missing; holding = pictureOf (mask m) }
+
+-- all systems of a message: the mask with them; or the refusal, and what was held before the message
+unfoldable pub builtAt : Holding → ℕ → ℕ → Ended (List System) → Grown
+builtAt old iod place (well all taken) = record { step = Step.Fine (place + taken); holding = pictureOf (mask (record { iod = iod; systems = all })) }
+builtAt old iod place (badly r missing) = record { step = Step.Refused r missing; holding = old }
