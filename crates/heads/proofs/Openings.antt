@@ -1,21 +1,20 @@
 -- How crate format's programs run from a place on, by what opens the message there. Assumes nothing.
-use mathlib.Core.Path.{_≡_, refl, sym, ap, _∙_}
-use mathlib.Core.Bool.{Bool, true, false, cond}
+use mathlib.Core.Path.{_≡_, refl, ap, _∙_}
+use mathlib.Core.Bool.{Bool, true, false}
 use mathlib.Core.List.{List}
 use Prim.Native.Nat.{ℕ, _+_, _-_, _*_, _≤_, _<_}
 use native.Mathlib.Decide.{decLt}
 use native.Mathlib.Omega.{arith}
-use lib.Dec.{eqb, ltb}
+use lib.Dec.{eqb}
 use lib.ListN.{length}
-use borrow.Author.Tests.{lt-ltb, le-ltb, eq-eqb, ne-eqb}
+use borrow.Author.Tests.{lt-ltb, le-ltb}
 use Rattle.bits.specs.Places.{field}
-use Rattle.format.specs.declared.Refusal.the-variants as Refusal
 use Rattle.format.specs.Masks.{Held}
 use Rattle.format.specs.Messages as Messages
 use Rattle.format.specs.Messages.{common}
 use Rattle.format.specs.Programs.{Program, _>>=_, _>>_, numbered, require, Ended, well, badly, later, run}
 use Rattle.format.specs.Reading.{bitsFrom}
-use Rattle.format.specs.Table.{Kind, Message, byKind, messageBy}
+use Rattle.format.specs.Table.{Kind, byKind, messageBy}
 use Rattle.format.proofs.Placed.{numbered-there, numbered-short}
 use Rattle.format.proofs.Runs.{later-later}
 use Rattle.heads.specs.Openings.{openingAt, afterOpening, headShort, commonAt, commonOf, afterCommon}

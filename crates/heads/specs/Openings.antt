@@ -2,7 +2,7 @@
 -- crate format's programs run there.
 use mathlib.Core.Bool.{cond}
 use mathlib.Core.List.{List}
-use Prim.Native.Nat.{ℕ, _+_, _-_}
+use Prim.Native.Nat.{ℕ, _+_, _-_, _^_, _<_}
 use lib.Dec.{eqb, ltb}
 use Rattle.bits.specs.Places.{field}
 use Rattle.format.specs.declared.Refusal.the-variants as Refusal
@@ -42,6 +42,13 @@ commonAt bs end place w =
 
 unfoldable pub commonOf : CommonHead → Messages.Common
 commonOf h = record { epoch = h .epoch; interval = h .interval; indicator = h .indicator; iod = h .iod }
+
+-- fields of at most 20 and 4 bits
+pub record Small (h : CommonHead) : Type 0 where
+  pub epoch : h .epoch < 2 ^ 20
+  pub interval : h .interval < 16
+  pub indicator : h .indicator < 16
+  pub iod : h .iod < 16
 
 unfoldable pub afterCommon : {A : Type 0} → ℕ → Opened → (Messages.Common → Ended A) → Ended A
 afterCommon w (Common h) go = later (w + 9) (go (commonOf h))

@@ -1,5 +1,8 @@
 // What opens a message: its number and sub type, and the head that all sub types but 10 share (document 01,
 // "Message layouts").
+pub mod heading;
+pub mod lines;
+
 ghost use mathlib.Core.Path.{_≡_};
 ghost use Prim.Native.Nat.{_+_, _^_, _≤_, _<_};
 ghost use Rattle.heads.specs.Openings.{openingAt, headShort, commonAt};
