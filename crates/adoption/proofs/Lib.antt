@@ -6,3 +6,4 @@ pub mod CellsMade
 pub mod Holds
 pub mod SystemRuns
 pub mod ManySystems
+pub mod Adopting

@@ -1,9 +1,10 @@
--- One system of a mask message in three parts: its ID, its masks, its cells. proofs/StageRuns.antt shows that one after the other they are crate format's
+-- A mask message in parts. One system is its ID, its masks, its cells: proofs/SystemRuns.antt shows that one after the other they are crate format's
 -- program of a system.
 use mathlib.Core.Bool.{Bool, not, _&&_}
 use mathlib.Core.List.{List, [], _∷_, _++_}
 use Prim.Native.Nat.{ℕ, _+_, _*_}
 use lib.Dec.{leb, eqb}
+use lib.IntN.{pos}
 use lib.ListN.{length}
 use Rattle.adoption.specs.declared.stages.Masked.{Masked}
 use Rattle.adoption.specs.declared.stages.Masked.the-variants as Masked
@@ -13,7 +14,11 @@ use Rattle.bits.specs.BitLists.{number}
 use Rattle.format.specs.Assigned.{satellitePlaces, signalPlaces, known, assigned}
 use Rattle.format.specs.declared.Refusal.the-variants as Refusal
 use Rattle.format.specs.Masks.{System, placesFrom, cells}
+use Rattle.format.specs.Messages.{systems, Adopted}
 use Rattle.format.specs.Programs.{Program, done, _>>=_, _>>_, taking, numbered, require, Ended, well, badly}
+use Rattle.format.specs.Rows.{absent}
+use Rattle.heads.specs.declared.CommonHead.{CommonHead}
+use Rattle.heads.specs.Headings.{headWith}
 use Rattle.holding.specs.Named.{namedIn}
 
 -- ---- the ID, after those named before it
@@ -58,3 +63,14 @@ systemCells before id k = do
   bits ← taking (flag * (length (placesFrom 0 (k .satellites)) * length (placesFrom 0 (k .signals))))
   require (leb (length (cells (before ++ (systemWith id k flag bits ∷ [])))) 256) Refusal.Size
   done (systemWith id k flag bits)
+
+-- ---- what follows the common head: the number of systems and the systems
+
+unfoldable pub maskWith : CommonHead → ℕ → List System → Adopted
+maskWith h count all = record { head = headWith 1 h (pos count) absent absent; made = record { iod = h .iod; systems = all } }
+
+unfoldable pub afterCommonHead : CommonHead → Program Adopted
+afterCommonHead h = do
+  count ← numbered 4
+  all ← systems count []
+  done (maskWith h count all)
