@@ -18,10 +18,10 @@ pub enum Heading {
 }
 
 // What isn't there.
-const ABSENT: i32 = -32768;
+pub const ABSENT: i32 = -32768;
 
 // The eight numbers, from the common head.
-fn head(subtype: usize, h: CommonHead, a: i32, b: i32, c: i32) -> Head
+pub fn head(subtype: usize, h: CommonHead, a: i32, b: i32, c: i32) -> Head
     requires { ⌜ (subtype < 16) × Small h ⌝ }
     ensures { λ r. ⌜ r ≡ headWith subtype h a b c ⌝ }
 {
