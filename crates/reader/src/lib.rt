@@ -3,6 +3,7 @@ pub mod message;
 pub mod raw;
 
 ghost use mathlib.Core.Path.{_≡_};
+ghost use Rattle.format.specs.declared.Answer.the-variants.{Refused};
 ghost use Rattle.format.specs.Reading.{rowsAfter, placed};
 ghost use Rattle.reader.specs.Readings.{readingOf, outcomeAt};
 use bits::rest::zero_from;
@@ -27,7 +28,7 @@ pub fn refused(holding: Holding, r: Refusal) -> Reading
 }
 
 // Whether a stretch of so many bits is within its limit and the bytes lent, and a place is within it.
-fn is_placed(bytes: &[u8], end: usize, start: usize) -> bool
+pub fn is_placed(bytes: &[u8], end: usize, start: usize) -> bool
     ensures { λ r. ⌜ r ≡ placed (now (bytes .entry)) end start ⌝ }
 {
     if end > Holding::BITS {
