@@ -1,0 +1,4 @@
+pub mod Held
+pub mod Bodied
+pub mod Adopted
+pub mod Rawed
