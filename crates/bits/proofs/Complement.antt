@@ -50,7 +50,7 @@ unsigned-signed w n small = go (decLt (n * 2) (2 ^ w))
     go (yes h) = rw (signed-pos w n h)
     go (no h) = rw (signed-neg w n (omega arith) small) (omega arith)
 
-even : (w : ℕ) → 1 ≤ w → 2 ^ w ≡ 2 ^ (w - 1) * 2
+pub even : (w : ℕ) → 1 ≤ w → 2 ^ w ≡ 2 ^ (w - 1) * 2
 even w wide =
     let e : w ≡ suc (w - 1) = omega arith in
     ap (λ (k : ℕ). 2 ^ k) e ∙ pow-suc 2 (w - 1)

@@ -1,7 +1,7 @@
 // Reading a field.
 use crate::window;
 ghost use mathlib.Core.Path.{_≡_};
-ghost use Prim.Native.Nat.{_+_, _-_, _/_, _%_, _^_, _≤_, _<_};
+ghost use Prim.Native.Nat.{_+_, _-_, _*_, _/_, _%_, _^_, _≤_, _<_};
 ghost use Rattle.bits.specs.Places.{field};
 ghost use Rattle.bits.specs.Short.{takenAt};
 
@@ -13,17 +13,23 @@ pub fn cut(window: u64, skip: usize, w: usize) -> u64
     (window << skip) >> 1 >> (63 - w)
 }
 
+// The window at byte i, whether or not eight bytes are left there. The bound is that of a place's byte.
+pub fn window_at(bytes: &[u8], i: usize) -> u64
+    requires { ⌜ i < 2 ^ 61 ⌝ }
+    ensures { λ r. ⌜ r ≡ field (now (bytes .entry)) (8 * i) 64 ⌝ }
+{
+    if bytes.len() < i + 8 {
+        return window::fewer(bytes, i);
+    }
+    window::eight(bytes, i)
+}
+
 // The number in w bits at a place.
 pub fn read_field(bytes: &[u8], place: usize, w: usize) -> u64
     requires { ⌜ w ≤ 56 ⌝ }
     ensures { λ r. ⌜ r ≡ field (now (bytes .entry)) place w ⌝ }
 {
-    let i = place / 8;
-    let skip = place % 8;
-    if bytes.len() < i + 8 {
-        return cut(window::fewer(bytes, i), skip, w);
-    }
-    cut(window::eight(bytes, i), skip, w)
+    cut(window_at(bytes, place / 8), place % 8, w)
 }
 
 // How many bits lie between a place and the end: none where the place is past it.

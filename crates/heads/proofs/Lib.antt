@@ -6,3 +6,4 @@ pub mod Picked
 pub mod Networks
 pub mod Headed
 pub mod Sorted
+pub mod Begun

@@ -2,7 +2,7 @@
 -- proofs/Headed.antt shows that crate format's programs run there as this says.
 use mathlib.Core.Bool.{Bool, true, false, cond, _&&_}
 use mathlib.Core.List.{List}
-use Prim.Native.Nat.{ℕ, zero, suc, _+_, _-_, _*_, _^_}
+use Prim.Native.Nat.{ℕ, zero, suc, _+_, _-_, _*_, _^_, _≤_}
 use lib.Dec.{eqb, leb, ltb}
 use lib.IntN.{ℤ, pos}
 use lib.ListN.{take}
@@ -21,7 +21,7 @@ use Rattle.heads.specs.declared.lines.Lines.{Lines}
 use Rattle.heads.specs.declared.lines.Lines.the-variants.{Orbits, Clocks, Codes, Phases, Combined, Packet}
 use Rattle.heads.specs.declared.heading.Heading.{Heading}
 use Rattle.heads.specs.declared.heading.Heading.the-variants.{Rows, Refused}
-use Rattle.heads.specs.Lines.{linesOf}
+use Rattle.heads.specs.Lines.{linesOf, partsOf}
 use Rattle.heads.specs.Openings.{commonAt, commonOf}
 
 -- the eight numbers, from the common head
@@ -118,3 +118,8 @@ headedBy held bs end (Rows head lines at) =
     let w = bodyWidth ls in
     bodied held (record { content = record { head = head; rows = rowsOf ls (take w (bitsFrom bs end at)) }; after = held }) (at + w) (w - (end - at))
 headedBy held bs end (Refused r missing) = refused r missing held
+
+-- what is known of a body before it is tested: it begins within the stretch, and a packet has at most four rows
+unfoldable pub Begins : ℕ → Heading → Type 0
+Begins end (Rows head lines at) = (at ≤ end) × (partsOf lines ≤ 4)
+Begins end (Refused r missing) = Unit {0}

@@ -26,3 +26,12 @@ linesOf held Codes = cellLines codeShape (cellsHeld held)
 linesOf held Phases = cellLines phaseShape (cellsHeld held)
 linesOf held (Combined orbit clock chosen) = satelliteLines (combinedShape orbit clock) (pick (spell 64 chosen) (satellitesHeld held))
 linesOf held (Packet parts) = packetLines 1 parts
+
+-- how many rows a packet has
+unfoldable pub partsOf : Lines → ℕ
+partsOf Orbits = 0
+partsOf Clocks = 0
+partsOf Codes = 0
+partsOf Phases = 0
+partsOf (Combined orbit clock chosen) = 0
+partsOf (Packet parts) = parts

@@ -29,20 +29,20 @@ rowCells (sat ∷ sats) (row ∷ rows) = cellsAt sat (placesFrom 0 (spell 16 row
 -- ---- picking
 
 module _ {A : Type 0} where
-  pick-nil : (bits : List Bool) → _≡_ {A = List A} (pick bits []) []
+  pub pick-nil : (bits : List Bool) → _≡_ {A = List A} (pick bits []) []
   unfolding pick
   pick-nil [] = refl
   pick-nil (b ∷ bits) = refl
 
   -- the bits that the first list leaves select from the second
-  pick-append : (bits : List Bool) (xs ys : List A) → pick bits (xs ++ ys) ≡ pick bits xs ++ pick (drop (length xs) bits) ys
+  pub pick-append : (bits : List Bool) (xs ys : List A) → pick bits (xs ++ ys) ≡ pick bits xs ++ pick (drop (length xs) bits) ys
   unfolding pick
   pick-append bits [] ys = rw pick-nil
   pick-append [] (x ∷ xs) ys = refl
   pick-append (true ∷ bits) (x ∷ xs) ys = ap (λ (l : List A). x ∷ l) (pick-append bits xs ys)
   pick-append (false ∷ bits) (x ∷ xs) ys = pick-append bits xs ys
 
-  pick-map : {B : Type 0} (f : A → B) (bits : List Bool) (xs : List A) → pick bits (map f xs) ≡ map f (pick bits xs)
+  pub pick-map : {B : Type 0} (f : A → B) (bits : List Bool) (xs : List A) → pick bits (map f xs) ≡ map f (pick bits xs)
   unfolding pick
   pick-map f [] xs = refl
   pick-map f (b ∷ bits) [] = refl
@@ -79,7 +79,7 @@ row-cells s long = rw length-satellites at (cells-by (s .signals) long (s .flag)
 
 -- ---- all systems
 
-rowCells-append : (sats more : List Satellite) (rows others : List ℕ) → length sats ≡ length rows → rowCells (sats ++ more) (rows ++ others) ≡ rowCells sats rows ++ rowCells more others
+pub rowCells-append : (sats more : List Satellite) (rows others : List ℕ) → length sats ≡ length rows → rowCells (sats ++ more) (rows ++ others) ≡ rowCells sats rows ++ rowCells more others
 unfolding rowCells
 rowCells-append [] more [] others e = refl
 rowCells-append [] more (row ∷ rows) others e = absurd (omega arith)

@@ -110,7 +110,7 @@ blank-number (true ∷ l) = sym (ne-eqb (1 * 2 ^ length l + number l) 0 (λ e. o
 blank-number (false ∷ l) = rw (zero-mul, zero-add) (blank-number l)
 
 -- without its first i bits a spelling is a shorter one
-drop-spell : (i w n : ℕ) → drop i (spell w n) ≡ spell (w - i) n
+pub drop-spell : (i w n : ℕ) → drop i (spell w n) ≡ spell (w - i) n
 unfolding spell
 drop-spell zero w n = rw sub-zero
 drop-spell (suc i) zero n = rw zero-sub

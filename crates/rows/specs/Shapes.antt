@@ -1,9 +1,10 @@
 -- Columns and shapes as the code has them: a column as the numbers with which its bits are turned into its value without a branch.
 use mathlib.Core.Path.{_≡_}
-use mathlib.Core.Bool.{Bool, true, false, cond}
+use mathlib.Core.Bool.{Bool, true, false, cond, not, _&&_}
 use mathlib.Core.List.{List, [], _∷_}
-use Prim.Native.Nat.{ℕ, _+_, _-_, _^_, _≤_}
+use Prim.Native.Nat.{_+_, _-_, _^_, _≤_}
 use lib.Dec.{eqb}
+use lib.ListN.{getD}
 use Rattle.format.specs.Rows.{Column, gap, plain, counts}
 use Rattle.rows.specs.declared.shape.Column.{Column as CodeColumn}
 use Rattle.rows.specs.declared.shape.Shape.{Shape}
@@ -21,6 +22,23 @@ columnOf c = cond (eqb (c .width) 0) gap (cond (eqb (c .half) 0) (plain (c .widt
 
 unfoldable pub columnsOf : Shape → List Column
 columnsOf s = columnOf (s .v1) ∷ columnOf (s .v2) ∷ columnOf (s .v3) ∷ columnOf (s .v4) ∷ columnOf (s .v5) ∷ []
+
+unfoldable pub isGap : Column → Bool
+isGap gap = true
+isGap (plain w) = false
+isGap (counts w) = false
+
+-- the shape of five columns: wide but where the last three are gaps
+unfoldable pub shapeWith : List Column → Shape
+shapeWith cs =
+    record {
+      v1 = columnFor (getD cs 0 gap);
+      v2 = columnFor (getD cs 1 gap);
+      v3 = columnFor (getD cs 2 gap);
+      v4 = columnFor (getD cs 3 gap);
+      v5 = columnFor (getD cs 4 gap);
+      wide = not (isGap (getD cs 2 gap) && (isGap (getD cs 3 gap) && isGap (getD cs 4 gap)));
+    }
 
 -- numbers that are a column's, of at most 15 bits
 pub record Formed (c : CodeColumn) : Type 0 where

@@ -1,11 +1,19 @@
-// One row, written.
+// One row, written: its three keys, and the values that its columns have at a place.
 ghost use mathlib.Core.Path.{_≡_};
 ghost use mathlib.Core.List.{[], _∷_};
+ghost use Prim.Native.Nat.{_^_, _<_};
 ghost use lib.ListN.{length};
-ghost use Rattle.rows.specs.At.{valuesAt};
-ghost use Rattle.rows.specs.Shapes.{columnsOf, FormedShape};
+ghost use Rattle.bits.specs.Places.{field};
+ghost use Rattle.format.specs.Rows.{gap};
+ghost use Rattle.rows.specs.At.{valueBy, valuesAt};
+ghost use Rattle.rows.specs.Shapes.{columnOf, columnsOf, Formed, FormedShape};
 use crate::shape;
+use crate::shape::Column;
 use crate::shape::Shape;
+use bits::read;
+
+// What a gap holds (document 01, "What is handed out").
+const ABSENT: i32 = -32768;
 
 // Eight numbers, stored.
 fn store(row: &mut [i32], a: i32, b: i32, c: i32, d: i32, e: i32, f: i32, g: i32, h: i32)
@@ -20,4 +28,105 @@ fn store(row: &mut [i32], a: i32, b: i32, c: i32, d: i32, e: i32, f: i32, g: i32
     row[5] = f;
     row[6] = g;
     row[7] = h;
+}
+
+// The value of one column, from a window of its own.
+fn alone(bytes: &[u8], at: usize, c: Column) -> i32
+    requires { ⌜ Formed c ⌝ }
+    ensures { λ r. ⌜ r ≡ valueBy (columnOf c) (field (now (bytes .entry)) at (c .width)) ⌝ }
+{
+    let half = read::window_at(bytes, at / 8) >> 1;
+    shape::value(half >> (63 - at % 8 - c.width), c)
+}
+
+// A row of two columns and three gaps: both values are cut from one window. The window is halved first, so
+// that a shift by all of it, for a column of no bits at its front, stays below 64.
+fn slim(
+    row: &mut [i32],
+    system: i32,
+    satellite: i32,
+    signal: i32,
+    bytes: &[u8],
+    at: usize,
+    v1: Column,
+    v2: Column,
+)
+    requires { ⌜ (length (now row) ≡ 8) × Formed v1 × Formed v2 ⌝ }
+    ensures { λ _. ⌜ now (row .exit) ≡ system ∷ satellite ∷ signal ∷ valuesAt (columnOf v1 ∷ columnOf v2 ∷ gap ∷ gap ∷ gap ∷ []) (now (bytes .entry)) at ⌝ }
+{
+    let half = read::window_at(bytes, at / 8) >> 1;
+    let first = 63 - at % 8 - v1.width;
+    let second = first - v2.width;
+    store(
+        row,
+        system,
+        satellite,
+        signal,
+        shape::value(half >> first, v1),
+        shape::value(half >> second, v2),
+        ABSENT,
+        ABSENT,
+        ABSENT,
+    );
+}
+
+// A row of five columns: four values are cut from one window, the last from the one behind them.
+fn wide(
+    row: &mut [i32],
+    system: i32,
+    satellite: i32,
+    signal: i32,
+    bytes: &[u8],
+    at: usize,
+    shape: Shape,
+)
+    requires { ⌜ (length (now row) ≡ 8) × (at < 2 ^ 32) × FormedShape shape ⌝ }
+    ensures { λ _. ⌜ now (row .exit) ≡ system ∷ satellite ∷ signal ∷ valuesAt (columnsOf shape) (now (bytes .entry)) at ⌝ }
+{
+    let behind = at + shape.v1.width + shape.v2.width + shape.v3.width + shape.v4.width;
+    let half = read::window_at(bytes, at / 8) >> 1;
+    let first = 63 - at % 8 - shape.v1.width;
+    let second = first - shape.v2.width;
+    let third = second - shape.v3.width;
+    let fourth = third - shape.v4.width;
+    store(
+        row,
+        system,
+        satellite,
+        signal,
+        shape::value(half >> first, shape.v1),
+        shape::value(half >> second, shape.v2),
+        shape::value(half >> third, shape.v3),
+        shape::value(half >> fourth, shape.v4),
+        alone(bytes, behind, shape.v5),
+    );
+}
+
+// A row of a shape at a place, into a part of eight numbers.
+pub fn put(
+    row: &mut [i32],
+    system: i32,
+    satellite: i32,
+    signal: i32,
+    bytes: &[u8],
+    at: usize,
+    shape: Shape,
+)
+    requires { ⌜ (length (now row) ≡ 8) × (at < 2 ^ 32) × FormedShape shape ⌝ }
+    ensures { λ _. ⌜ now (row .exit) ≡ system ∷ satellite ∷ signal ∷ valuesAt (columnsOf shape) (now (bytes .entry)) at ⌝ }
+{
+    if shape.wide {
+        wide(row, system, satellite, signal, bytes, at, shape);
+        return;
+    }
+    slim(
+        row,
+        system,
+        satellite,
+        signal,
+        bytes,
+        at,
+        shape.v1,
+        shape.v2,
+    );
 }

@@ -9,17 +9,9 @@ use Rattle.bits.proofs.read.read_field.Tie as tie
 
 returns : tie.Need-returns
 returns c =
-    let x = c .before .before .before .before .args in
-    c .cut .ensures ∙ ap (λ (y : ℕ). y / 2 ^ (64 - x .place % 8 - x .w) % 2 ^ x .w) (c .before .fewer .ensures)
-    ∙ at-place (x .bytes .now) (x .place) (x .w) (omega arith)
-
-returns-2 : tie.Need-returns-2
-returns-2 c =
-    let x = c .before .before .before .before .args in
-    c .cut2 .ensures ∙ ap (λ (y : ℕ). y / 2 ^ (64 - x .place % 8 - x .w) % 2 ^ x .w) (c .before .eight .ensures)
+    let x = c .before .before .before .args in
+    c .cut .ensures ∙ ap (λ (y : ℕ). y / 2 ^ (64 - x .place % 8 - x .w) % 2 ^ x .w) (c .before .window-at .ensures)
     ∙ at-place (x .bytes .now) (x .place) (x .w) (omega arith)
 
 pub read-field-spec : {M : Type 1} → statement M
-read-field-spec =
-    tie.close
-    (tie.spec (λ c. search needs) (λ c κs. search needs) (λ c κs. search needs) returns (λ c κs. search needs) (λ c κs. search needs) returns-2)
+read-field-spec = tie.close (tie.spec (λ c κs. search needs) (λ c κs. search needs) returns)

@@ -1,0 +1,10 @@
+pub mod Fine
+pub mod Going
+pub mod Keys
+pub mod Picks
+pub mod Slots
+pub mod SlotCells
+pub mod Sizes
+pub mod Held
+pub mod HeldLines
+pub mod HeldBodies

@@ -1,0 +1,152 @@
+-- `body::cells::satellite` meets its contract. The loop's invariant: the rows of the cells that are left are still to come.
+-- Assumes nothing.
+use mathlib.Core.Path.{_≡_, refl, ap, _∙_, subst}
+use mathlib.Core.List.{List, _∷_, []}
+use Prim.Native.Nat.{ℕ, _+_, _-_, _^_, _<_, _≤_}
+use native.Mathlib.Omega.{arith}
+use borrow.Author.Needs.{needs}
+use lib.Count.{leadingZeros}
+use lib.IntN.{pos}
+use lib.ListN.{length}
+use lib.Pow.{pow-pos}
+use Rattle.format.specs.Masks.{Satellite}
+use Rattle.format.specs.Messages.{cellLines}
+use Rattle.format.specs.Rows.{Column, Line, shapeWidth}
+use Rattle.holding.proofs.Places.{next-place}
+use Rattle.rows.specs.Shapes.{columnsOf}
+use Rattle.body.specs.Slots.{cellsIn}
+use Rattle.body.proofs.Going.{Going, going-start, row-room, row-near, row-part, row-written, going-end}
+use Rattle.body.proofs.Keys.{key, keyed}
+use Rattle.body.proofs.SlotCells.{none-of, next-of}
+use Rattle.body.proofs.cells.satellite.Statement.{statement}
+use Rattle.body.proofs.cells.satellite.Tie as tie
+
+abbrev satelliteOf : ℕ → ℕ → Satellite
+satelliteOf id number = record { system = id; number = number }
+
+abbrev Inv-loop : tie.InvT-loop
+Inv-loop id number word shape bytes at rows₀ system satellite width left₀ k₀ place₀ rows left k place =
+    (left < 2 ^ 64)
+    × Going bytes (cellLines (columnsOf shape) (cellsIn 64 (satelliteOf id number) word)) at rows₀ (cellLines (columnsOf shape) (cellsIn 64 (satelliteOf id number) left)) k place rows
+
+abbrev μ-loop : tie.MeasureT-loop
+μ-loop id number word shape bytes at rows₀ system satellite width left₀ k₀ place₀ rows left k place = left
+
+cast-satellite : tie.Need-cast-satellite Inv-loop μ-loop
+cast-satellite c = record { sfits = c .before .pre .0 }
+
+width-requires : tie.Need-width-requires Inv-loop μ-loop
+width-requires c κs = c .before .pre .1
+
+loop-holds : tie.Need-loop-holds Inv-loop μ-loop
+loop-holds c = (omega arith, going-start (c .before .before .pre .2))
+
+module _ (c : tie.After-first Inv-loop μ-loop) where
+  abbrev left : ℕ
+  left = c .before .before .loop .left
+
+  abbrev k : ℕ
+  k = c .before .before .loop .k
+
+  abbrev place : ℕ
+  place = c .before .before .loop .place
+
+  abbrev columns : List Column
+  columns = columnsOf (c .before .before .before .before .before .args .shape)
+
+  abbrev sat : Satellite
+  sat = let x = c .before .before .before .before .before .args in satelliteOf (x .id) (x .number)
+
+  next : (leadingZeros 64 left < 64) × (2 ^ (63 - leadingZeros 64 left) ≤ left)
+  next = let p = next-place left (c .before .loop-test .taken) (c .before .before .loop .inv .0) in (p .0, p .1)
+
+  fewer : (rest : ℕ) → rest ≡ left - 2 ^ (63 - leadingZeros 64 left) → rest < left
+  fewer rest e = omega (arith, next .1, pow-pos (63 - leadingZeros 64 left))
+
+  -- the next cell's line, and those behind it
+  abbrev line : Line
+  line = record { keys = pos (sat .system) ∷ pos (sat .number) ∷ pos (leadingZeros 64 left) ∷ []; shape = columns }
+
+  abbrev behind : ℕ → List Line
+  behind rest = cellLines columns (cellsIn 64 sat rest)
+
+  abbrev Then : List Line → Type 0
+  Then lines =
+      let x = c .before .before .before .before .before .args in
+      let s = c .before .before .loop in
+      Going (x .bytes .now) (cellLines (columnsOf (x .shape)) (cellsIn 64 (satelliteOf (x .id) (x .number)) (x .word))) (x .at) (x .rows .now) lines (s .k) (s .place) (s .rows)
+
+  going : (rest : ℕ) → rest ≡ left - 2 ^ (63 - leadingZeros 64 left) → Then (line ∷ behind rest)
+  unfolding cellLines
+  going rest e =
+      subst (λ (lines : List Line). Then lines) (ap (cellLines columns) (next-of sat left rest (c .before .loop-test .taken) (c .before .before .loop .inv .0) e)) (c .before .before .loop .inv .1)
+
+  five : length columns ≡ 5
+  unfolding columnsOf
+  five = refl
+
+  room : k + 8 ≤ length (c .before .before .loop .rows)
+  room = row-room line (behind _) k place _ refl five (going _ refl)
+
+  near : place + shapeWidth columns < 2 ^ 32
+  near = row-near line (behind _) k place _ refl five (going _ refl)
+
+add-e : tie.Need-add-e Inv-loop μ-loop
+add-e c = omega (arith, room c)
+
+put-requires : tie.Need-put-requires Inv-loop μ-loop
+put-requires c κs =
+    let f = c .before in
+    (row-part (line f) (behind f _) (k f) (place f) _ refl (five f) (going f _ refl), omega (arith, near f), f .before .before .before .before .before .pre .1)
+
+add-place : tie.Need-add-place Inv-loop μ-loop
+add-place c =
+    let f = c .before .before .before .before in
+    omega (arith, near f, f .before .before .before .width .ensures)
+
+loop-less : tie.Need-loop-less Inv-loop μ-loop
+loop-less c = fewer (c .before .before .before .before) (c .rest .result) (c .rest .ensures)
+
+loop-again : tie.Need-loop-again Inv-loop μ-loop
+loop-again c =
+    let f = c .before .before .before .before in
+    let x = f .before .before .before .before .before in
+    let system = key (x .args .id) (x .args .id) (omega (arith, x .fits .id)) refl in
+    let number = key (x .args .number) (x .args .number) (x .pre .0) refl in
+    let signal = key (f .first .result) (leadingZeros 64 (left f)) (omega (arith, next f .0, f .first .ensures)) (f .first .ensures) in
+    let row = c .before .before .put .ensures ∙ keyed _ system number signal in
+    (omega (arith, fewer f (c .rest .result) (c .rest .ensures)), row-written (line f) (behind f (c .rest .result)) (k f) (place f) _ refl (five f) (going f (c .rest .result) (c .rest .ensures)) _ _ (f .before .before .before .width .ensures) row)
+
+returns : tie.Need-returns Inv-loop μ-loop
+unfolding cellLines
+returns c =
+    let x = c .before .before .before .before .args in
+    let s = c .before .loop in
+    let none : s .left ≡ 0 = omega arith in
+    let e = ap (λ (m : ℕ). cellLines (columnsOf (x .shape)) (cellsIn 64 (satelliteOf (x .id) (x .number)) m)) none ∙ ap (cellLines (columnsOf (x .shape))) (none-of 64 (satelliteOf (x .id) (x .number))) in
+    going-end _ (s .k) (s .place) (s .rows) e (s .inv .1)
+
+pub satellite-spec : {M : Type 1} → statement M
+satellite-spec =
+    tie.close
+    (tie.spec
+    Inv-loop
+    μ-loop
+    (λ c. search needs)
+    cast-satellite
+    width-requires
+    loop-holds
+    (λ c κs. search needs)
+    (λ c. record { sfits = omega (arith, next c .0, c .first .ensures) })
+    add-e
+    (λ c. omega (arith, room c))
+    (λ c. omega arith)
+    (λ c. search needs)
+    (λ c. room c)
+    put-requires
+    (λ c κs. search needs)
+    add-place
+    loop-less
+    loop-again
+    (λ c. c .before .loop .inv .1 .same)
+    returns)

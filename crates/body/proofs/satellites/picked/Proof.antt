@@ -1,0 +1,17 @@
+-- `body::satellites::picked` meets its contract. Assumes nothing.
+use mathlib.Core.Path.{sym, ap, _∙_}
+use Prim.Native.Nat.{ℕ, _-_, _/_, _^_}
+use native.Mathlib.Nat.{div-eq-of-lt}
+use borrow.Author.Needs.{needs}
+use lib.Count.{ones}
+use Rattle.body.proofs.satellites.picked.Statement.{statement}
+use Rattle.body.proofs.satellites.picked.Tie as tie
+
+returns : tie.Need-returns
+unfolding ones
+returns c =
+    let s = c .before in
+    sym (ap (λ (m : ℕ). ones (s .args .chosen / 2 ^ (64 - m))) (c .if1 .taken) ∙ ap ones (div-eq-of-lt (s .fits .chosen .fits)))
+
+pub picked-spec : {M : Type 1} → statement M
+picked-spec = tie.close (tie.spec returns (λ c. search needs) (λ c. search needs) (λ c κs. search needs) (λ c. search needs))

@@ -1,0 +1,32 @@
+// Rows of a packet's part (document 01, sub type 10): 40 bits each, numbered from 1 in the signal column.
+ghost use mathlib.Core.Path.{_≡_};
+ghost use Rattle.body.specs.Written.{numbersAt, Room};
+ghost use Rattle.format.specs.Messages.{packetLines};
+ghost use Rattle.format.specs.Reading.{over};
+use rows::row;
+use rows::shapes;
+
+pub fn write(parts: usize, bytes: &[u8], at: usize, rows: &mut [i32])
+    requires { ⌜ Room (packetLines 1 parts) (now bytes) at (now rows) ⌝ }
+    ensures { λ _. ⌜ now (rows .exit) ≡ over (numbersAt (packetLines 1 parts) (now (bytes .entry)) at) (now (rows .entry)) ⌝ }
+{
+    let shape = shapes::packet();
+    let mut i = 0;
+    let mut k = 0;
+    let mut place = at;
+    while i < parts {
+        i += 1;
+        let e = k + 8;
+        row::put(
+            &mut rows[k..e],
+            -32768,
+            -32768,
+            i as i32,
+            bytes,
+            place,
+            shape,
+        );
+        k = e;
+        place += 40;
+    }
+}

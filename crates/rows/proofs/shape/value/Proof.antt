@@ -1,0 +1,49 @@
+-- `rows::shape::value` meets its contract. Assumes nothing.
+use mathlib.Core.Path.{_≡_}
+use Prim.Native.Nat.{_+_, _^_, _<_}
+use native.Mathlib.Omega.{arith}
+use lib.Bits.{bitAnd}
+use lib.IntN.{_-ℤ_}
+use mir.Facts.{toZ-ofZ, toZ-pos}
+use mir.Syntax.{w32}
+use mir.Val.{SFits, toZ}
+use Rattle.rows.proofs.Columns.{Bounded, bounded, masked-lt, computed, value-computed, value-small}
+use Rattle.rows.proofs.shape.value.Statement.{statement}
+use Rattle.rows.proofs.shape.value.Tie as tie
+
+limits : (c : tie.Start) → Bounded (c .args .c)
+limits c = bounded (c .args .c) (c .pre .1)
+
+masked-small : (c : tie.Start) → bitAnd (c .args .x + c .args .c .half) (c .args .c .mask) < 2 ^ 31
+masked-small c = omega (arith, masked-lt (c .args .c) (c .args .x) (c .pre .1))
+
+less-small : (c : tie.Start) → c .args .c .less < 2 ^ 31
+less-small c = omega (arith, limits c .less)
+
+-- the difference, as code has it
+difference : (c : tie.Start) → toZ w32 (bitAnd (c .args .x + c .args .c .half) (c .args .c .mask)) -ℤ toZ w32 (c .args .c .less) ≡ computed (c .args .c) (c .args .x)
+unfolding computed
+difference c = rw (toZ-pos w32 (masked-small c), toZ-pos w32 (less-small c))
+
+small : (c : tie.Start) → SFits w32 (computed (c .args .c) (c .args .x))
+small c = record { sfits = omega (arith, value-small (c .args .c) (c .args .x) (c .pre .1)) }
+
+add-y : tie.Need-add-y
+add-y c = let l = limits (c .before) in record { fits = omega arith }
+
+cast-result : tie.Need-cast-result
+cast-result c = record { sfits = masked-small (c .before .before) }
+
+cast-result-2 : tie.Need-cast-result-2
+cast-result-2 c = let l = limits (c .before .before .before) in record { sfits = omega arith }
+
+sub-result : tie.Need-sub-result
+sub-result c = let s = c .before .before .before in rw (difference s) (small s)
+
+returns : tie.Need-returns
+returns c =
+    let s = c .before .before .before in
+    rw (difference s, toZ-ofZ (small s)) (value-computed (s .args .c) (s .args .x) (s .pre .1))
+
+pub value-spec : {M : Type 1} → statement M
+value-spec = tie.close (tie.spec add-y cast-result cast-result-2 sub-result returns)
