@@ -11,6 +11,7 @@ use lib.Dec.{eqb}
 use lib.ListN.{length}
 use borrow.Author.Tests.{ne-eqb, lt-leb, le-leb, lt-ltb, le-ltb}
 use Rattle.bits.specs.Places.{field}
+use Rattle.bits.proofs.Fields.{field-lt}
 use Rattle.format.specs.Masks.{Held, mask}
 use Rattle.format.specs.Messages.{Adopted, maskMessage}
 use Rattle.format.specs.Programs.{Program, done, _>>=_, Ended, well, badly, later, run}
@@ -36,6 +37,26 @@ adopted-by : (held : Held) (place : ℕ) (l : List Bool) (e : Ended Adopted) →
 unfolding adoptedBy endedAt run later
 adopted-by held place l (well d taken) e = ap (endedAt held place) (run-bind maskMessage adopting l d taken e) ∙ rw (add-zero taken)
 adopted-by held place l (badly r missing) e = ap (endedAt held place) (run-bind-badly maskMessage adopting l r missing e)
+
+-- a sub type that was read was there, in 4 bits
+pub sub-type-told : (bs : List ℕ) (end start n : ℕ) → start ≤ end → openingAt bs end start ≡ SubType n → (start + 16 ≤ end) × (n < 16)
+unfolding openingAt
+sub-type-told bs end start n room e = go (decLt (end - start) 12) (decLt (end - start) 16) (eqb (field bs start 12) 4073) refl
+  where
+    go : Dec (end - start < 12) → Dec (end - start < 16) → (b : Bool) → eqb (field bs start 12) 4073 ≡ b → (start + 16 ≤ end) × (n < 16)
+    go (yes short) _ b f =
+        let g = rw (lt-ltb (end - start) 12 short) at e in
+        absurd (let z : _≡_ {A = ℕ} 0 1 = cc in omega arith)
+    go (no there) d false f =
+        let g = rw (le-ltb (end - start) 12 (omega arith), f) at e in
+        absurd (let z : _≡_ {A = ℕ} 0 1 = cc in omega arith)
+    go (no there) (yes short) true f =
+        let g = rw (le-ltb (end - start) 12 (omega arith), f, lt-ltb (end - start) 16 short) at e in
+        absurd (let z : _≡_ {A = ℕ} 0 1 = cc in omega arith)
+    go (no there) (no more) true f =
+        let g = rw (le-ltb (end - start) 12 (omega arith), f, le-ltb (end - start) 16 (omega arith)) at e in
+        let same : field bs (start + 12) 4 ≡ n = cc in
+        (omega arith, omega (arith, field-lt bs (start + 12) 4))
 
 module _ (bs : List ℕ) (end : ℕ) (inside : end ≤ 8 * length bs) (held : Held) (few : length (satellitesHeld held) ≤ 64) where
   -- ---- by the sub type
@@ -66,24 +87,7 @@ module _ (bs : List ℕ) (end : ℕ) (inside : end ≤ 8 * length bs) (held : He
   by-opening start (SubType n) known = ended-later held start 16 (run (byKind (table n) held) (bitsFrom bs end (start + 16))) ∙ sorted (start + 16) (known n refl) n
   by-opening start (Refused r missing) known = refl
 
-  -- a sub type that was read was there
-  room-told : (start n : ℕ) → start ≤ end → openingAt bs end start ≡ SubType n → start + 16 ≤ end
-  unfolding openingAt
-  room-told start n room e = go (decLt (end - start) 12) (decLt (end - start) 16) (eqb (field bs start 12) 4073) refl
-    where
-      go : Dec (end - start < 12) → Dec (end - start < 16) → (b : Bool) → eqb (field bs start 12) 4073 ≡ b → start + 16 ≤ end
-      go (yes short) _ b f =
-          let g = rw (lt-ltb (end - start) 12 short) at e in
-          absurd (let z : _≡_ {A = ℕ} 0 1 = cc in omega arith)
-      go (no there) d false f =
-          let g = rw (le-ltb (end - start) 12 (omega arith), f) at e in
-          absurd (let z : _≡_ {A = ℕ} 0 1 = cc in omega arith)
-      go (no there) (yes short) true f =
-          let g = rw (le-ltb (end - start) 12 (omega arith), f, lt-ltb (end - start) 16 short) at e in
-          absurd (let z : _≡_ {A = ℕ} 0 1 = cc in omega arith)
-      go (no there) (no more) true f = omega arith
-
   pub message-sorted : (start : ℕ) → start ≤ end → endedAt held start (run (message held) (bitsFrom bs end start)) ≡ openedBy held bs end start (openingAt bs end start)
   unfolding message
   message-sorted start room =
-      ap (endedAt held start) (opened bs end inside start room table held) ∙ by-opening start (openingAt bs end start) (λ n e. room-told start n room e)
+      ap (endedAt held start) (opened bs end inside start room table held) ∙ by-opening start (openingAt bs end start) (λ n e. sub-type-told bs end start n room e .0)

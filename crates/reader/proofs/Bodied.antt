@@ -1,7 +1,7 @@
 -- A body that is there, and one that is short. Assumes nothing.
-use mathlib.Core.Path.{_≡_, refl, sym, ap, _∙_}
-use mathlib.Core.List.{List}
-use Prim.Native.Nat.{ℕ, zero, suc, _+_, _-_, _*_, _≤_, _<_}
+use mathlib.Core.Path.{_≡_, refl, ap}
+use mathlib.Core.List.{List, [], _∷_}
+use Prim.Native.Nat.{ℕ, suc, _+_, _-_, _*_, _≤_, _<_}
 use native.Mathlib.Nat.{suc-pred-eq-of-pos}
 use native.Mathlib.Omega.{arith}
 use lib.ListN.{length}
@@ -9,7 +9,7 @@ use Rattle.format.specs.declared.Head.{Head}
 use Rattle.format.specs.declared.Refusal.the-variants.{Short}
 use Rattle.format.specs.Masks.{Held}
 use Rattle.format.specs.Reading.{accepted, refused}
-use Rattle.format.specs.Rows.{Line, bodyWidth}
+use Rattle.format.specs.Rows.{Line, shapeWidth, bodyWidth}
 use Rattle.heads.specs.declared.heading.Heading.the-variants.{Rows}
 use Rattle.heads.specs.declared.lines.Lines.{Lines}
 use Rattle.heads.specs.Headings.{bodied, headedBy}
@@ -33,3 +33,9 @@ module _ (held : Held) (bs : List ℕ) (end : ℕ) (head : Head) (lines : Lines)
   headed-short over =
       let some : 0 < bodyWidth ls - (end - at) = omega arith in
       rw (← (suc-pred-eq-of-pos some))
+
+-- a row for each line
+pub count-at : (lines : List Line) (bs : List ℕ) (at : ℕ) → length (rowsAt lines bs at) ≡ length lines
+unfolding rowsAt
+count-at [] bs at = refl
+count-at (n ∷ ns) bs at = ap suc (count-at ns bs (at + shapeWidth (n .shape)))

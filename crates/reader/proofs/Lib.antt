@@ -2,3 +2,4 @@ pub mod Held
 pub mod Bodied
 pub mod Adopted
 pub mod Rawed
+pub mod Outcomes

@@ -10,11 +10,14 @@ use format::Answer;
 pub fn raw(bytes: &[u8], start: usize, answer: Answer) -> &[u8]
     ensures { λ r. ⌜ IsPart (bytes .entry) r start (rawTo (now (bytes .entry)) start answer) ⌝ }
 {
-    let Answer::Message(_, next, _) = answer else {
-        return part(bytes, 0, 0);
-    };
-    if !is_placed(bytes, next, start) {
-        return part(bytes, 0, 0);
+    match answer {
+        Answer::Idle => part(bytes, 0, 0),
+        Answer::Refused(_) => part(bytes, 0, 0),
+        Answer::Message(_, next, _) => {
+            if !is_placed(bytes, next, start) {
+                return part(bytes, 0, 0);
+            }
+            part(bytes, start, next)
+        }
     }
-    part(bytes, start, next)
 }

@@ -1,26 +1,44 @@
+-- `reader::raw::raw` meets its contract.
+-- Assumes nothing.
+use mathlib.Core.Path.{_∙_, sym}
 use borrow.Author.Needs.{needs}
+use borrow.Author.Tests.{not-true, not-false}
+use Rattle.reader.specs.Readings.{rawTo}
+use Rattle.reader.proofs.Outcomes.{inside}
+use Rattle.reader.proofs.Rawed.{empty-part, not-message}
 use Rattle.reader.proofs.raw.raw.Statement.{statement}
 use Rattle.reader.proofs.raw.raw.Tie as tie
-use Rattle.reader.proofs.raw.raw.Reads as reads
-use Rattle.reader.proofs.raw.raw.Lts as lts
-use Rattle.bits.proofs.part.part.Reads as part-reads
-use Rattle.reader.proofs.is_placed.Reads as is-placed-reads
 
--- src/raw.rt:14:9
 returns : tie.Need-returns
-returns c = ?
+unfolding rawTo
+returns c =
+    let x = c .before .before .before .before .before .before .before .args in
+    let outside = sym (c .before .before .is-placed .ensures) ∙ not-true _ (c .before .if1 .taken) in
+    rw (c .before .before .before .before .answer .given .1, outside) (empty-part (x .bytes) (c .part3 .result) (x .start) (c .part3 .ensures))
 
--- src/raw.rt:17:9
+part-requires-4 : tie.Need-part-requires-4
+part-requires-4 c κs =
+    let x = c .before .before .before .before .before .before .args in
+    inside (x .bytes .now) (c .before .before .before .answer .given .0 .1 .0) (x .start) (sym (c .before .is-placed .ensures) ∙ not-false _ (c .if1 .left)) .lent
+
 returns-2 : tie.Need-returns-2
-returns-2 c = ?
+unfolding rawTo
+returns-2 c =
+    let x = c .before .before .before .before .args in
+    rw (not-message (x .bytes .now) (x .start) (x .answer) 0 (c .before .before .match .keys1)) (empty-part (x .bytes) (c .part .result) (x .start) (c .part .ensures))
 
--- src/raw.rt:19:5
-part-requires-3 : tie.Need-part-requires-3
-part-requires-3 c κs = ?
-
--- src/raw.rt:10:1
 returns-3 : tie.Need-returns-3
-returns-3 c = ?
+unfolding rawTo
+returns-3 c =
+    let x = c .before .before .before .before .args in
+    rw (not-message (x .bytes .now) (x .start) (x .answer) 1 (c .before .before .match .keys2)) (empty-part (x .bytes) (c .part2 .result) (x .start) (c .part2 .ensures))
+
+returns-4 : tie.Need-returns-4
+unfolding rawTo
+returns-4 c =
+    let x = c .before .before .before .before .before .before .before .args in
+    let placed = sym (c .before .before .is-placed .ensures) ∙ not-false _ (c .before .if1 .left) in
+    rw (c .before .before .before .before .answer .given .1, placed) (c .part4 .ensures)
 
 pub raw-spec : {M : Type 1} → statement M
 raw-spec =
@@ -28,9 +46,13 @@ raw-spec =
     (tie.spec
     (λ c. search needs)
     (λ c κs. search needs)
+    (λ c. search needs)
+    (λ c κs. search needs)
+    (λ c. search needs)
+    (λ c κs. search needs)
+    (λ c κs. search needs)
     returns
-    (λ c κs. search needs)
-    (λ c κs. search needs)
+    part-requires-4
     returns-2
-    part-requires-3
-    returns-3)
+    returns-3
+    returns-4)
