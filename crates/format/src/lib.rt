@@ -1,7 +1,8 @@
 // What a reader or a writer answers. The numbers of document 01, "Answer numbers", are those of
 // specs/Answers.antt.
 
-// A head of eight numbers; -32768 is absent.
+// A head of eight numbers; -32768 is absent. It passes to C as it is.
+#[repr(C)]
 pub struct Head {
     pub subtype: i32,
     pub epoch: i32,

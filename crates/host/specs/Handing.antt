@@ -1,0 +1,63 @@
+-- What the host is handed: docs/HOST.md.
+use mathlib.Core.Bool.{cond}
+use mathlib.Core.List.{List}
+use Prim.Native.Nat.{ℕ}
+use lib.Dec.{leb}
+use lib.IntN.{ℤ, pos}
+use lib.ListN.{length}
+use Rattle.bits.specs.Parts.{startOf, countOf}
+use Rattle.format.specs.declared.Head.{Head}
+use Rattle.format.specs.Answers.{numberOf, idleNumber}
+use Rattle.format.specs.Masks.{nothing}
+use Rattle.format.specs.Reading.{Outcome, accepted, idle, refused, over}
+use Rattle.format.specs.Rows.{absent}
+use Rattle.format.specs.Same.{sameℤ}
+use Rattle.holding.specs.declared.Holding.{Holding}
+use Rattle.holding.specs.Pictures.{pictureOf}
+use Rattle.host.specs.declared.Handed.{Handed}
+use Rattle.passing.specs.Passing.{size, bytesOf, holdingIn}
+use Rattle.reader.specs.Readings.{outcomeAt}
+
+unfoldable pub noHead : Head
+noHead = record { subtype = absent; epoch = absent; interval = absent; indicator = absent; iod = absent; a = absent; b = absent; c = absent }
+
+-- the answer to a message
+abbrev pub messageNumber : ℕ
+messageNumber = 13
+
+-- a stop: its number and the start asked for
+unfoldable pub stopped : ℕ → ℕ → Handed
+stopped number start = record { answer = number; place = start; rows = 0; offset = 0; count = 0; head = noHead }
+
+unfoldable pub handed : ℕ → Outcome → Handed
+handed start (accepted m next) =
+    record {
+      answer = messageNumber;
+      place = next;
+      rows = length (m .content .rows);
+      offset = startOf start next;
+      count = countOf start next;
+      head = m .content .head;
+    }
+handed start (idle held) = stopped idleNumber start
+handed start (refused r missing held) = stopped (numberOf r) start
+
+-- the holding's bytes after a message of a sub type: a mask message's mask, else as they were
+unfoldable pub keptBytes : ℤ → Holding → List ℕ → List ℕ
+keptBytes subType after bs = cond (sameℤ subType (pos 1)) (over (bytesOf after) bs) bs
+
+unfoldable pub holdingBytes : Outcome → List ℕ → List ℕ
+holdingBytes (accepted m next) bs = keptBytes (m .content .head .subtype) (pictureOf (m .after)) bs
+holdingBytes (idle held) bs = bs
+holdingBytes (refused r missing held) bs = bs
+
+-- reading under a holding lent as bytes
+unfoldable pub hostOutcome : List ℕ → List ℕ → ℕ → ℕ → List ℤ → Outcome
+hostOutcome holding bytes end start rows = outcomeAt (holdingIn holding) bytes end start rows
+
+-- the empty holding made of lent bytes, where there are enough
+unfoldable pub emptied : List ℕ → List ℕ
+emptied bs = cond (leb size (length bs)) (over (bytesOf (pictureOf nothing)) bs) bs
+
+unfoldable pub emptiedNumber : List ℕ → ℕ
+emptiedNumber bs = cond (leb size (length bs)) 0 1

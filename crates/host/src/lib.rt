@@ -1,0 +1,154 @@
+// For a host written in C (docs/HOST.md, include/hundurzek.h): numbers and lent slices, and nothing of its own.
+ghost use mathlib.Core.Path.{_≡_};
+ghost use mathlib.Core.Bool.{true};
+ghost use Prim.Native.Nat.{_≤_};
+ghost use lib.ListN.{length};
+ghost use Rattle.bits.specs.Parts.{startOf, countOf};
+ghost use Rattle.format.specs.Answers.{numberOf};
+ghost use Rattle.format.specs.Reading.{rowsAfter};
+ghost use Rattle.holding.specs.Pictures.{sound};
+ghost use Rattle.host.specs.Handing.{messageNumber, keptBytes, stopped, handed, holdingBytes, hostOutcome, emptied, emptiedNumber};
+use format::Answer;
+use format::Head;
+use format::Refusal;
+use holding::Holding;
+
+// What a reading hands out: the answer's number, the place after the message or the start asked for, the row
+// count, where the raw part begins and how many bytes it has, the head.
+#[repr(C)]
+pub struct Handed {
+    pub answer: u64,
+    pub place: usize,
+    pub rows: usize,
+    pub offset: usize,
+    pub count: usize,
+    pub head: Head,
+}
+
+// What isn't there.
+const ABSENT: i32 = -32768;
+
+// Document 01's number of a refusal.
+fn number(r: Refusal) -> u64
+    ensures { λ n. ⌜ n ≡ numberOf r ⌝ }
+{
+    match r {
+        Refusal::Room => 1,
+        Refusal::Place => 2,
+        Refusal::Short => 3,
+        Refusal::Number => 4,
+        Refusal::SubType => 5,
+        Refusal::NoMask => 6,
+        Refusal::OtherIssue => 7,
+        Refusal::System => 8,
+        Refusal::Reserved => 9,
+        Refusal::Size => 10,
+        Refusal::Network => 11,
+        Refusal::Value => 12,
+    }
+}
+
+// Idle or a refusal.
+fn stop(number: u64, start: usize) -> Handed
+    ensures { λ r. ⌜ r ≡ stopped number start ⌝ }
+{
+    Handed {
+        answer: number,
+        place: start,
+        rows: 0,
+        offset: 0,
+        count: 0,
+        head: Head {
+            subtype: ABSENT,
+            epoch: ABSENT,
+            interval: ABSENT,
+            indicator: ABSENT,
+            iod: ABSENT,
+            a: ABSENT,
+            b: ABSENT,
+            c: ABSENT,
+        },
+    }
+}
+
+// Where the part that holds a range of bits begins, and how many bytes it has.
+fn first(from: usize, to: usize) -> usize
+    ensures { λ r. ⌜ r ≡ startOf from to ⌝ }
+{
+    if from < to { from / 8 } else { 0 }
+}
+
+fn bytes_of(from: usize, to: usize) -> usize
+    ensures { λ r. ⌜ r ≡ countOf from to ⌝ }
+{
+    if from < to {
+        (to - 1) / 8 + 1 - from / 8
+    } else {
+        0
+    }
+}
+
+// A message.
+fn message(head: Head, start: usize, next: usize, rows: usize) -> Handed
+    ensures { λ r. ⌜ r ≡ record { answer = messageNumber; place = next; rows = rows; offset = startOf start next; count = countOf start next; head = head } ⌝ }
+{
+    Handed {
+        answer: 13,
+        place: next,
+        rows,
+        offset: first(start, next),
+        count: bytes_of(start, next),
+        head,
+    }
+}
+
+// What is held after a message: only a mask message changes it.
+fn keep(holding: &mut [u8], subtype: i32, after: Holding)
+    requires { ⌜ (194 ≤ length (now holding)) × (sound after ≡ true) ⌝ }
+    ensures { λ _. ⌜ now (holding .exit) ≡ keptBytes subtype after (now (holding .entry)) ⌝ }
+{
+    if subtype != 1 {
+        return;
+    }
+    passing::give::holding_over(holding, after);
+}
+
+// Makes the empty holding.
+#[no_mangle]
+pub extern "C" fn hundurzek_empty(holding: &mut [u8]) -> u64
+    ensures { λ r. ⌜ r ≡ emptiedNumber (now (holding .entry)) ⌝ }
+    ensures { λ _. ⌜ now (holding .exit) ≡ emptied (now (holding .entry)) ⌝ }
+{
+    if holding.len() < 194 {
+        return 1;
+    }
+    passing::give::holding_over(holding, Holding::empty());
+    0
+}
+
+// Reads one message.
+#[no_mangle]
+pub extern "C" fn hundurzek_read(
+    holding: &mut [u8],
+    bytes: &[u8],
+    end: usize,
+    start: usize,
+    rows: &mut [i32],
+) -> Handed
+    ensures { λ r. ⌜ r ≡ handed start (hostOutcome (now (holding .entry)) (now (bytes .entry)) end start (now (rows .entry))) ⌝ }
+    ensures { λ _. ⌜ now (holding .exit) ≡ holdingBytes (hostOutcome (now (holding .entry)) (now (bytes .entry)) end start (now (rows .entry))) (now (holding .entry)) ⌝ }
+    ensures { λ _. ⌜ now (rows .exit) ≡ rowsAfter (hostOutcome (now (holding .entry)) (now (bytes .entry)) end start (now (rows .entry))) (now (rows .entry)) ⌝ }
+{
+    let held = passing::take::holding_in(holding);
+    let reading = reader::read(held, bytes, end, start, rows);
+    let answer = reading.answer;
+    let after = reading.holding;
+    match answer {
+        Answer::Idle => stop(0, start),
+        Answer::Refused(r) => stop(number(r), start),
+        Answer::Message(head, next, n) => {
+            keep(holding, head.subtype, after);
+            message(head, start, next, n)
+        }
+    }
+}
