@@ -175,7 +175,7 @@ pub fn with_bad_system(random: &mut Random) -> Mask {
 }
 
 /// A good mask in which one system got one place without assignment: the first
-/// such, the last, or any.
+/// such, the last, or any. A cell mask keeps the bits that its system asks for.
 pub fn with_reserved_place(random: &mut Random) -> Mask {
     let mut mask = named(random);
     let at = random.below(mask.systems.len());
@@ -187,6 +187,9 @@ pub fn with_reserved_place(random: &mut Random) -> Mask {
     } else {
         let place = edge(random, SIGNAL_PLACES[usize::from(system.id)], SIGNAL_BITS);
         system.signals |= 1 << (SIGNAL_BITS - 1 - place);
+    }
+    if system.cells.is_some() {
+        system.cells = Some(cell_mask(random, system.cell_bits()));
     }
     mask
 }

@@ -7,6 +7,7 @@ use crate::codec::answer::Stop;
 use crate::codec::bits::pack;
 use crate::codec::generate::{filled, stretches, Case};
 use crate::codec::holding::Holding;
+use crate::codec::host::decode;
 use crate::codec::reader::{read, Message};
 use crate::codec::walk::{walk, Walk};
 
@@ -38,7 +39,7 @@ pub fn generated(group: &mut Group) {
     let mut after_messages = [0; 13];
     for _ in 0..CASES {
         let case = run.case();
-        let holding = Holding::from_flat(&case.holding);
+        let holding = decode(&case.holding);
         let mut rows = filled(case.fill, case.room);
         let mut again = rows.clone();
         let mut shown = 0;
@@ -46,8 +47,7 @@ pub fn generated(group: &mut Group) {
             shown += message.next - place;
         });
         let (expected, place) = retold(&case, &holding, &mut again);
-        let family = stretches::family_name(case.family);
-        group.check(family, walk == expected && rows == again);
+        group.check(case.family, walk == expected && rows == again);
         group.check("messages without a gap", shown == place && walk.stop.place == place);
         group.check("at most a 37th", walk.messages * 37 <= walk.stop.place);
         if walk.messages > 1 {
