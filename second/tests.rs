@@ -2,6 +2,7 @@
 
 mod bench;
 mod columns;
+mod coverage;
 mod hand;
 mod host;
 mod listing;
@@ -47,7 +48,7 @@ impl Group {
     }
 }
 
-const GROUPS: [(&str, fn(&mut Group)); 19] = [
+const GROUPS: [(&str, fn(&mut Group)); 20] = [
     ("bench 1 the worked listing", bench::worked_listing),
     ("bench 1 to 4 stretches", bench::stretches),
     ("bench 5 to 14 readings", bench::readings),
@@ -65,6 +66,7 @@ const GROUPS: [(&str, fn(&mut Group)); 19] = [
     ("walks: repeated readings", walks::generated),
     ("saved form", saved::lines),
     ("listing program", listing::lines),
+    ("streams: what the readings cover", coverage::readings),
     ("streams: every answer number often", streams::answers),
     ("streams: their formats", streams::formats),
 ];

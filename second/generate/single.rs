@@ -106,7 +106,8 @@ fn wrong_count(random: &mut Random) -> Scene {
 fn any_message(random: &mut Random, held: Mask) -> Scene {
     match random.below(10) {
         0 => service(random, held),
-        1..=4 => fresh(random, masks::good),
+        1..=3 => fresh(random, masks::good),
+        4 => fresh(random, |random| masks::at_limit(random, 0)),
         _ => correction(random, held),
     }
 }

@@ -1,6 +1,6 @@
-//! Sweeps: one message of each sub type cut and damaged at every bit, a few
-//! holdings damaged at every bit and lent in every length, and everything else
-//! that is lent around its limits.
+//! Sweeps: messages, good and refused ones, cut and damaged at every bit; a few
+//! holdings damaged at every bit and lent in every length; everything else that
+//! is lent around its limits, and several things wrong at once.
 
 use super::super::bits::{bytes_for, pack};
 use super::super::holding::{Holding, Mask, System, GALILEO};
@@ -16,9 +16,9 @@ pub fn cases() -> Vec<Case> {
     let mask = five_systems();
     let held = Holding::Held(mask.clone());
     let mut all = Vec::new();
-    for drawn in messages(&mut random, &mask) {
-        all.extend(cut(&mut random, &held, &drawn));
-        all.extend(flipped(&mut random, &held, &drawn));
+    for (holding, drawn) in scenes(&mut random, &mask) {
+        all.extend(cut(&mut random, &holding, &drawn));
+        all.extend(flipped(&mut random, &holding, &drawn));
     }
     let biases = of_sub_type(&mut random, &mask, 4);
     let limit = Holding::Held(masks::at_limit(&mut random, 0));
@@ -29,6 +29,7 @@ pub fn cases() -> Vec<Case> {
     all.extend(holding_lengths(&case));
     all.extend(rooms(&case));
     all.extend(ends());
+    all.extend(orders(&case));
     all
 }
 
@@ -52,11 +53,25 @@ fn five_systems() -> Mask {
     Mask { iod: 9, systems }
 }
 
-/// One message of each sub type.
-fn messages(random: &mut Random, mask: &Mask) -> Vec<Drawn> {
-    let mut all = vec![messages::mask(random, mask), messages::service(random)];
-    all.extend([2, 3, 4, 5, 11].map(|sub_type| of_sub_type(random, mask, sub_type)));
-    all
+/// One message of each sub type, then refused ones and masks at the limits,
+/// each with what is held.
+fn scenes(random: &mut Random, mask: &Mask) -> Vec<(Holding, Drawn)> {
+    let mut drawn = vec![messages::mask(random, mask), messages::service(random)];
+    drawn.extend([2, 3, 4, 5, 11].map(|sub_type| of_sub_type(random, mask, sub_type)));
+    drawn.push(messages::other_number(random));
+    drawn.push(messages::other_sub_type(random));
+    drawn.push(messages::network_zero(random, mask));
+    let other_issue = Mask { iod: mask.iod + 1, ..mask.clone() };
+    drawn.push(messages::correction(random, &other_issue));
+    let faults = [masks::with_bad_system(random), masks::with_reserved_place(random)];
+    let (met, passed) = (masks::limits(random, 0), masks::limits(random, 1));
+    for sent in faults.iter().chain(&met).chain(&passed) {
+        drawn.push(messages::mask(random, sent));
+    }
+    let held = Holding::Held(mask.clone());
+    let mut scenes: Vec<_> = drawn.into_iter().map(|drawn| (held.clone(), drawn)).collect();
+    scenes.push((Holding::Empty, messages::correction(random, mask)));
+    scenes
 }
 
 fn of_sub_type(random: &mut Random, mask: &Mask, sub_type: i32) -> Drawn {
@@ -134,6 +149,26 @@ fn ends() -> Vec<Case> {
                 all.push(Case { bytes: bytes.clone(), bit_length, start, ..case.clone() });
             }
             all.push(Case { bytes: bytes.clone(), bit_length, ..case.clone() });
+        }
+    }
+    all
+}
+
+/// Row buffer, bit length and holding each good or bad, over a message or zeros:
+/// "reader's order: 1, 2, 12, 0".
+fn orders(case: &Case) -> Vec<Case> {
+    let zeros = vec![0; case.bytes.len()];
+    let stray = [&case.holding[..HOLDING_BYTES - 1], &[1]].concat();
+    let short = case.holding[..HOLDING_BYTES - 1].to_vec();
+    let mut all = Vec::new();
+    for room in [ROW_ROOM - 1, ROW_ROOM] {
+        for bit_length in [case.bytes.len() * 8 + 1, case.bit_length] {
+            for holding in [&stray, &short, &case.holding] {
+                for bytes in [&zeros, &case.bytes] {
+                    let (holding, bytes) = (holding.clone(), bytes.clone());
+                    all.push(Case { holding, bytes, bit_length, room, ..case.clone() });
+                }
+            }
         }
     }
     all
