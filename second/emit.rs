@@ -1,58 +1,49 @@
-//! The binary stream of generated cases with this program's answers, for a
-//! program that runs another codec on the same cases.
+//! The binary stream of cases with this program's answers, for a program that
+//! runs another codec on the same cases.
 //!
 //! All numbers are little endian; u8, u16, u32 and u64 are unsigned, i32 is
 //! two's complement. Nothing is padded.
 //!
 //! Stream:
-//!   8 bytes   the letters `cssrread` or `cssrwalk`, after the kind
+//!   8 bytes   its kind, `fixed`, `read`, `stretch` or `walk`, filled up with
+//!             zero bytes
 //!   u64       number of records
 //!   records
 //!
-//! Holding (a flat holding):
-//!   u8        held: 1 with a mask, 0 empty
-//!   u8        IOD SSR
-//!   u8        number of systems
-//!   5 times, also for systems past that number:
-//!     u8      GNSS ID
-//!     u64     satellite mask; place 0 is bit 39 (value 2^39), place 39 bit 0
-//!     u16     signal mask; place 0 is bit 15, place 15 bit 0
-//!     u8      cell flag
-//!     u16     number n of cell mask bits
-//!     n bytes one for each cell mask bit in the order sent, 0 or 1
-//!   In the empty holding all of this is 0, and so is a system past the number.
-//!   A lent holding may be damaged, and then any of these may be anything; a
-//!   holding that isn't exactly of this form is refused with 12.
-//!
-//! Lent (the same for both kinds):
-//!   u8        family of the case, for reports only
-//!   holding
+//! Lent (the same for all kinds):
+//!   u8        number n of letters
+//!   n bytes   family of the case, for reports only
+//!   u16       number n of bytes
+//!   n bytes   holding, as docs/HOST.md encodes it, or nonsense
 //!   u32       number n of bytes
-//!   n bytes
+//!   n bytes   stretch
 //!   u64       bit length
-//!   u64       start (0 for a walk)
+//!   u64       start (0 for a stretch and for a walk)
 //!   u32       row buffer's length in numbers
 //!   u64       fill seed of the row buffer: x = seed; for each number
 //!             x = x * 6364136223846793005 + 1442695040888963407 modulo 2^64,
 //!             the number is the upper 32 bits of x as an i32
 //!
-//! Record of kind `read`: lent, then expected
-//!   u8        answer: 0 to 12, or 255 for an accepted message
-//!   u64       place: the start asked for
-//!   8 x i32   head; eight times 0 when not accepted
-//!   u32       row count; 0 when not accepted
-//!   u64       next place; 0 when not accepted
-//!   u64       raw part: offset in bytes; 0 when not accepted
-//!   u64       raw part: length in bytes; 0 when not accepted
-//!   holding   after the reading
-//!   u64       hash of the row buffer after the reading
+//! Record of kind `fixed` (bench cases and sweeps), `read` (random single
+//! readings) or `stretch` (random stretches, each read until a stop): lent, then
+//!   u32       number n of readings, 1 or more; the first is made at the start
+//!             and each other at the place that the one before answered
+//!   n times, expected, as docs/HOST.md has it:
+//!     u8      answer: 0 to 12, or 13 for a message
+//!     u64     place: after the message; else where the reading was made
+//!     8 x i32 head; eight times -32768 when there is no message
+//!     u32     row count r; 0 when there is no message
+//!     u64     raw part: offset in bytes; 0 when there is no message
+//!     u64     raw part: number of bytes; 0 when there is no message
+//!     8r x i32  rows: first in the row buffer, its old numbers after them
+//!     bytes   holding after the reading, as many bytes as were lent
 //!
 //! Record of kind `walk`: lent, then expected
 //!   u8        stop number, 0 to 12
 //!   u64       stop place
 //!   u64       messages accepted
 //!   u64       rows in all of them
-//!   holding   after the walk
+//!   bytes     holding after the walk, as many bytes as were lent
 //!   u64       hash of the row buffer after the walk
 //!
 //! Hash: FNV-1a of 64 bits over the whole row buffer, four bytes little endian
@@ -61,36 +52,57 @@
 
 use std::io::{self, Write};
 
-use super::flat::{Flat, FlatSystem};
-use super::generate::{filled, single, stretches, Case};
+use super::generate::{bench, filled, plain, single, stretches, sweeps, Case};
 use super::holding::Holding;
+use super::host::{self, Answer, MESSAGE};
 use super::random::Random;
-use super::reader::{raw, read, Reading};
 use super::walk::{walk, Walk};
 use super::COLUMNS;
 
-/// The answer written for an accepted message.
-pub const ACCEPTED: u8 = 255;
-
 /// How often each answer occurred: 0 to 12, and accepted at 13.
 pub type Answers = [usize; 14];
+
+/// Readings of a record: a single one, or as many as there are until a stop.
+const SINGLE: usize = 1;
+const WHOLE: usize = usize::MAX;
+
+/// Writes the kind `fixed`.
+pub fn emit_fixed(output: &mut impl Write) -> io::Result<Answers> {
+    let bench = bench::readings();
+    let bench = bench.iter().map(|case| plain(case.name, &case.holding, &case.bits));
+    let readings: Vec<Case> = bench.chain(sweeps::cases()).collect();
+    let stretches = bench::stretches();
+    let mut answers = Answers::default();
+    put_header(output, b"fixed\0\0\0", readings.len() + stretches.len())?;
+    for case in &readings {
+        put_readings(output, &mut answers, case, SINGLE)?;
+    }
+    for case in stretches {
+        let case = plain(case.name, &Holding::Empty, &case.bits);
+        put_readings(output, &mut answers, &case, WHOLE)?;
+    }
+    Ok(answers)
+}
 
 /// Writes so many records of kind `read`.
 pub fn emit_read(output: &mut impl Write, seed: u64, count: usize) -> io::Result<Answers> {
     let mut answers = Answers::default();
     let mut random = Random::new(seed);
-    put_header(output, b"cssrread", count)?;
+    put_header(output, b"read\0\0\0\0", count)?;
     for _ in 0..count {
-        let case = single::case(&mut random);
-        let holding = Holding::from_flat(&case.holding);
-        let mut rows = filled(case.fill, case.room);
-        let reading = read(&holding, &case.bytes, case.bit_length, case.start, &mut rows);
-        answers[reading.as_ref().map_or_else(|stop| usize::from(stop.number), |_| 13)] += 1;
-        let mut record = Vec::new();
-        put_lent(&mut record, &case);
-        put_reading(&mut record, &reading, case.start, &holding);
-        put(&mut record, hash(&rows), 8);
-        output.write_all(&record)?;
+        put_readings(output, &mut answers, &single::case(&mut random), SINGLE)?;
+    }
+    Ok(answers)
+}
+
+/// Writes so many records of kind `stretch`.
+pub fn emit_stretch(output: &mut impl Write, seed: u64, count: usize) -> io::Result<Answers> {
+    let mut answers = Answers::default();
+    let mut run = stretches::Run::new(seed);
+    put_header(output, b"stretch\0", count)?;
+    for _ in 0..count {
+        let holding = put_readings(output, &mut answers, &run.case(), WHOLE)?;
+        run.keep(&host::decode(&holding));
     }
     Ok(answers)
 }
@@ -99,22 +111,55 @@ pub fn emit_read(output: &mut impl Write, seed: u64, count: usize) -> io::Result
 pub fn emit_walk(output: &mut impl Write, seed: u64, count: usize) -> io::Result<Answers> {
     let mut answers = Answers::default();
     let mut run = stretches::Run::new(seed);
-    put_header(output, b"cssrwalk", count)?;
+    put_header(output, b"walk\0\0\0\0", count)?;
     for _ in 0..count {
-        let case = run.case();
-        let holding = Holding::from_flat(&case.holding);
-        let mut rows = filled(case.fill, case.room);
-        let walk = walk(&holding, &case.bytes, case.bit_length, &mut rows, |_, _, _| {});
-        answers[usize::from(walk.stop.number)] += 1;
-        answers[13] += walk.messages;
+        let mut case = run.case();
         let mut record = Vec::new();
         put_lent(&mut record, &case);
+        let mut rows = filled(case.fill, case.room);
+        let lent = host::decode(&case.holding);
+        let walk = walk(&lent, &case.bytes, case.bit_length, &mut rows, |_, _, _| {});
+        host::put(&walk.holding, &mut case.holding);
+        answers[usize::from(walk.stop.number)] += 1;
+        answers[usize::from(MESSAGE)] += walk.messages;
         put_walk(&mut record, &walk);
+        record.extend(&case.holding);
         put(&mut record, hash(&rows), 8);
         output.write_all(&record)?;
         run.keep(&walk.holding);
     }
     Ok(answers)
+}
+
+/// Writes the case with its readings, at most so many, and gives the bytes of
+/// the holding after them.
+fn put_readings(
+    output: &mut impl Write,
+    answers: &mut Answers,
+    case: &Case,
+    most: usize,
+) -> io::Result<Vec<u8>> {
+    let mut readings = Vec::new();
+    let mut count = 0;
+    let mut place = case.start;
+    let mut holding = case.holding.clone();
+    let mut rows = filled(case.fill, case.room);
+    loop {
+        let answer = host::read(&mut holding, &case.bytes, case.bit_length, place, &mut rows);
+        put_reading(&mut readings, &answer, &rows, &holding);
+        answers[usize::from(answer.number)] += 1;
+        place = answer.place;
+        count += 1;
+        if answer.number != MESSAGE || count == most {
+            break;
+        }
+    }
+    let mut record = Vec::new();
+    put_lent(&mut record, case);
+    put(&mut record, count as u64, 4);
+    record.extend(readings);
+    output.write_all(&record)?;
+    Ok(holding)
 }
 
 /// FNV-1a over the numbers as little-endian bytes.
@@ -130,60 +175,40 @@ fn put(record: &mut Vec<u8>, number: u64, width: usize) {
     record.extend_from_slice(&number.to_le_bytes()[..width]);
 }
 
+/// So many bytes after their number, which has this width.
+fn put_counted(record: &mut Vec<u8>, bytes: &[u8], width: usize) {
+    put(record, bytes.len() as u64, width);
+    record.extend_from_slice(bytes);
+}
+
+fn put_numbers(record: &mut Vec<u8>, numbers: &[i32]) {
+    record.extend(numbers.iter().flat_map(|number| number.to_le_bytes()));
+}
+
 fn put_header(output: &mut impl Write, kind: &[u8; 8], count: usize) -> io::Result<()> {
     output.write_all(kind)?;
     output.write_all(&(count as u64).to_le_bytes())
 }
 
 fn put_lent(record: &mut Vec<u8>, case: &Case) {
-    put(record, u64::from(case.family), 1);
-    put_holding(record, &case.holding);
-    put(record, case.bytes.len() as u64, 4);
-    record.extend_from_slice(&case.bytes);
+    put_counted(record, case.family.as_bytes(), 1);
+    put_counted(record, &case.holding, 2);
+    put_counted(record, &case.bytes, 4);
     put(record, case.bit_length as u64, 8);
     put(record, case.start as u64, 8);
     put(record, case.room as u64, 4);
     put(record, case.fill, 8);
 }
 
-fn put_holding(record: &mut Vec<u8>, flat: &Flat) {
-    put(record, u64::from(flat.held), 1);
-    put(record, u64::from(flat.iod), 1);
-    put(record, u64::from(flat.count), 1);
-    for system in &flat.systems {
-        put_system(record, system);
-    }
-}
-
-fn put_system(record: &mut Vec<u8>, system: &FlatSystem) {
-    put(record, u64::from(system.id), 1);
-    put(record, system.satellites, 8);
-    put(record, u64::from(system.signals), 2);
-    put(record, u64::from(system.flag), 1);
-    put(record, system.cells.len() as u64, 2);
-    record.extend_from_slice(&system.cells);
-}
-
-/// All expected outputs of a reading but the hash. On idle or a refusal the
-/// holding is the one lent.
-fn put_reading(record: &mut Vec<u8>, reading: &Reading, start: usize, lent: &Holding) {
-    let raw = raw(reading);
-    let (answer, place, head, rows, next, holding) = match reading {
-        Ok(message) => {
-            (ACCEPTED, start, message.head, message.rows, message.next, &message.holding)
-        }
-        Err(stop) => (stop.number, stop.place, [0; COLUMNS], 0, 0, lent),
-    };
-    put(record, u64::from(answer), 1);
-    put(record, place as u64, 8);
-    for number in head {
-        put(record, number as u64, 4);
-    }
-    put(record, rows as u64, 4);
-    put(record, next as u64, 8);
-    put(record, raw.start as u64, 8);
-    put(record, raw.len() as u64, 8);
-    put_holding(record, &holding.to_flat());
+fn put_reading(record: &mut Vec<u8>, answer: &Answer, rows: &[i32], holding: &[u8]) {
+    put(record, u64::from(answer.number), 1);
+    put(record, answer.place as u64, 8);
+    put_numbers(record, &answer.head);
+    put(record, answer.rows as u64, 4);
+    put(record, answer.raw.start as u64, 8);
+    put(record, answer.raw.len() as u64, 8);
+    put_numbers(record, &rows[..answer.rows * COLUMNS]);
+    record.extend(holding);
 }
 
 fn put_walk(record: &mut Vec<u8>, walk: &Walk) {
@@ -191,5 +216,4 @@ fn put_walk(record: &mut Vec<u8>, walk: &Walk) {
     put(record, walk.stop.place as u64, 8);
     put(record, walk.messages as u64, 8);
     put(record, walk.rows as u64, 8);
-    put_holding(record, &walk.holding.to_flat());
 }

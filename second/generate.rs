@@ -2,26 +2,37 @@
 //! programs. Everything here encodes by itself, without the writer, because
 //! most cases are meant to be refused.
 //!
+//! - `hand`: messages laid down field by field;
+//! - `bench`: the readings of document 01's bench cases;
 //! - `masks`: good masks, masks at and past the house limits, bad masks;
 //! - `messages`: whole messages with the head and rows they stand for;
+//! - `holdings`: lent holdings, good, damaged, cut and longer than they need be;
+//! - `sweeps`: what one message and one holding can be damaged in, all of it;
 //! - `single`: cases of one reading;
-//! - `stretches`: cases of one walk, the mask kept from stretch to stretch.
+//! - `stretches`: cases of one stretch, the mask kept from stretch to stretch.
 
+pub mod bench;
+pub mod hand;
+pub mod holdings;
 pub mod masks;
 pub mod messages;
 pub mod single;
 pub mod stretches;
+pub mod sweeps;
 
-use super::bits::bytes_for;
-use super::flat::{Flat, FLAT_SYSTEMS};
+use super::bits::{bytes_for, pack};
+use super::holding::Holding;
+use super::host::{put, HOLDING_BYTES};
 use super::random::Random;
 use super::{ROW_ROOM, STRETCH_BITS};
 
 /// One case: everything that a reading or a walk is lent. A walk has start 0.
+#[derive(Clone)]
 pub struct Case {
     /// What the case is made for; for reports only.
-    pub family: u8,
-    pub holding: Flat,
+    pub family: &'static str,
+    /// The holding's bytes as the host lends them.
+    pub holding: Vec<u8>,
     pub bytes: Vec<u8>,
     pub bit_length: usize,
     pub start: usize,
@@ -29,6 +40,28 @@ pub struct Case {
     pub room: usize,
     /// The seed of the row buffer's first content.
     pub fill: u64,
+}
+
+/// A reading at place 0 of exactly these bits, with just enough room for rows.
+pub fn plain(family: &'static str, holding: &Holding, bits: &[bool]) -> Case {
+    let mut lent = vec![0; HOLDING_BYTES];
+    put(holding, &mut lent);
+    Case {
+        family,
+        holding: lent,
+        bytes: pack(bits),
+        bit_length: bits.len(),
+        start: 0,
+        room: ROW_ROOM,
+        fill: 1,
+    }
+}
+
+/// The same with dirt after the bits, and any room that suffices.
+fn lend(random: &mut Random, family: &'static str, holding: &Holding, bits: &[bool]) -> Case {
+    let mut case = plain(family, holding, bits);
+    holdings::lengthen(random, &mut case.holding);
+    Case { bytes: dirty_bytes(random, bits), room: good_room(random), fill: random.next(), ..case }
 }
 
 /// The row buffer's first content, by a rule that any program can follow:
@@ -51,7 +84,8 @@ fn good_room(random: &mut Random) -> usize {
 
 /// A row buffer under 2,048 numbers.
 fn bad_room(random: &mut Random) -> usize {
-    random.pick(&[0, 1, 8, 1_024, 2_040, 2_047])
+    let any = random.below(ROW_ROOM);
+    random.pick(&[0, 1, 8, 1_024, ROW_ROOM - 8, ROW_ROOM - 1, any])
 }
 
 /// The bits as bytes with dirt after them: in what is left of the last byte,
@@ -62,17 +96,25 @@ fn dirty_bytes(random: &mut Random, bits: &[bool]) -> Vec<u8> {
     let further = if random.chance(50) { 0 } else { 8 * random.below(4) };
     let dirt = random.bits(spare + further);
     all.extend(dirt);
-    super::bits::pack(&all)
+    pack(&all)
+}
+
+/// A number far past every stretch: among the greatest there are, or one that
+/// looks like the near one to whoever drops its upper bits.
+fn far(random: &mut Random, near: usize) -> usize {
+    let greatest = usize::MAX - random.below(8);
+    random.pick(&[greatest, (1 << 32) + near, (1 << 63) + near])
 }
 
 /// Makes the bit length one that is refused with 2.
 fn mislength(random: &mut Random, case: &mut Case) {
     match random.below(3) {
         0 => case.bit_length = case.bytes.len() * 8 + 1 + random.below(9),
-        1 => case.bit_length = usize::MAX - random.below(8),
+        1 => case.bit_length = far(random, case.bit_length),
         _ => {
-            case.bytes.resize(bytes_for(STRETCH_BITS), 0);
-            case.bit_length = STRETCH_BITS + 1 + random.below(6);
+            case.bytes.resize(bytes_for(STRETCH_BITS) + random.pick(&[0, 0, 1, 100]), 0);
+            let spare = case.bytes.len() * 8 - STRETCH_BITS;
+            case.bit_length = STRETCH_BITS + 1 + random.below(spare);
         }
     }
 }
@@ -82,43 +124,6 @@ fn misstart(random: &mut Random, case: &mut Case) {
     case.start = match random.below(3) {
         0 => case.bit_length + 1,
         1 => case.bit_length + 1 + random.below(1_000),
-        _ => usize::MAX - random.below(8),
-    }
-}
-
-/// Flips one bit of the flat holding, at any of its numbers.
-fn damage_holding(random: &mut Random, flat: &mut Flat) {
-    match random.below(4) {
-        0 => {
-            let one = 1 << random.below(8);
-            match random.below(3) {
-                0 => flat.held ^= one,
-                1 => flat.iod ^= one,
-                _ => flat.count ^= one,
-            }
-        }
-        _ => damage_system(random, flat),
-    }
-}
-
-/// Flips one bit of a system, mostly of one that is counted.
-fn damage_system(random: &mut Random, flat: &mut Flat) {
-    let counted = usize::from(flat.count).clamp(1, FLAT_SYSTEMS);
-    let slots = if random.chance(90) { counted } else { FLAT_SYSTEMS };
-    let system = &mut flat.systems[random.below(slots)];
-    match random.below(6) {
-        0 => system.id ^= 1 << random.below(8),
-        1 => system.satellites ^= 1 << random.below(64),
-        2 => system.signals ^= 1 << random.below(16),
-        3 => system.flag ^= 1 << random.below(8),
-        4 if !system.cells.is_empty() => {
-            let cell = random.below(system.cells.len());
-            system.cells[cell] ^= 1 << random.below(8);
-        }
-        _ => {
-            if random.chance(50) || system.cells.pop().is_none() {
-                system.cells.push(0);
-            }
-        }
+        _ => far(random, case.start),
     }
 }

@@ -1,7 +1,6 @@
 //! The held mask (document 01, "Held mask and assigned places").
 
 use super::answer::{NO_MASK, OTHER_ISSUE};
-use super::flat::{Flat, FlatSystem};
 
 /// Satellite places with an assignment, by GNSS ID: 0 up to one below this.
 pub const SATELLITE_PLACES: [usize; 5] = [40, 24, 37, 40, 10];
@@ -16,8 +15,9 @@ pub const MAX_CELLS: usize = 256;
 /// The ID whose IODE has ten bits.
 pub const GALILEO: u8 = 2;
 
-/// One system of a mask. `cells` is `None` when the cell flag is 0, so that a
-/// cell mask of ones alone stays another mask than no cell mask.
+/// One system of a mask. `cells` has a bit for each satellite with each signal,
+/// and is `None` when the cell flag is 0, so that a cell mask of ones alone stays
+/// another mask than no cell mask.
 #[derive(Clone, Debug, PartialEq, Eq)]
 pub struct System {
     pub id: u8,
@@ -33,12 +33,12 @@ pub struct Mask {
 }
 
 /// What a receiver holds. `Held` is only ever made with a good mask; whatever
-/// else is lent is kept as it came, because a refusal hands it back unchanged.
+/// else is lent says nothing, and a refusal leaves it where it was lent.
 #[derive(Clone, Debug, PartialEq, Eq)]
 pub enum Holding {
     Empty,
     Held(Mask),
-    Nonsense(Flat),
+    Nonsense,
 }
 
 /// The set places of a mask field of this many bits, place 0 first.
@@ -95,28 +95,10 @@ impl System {
     }
 
     fn is_good(&self) -> bool {
-        let cells = self.cells.as_ref().map_or(self.cell_bits(), Vec::len);
         usize::from(self.id) < SATELLITE_PLACES.len()
             && self.satellites >> SATELLITE_BITS == 0
             && !self.reserved_satellite()
             && !self.reserved_signal()
-            && cells == self.cell_bits()
-    }
-
-    fn to_flat(&self) -> FlatSystem {
-        let cells = self.cells.iter().flatten().map(|&one| u8::from(one)).collect();
-        let flag = u8::from(self.cells.is_some());
-        FlatSystem { id: self.id, satellites: self.satellites, signals: self.signals, flag, cells }
-    }
-
-    fn from_flat(flat: &FlatSystem) -> System {
-        let cells = || flat.cells.iter().map(|&cell| cell == 1).collect();
-        System {
-            id: flat.id,
-            satellites: flat.satellites,
-            signals: flat.signals,
-            cells: (flat.flag == 1).then(cells),
-        }
     }
 }
 
@@ -155,20 +137,6 @@ impl Mask {
         let named = |id: u8| self.systems.iter().filter(|system| system.id == id).count();
         self.systems.iter().all(|system| named(system.id) == 1)
     }
-
-    fn to_flat(&self) -> Flat {
-        let mut flat =
-            Flat { held: 1, iod: self.iod, count: self.systems.len() as u8, ..Flat::default() };
-        for (slot, system) in flat.systems.iter_mut().zip(&self.systems) {
-            *slot = system.to_flat();
-        }
-        flat
-    }
-
-    fn from_flat(flat: &Flat) -> Mask {
-        let counted = flat.systems.iter().take(usize::from(flat.count));
-        Mask { iod: flat.iod, systems: counted.map(System::from_flat).collect() }
-    }
 }
 
 impl Holding {
@@ -178,28 +146,6 @@ impl Holding {
             Holding::Held(mask) if iod == i32::from(mask.iod) => Ok(mask),
             Holding::Held(_) => Err(OTHER_ISSUE),
             _ => Err(NO_MASK),
-        }
-    }
-
-    /// Any flat holding. The mask is taken out loosely; whatever the loose
-    /// look missed shows as a difference when the mask is laid flat again.
-    pub fn from_flat(flat: &Flat) -> Holding {
-        if *flat == Flat::default() {
-            return Holding::Empty;
-        }
-        let mask = Mask::from_flat(flat);
-        if mask.is_good() && mask.to_flat() == *flat {
-            Holding::Held(mask)
-        } else {
-            Holding::Nonsense(flat.clone())
-        }
-    }
-
-    pub fn to_flat(&self) -> Flat {
-        match self {
-            Holding::Empty => Flat::default(),
-            Holding::Held(mask) => mask.to_flat(),
-            Holding::Nonsense(flat) => flat.clone(),
         }
     }
 }

@@ -8,9 +8,10 @@ mod tests;
 use std::io::{self, BufWriter, Write};
 use std::process::ExitCode;
 
-use codec::emit::{emit_read, emit_walk, Answers};
+use codec::emit::{emit_fixed, emit_read, emit_stretch, emit_walk, Answers};
 
-const USAGE: &str = "usage: second listing | second test | second emit read|walk SEED COUNT";
+const USAGE: &str = "usage: second listing | second test | second emit fixed \
+                     | second emit read|stretch|walk SEED COUNT";
 
 fn main() -> ExitCode {
     let words: Vec<String> = std::env::args().skip(1).collect();
@@ -18,7 +19,8 @@ fn main() -> ExitCode {
     let done = match words[..] {
         ["listing"] => list(),
         ["test"] => return tests::run(),
-        ["emit", kind, seed, count] => emit(kind, seed, count),
+        ["emit", "fixed"] => emit(emit_fixed),
+        ["emit", kind, seed, count] => emit_random(kind, seed, count),
         _ => Err(fault(USAGE)),
     };
     match done {
@@ -40,15 +42,22 @@ fn list() -> io::Result<()> {
     output.flush()
 }
 
-fn emit(kind: &str, seed: &str, count: &str) -> io::Result<()> {
+fn emit_random(kind: &str, seed: &str, count: &str) -> io::Result<()> {
     let seed: u64 = seed.parse().map_err(fault)?;
     let count: usize = count.parse().map_err(fault)?;
+    match kind {
+        "read" => emit(|output| emit_read(output, seed, count)),
+        "stretch" => emit(|output| emit_stretch(output, seed, count)),
+        "walk" => emit(|output| emit_walk(output, seed, count)),
+        _ => Err(fault(USAGE)),
+    }
+}
+
+type Output = BufWriter<io::StdoutLock<'static>>;
+
+fn emit(emitted: impl FnOnce(&mut Output) -> io::Result<Answers>) -> io::Result<()> {
     let mut output = BufWriter::new(io::stdout().lock());
-    let answers = match kind {
-        "read" => emit_read(&mut output, seed, count)?,
-        "walk" => emit_walk(&mut output, seed, count)?,
-        _ => return Err(fault(USAGE)),
-    };
+    let answers = emitted(&mut output)?;
     output.flush()?;
     print_answers(&answers);
     Ok(())

@@ -77,7 +77,7 @@ fn open<'a>(
     if bit_length > STRETCH_BITS || bit_length > bytes.len() * 8 || start > bit_length {
         return Err(PLACE);
     }
-    if matches!(holding, Holding::Nonsense(_)) {
+    if *holding == Holding::Nonsense {
         return Err(VALUE);
     }
     if !(start..bit_length).any(|place| bit(bytes, place)) {

@@ -34,7 +34,7 @@ fn line(holding: &Holding) -> Option<String> {
             let systems: String = mask.systems.iter().map(system_text).collect();
             Some(format!("S\t{}{systems}\n", mask.iod))
         }
-        Holding::Nonsense(_) => None,
+        Holding::Nonsense => None,
     }
 }
 

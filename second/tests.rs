@@ -2,8 +2,9 @@
 
 mod bench;
 mod columns;
+mod coverage;
 mod hand;
-mod holding;
+mod host;
 mod listing;
 mod reader;
 mod rounds;
@@ -47,25 +48,16 @@ impl Group {
     }
 }
 
-const GROUPS: [(&str, fn(&mut Group)); 27] = [
-    ("bench 1 the listing's stretch", bench::case_1),
-    ("bench 2 its first 180 bits", bench::case_2),
-    ("bench 3 its last 67 bits", bench::case_3),
-    ("bench 4 its clock with IOD 4", bench::case_4),
-    ("bench 5 a mask of 0 systems", bench::case_5),
-    ("bench 6 QZSS places 9 and 10", bench::case_6),
-    ("bench 7 ID 5, GPS twice", bench::case_7),
-    ("bench 8 64 and 65 satellites", bench::case_8),
-    ("bench 9 32 GPS by 8 and 9", bench::case_9),
-    ("bench 10 eleven and twelve bits", bench::case_10),
-    ("bench 11 networks 0 and 31", bench::case_11),
-    ("bench 12 one satellite's orbit", bench::case_12),
-    ("bench 13 sub type 10", bench::case_13),
-    ("bench 14 sub type 12", bench::case_14),
+const GROUPS: [(&str, fn(&mut Group)); 20] = [
+    ("bench 1 the worked listing", bench::worked_listing),
+    ("bench 1 to 4 stretches", bench::stretches),
+    ("bench 5 to 14 readings", bench::readings),
     ("reader: each answer number", reader::numbers),
     ("reader: order of refusals", reader::order),
     ("reader: messages by hand", hand::messages),
-    ("holding: what a good mask message makes", holding::good_masks),
+    ("host: encodings by hand", host::by_hand),
+    ("host: what a good mask message makes", host::good_masks),
+    ("host: readings", host::readings),
     ("writer: each answer number", writer::numbers),
     ("writer: order of refusals", writer::order),
     ("writer: every column's range", columns::ranges),
@@ -74,7 +66,9 @@ const GROUPS: [(&str, fn(&mut Group)); 27] = [
     ("walks: repeated readings", walks::generated),
     ("saved form", saved::lines),
     ("listing program", listing::lines),
-    ("stream: every answer number often", streams::answers),
+    ("streams: what the readings cover", coverage::readings),
+    ("streams: every answer number often", streams::answers),
+    ("streams: their formats", streams::formats),
 ];
 
 pub fn run() -> ExitCode {

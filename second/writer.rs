@@ -37,7 +37,7 @@ fn prepare(
     if start > limit {
         return Err(PLACE);
     }
-    if matches!(holding, Holding::Nonsense(_)) {
+    if *holding == Holding::Nonsense {
         return Err(VALUE);
     }
     let message = message(holding, head, rows, count)?;

@@ -3,7 +3,5 @@
 set -eu
 cd "$(dirname "$0")/.."
 . tests/lib/tools.sh
-need rustc rustc
-mkdir -p target/tests
-rustc -O --edition 2021 -D warnings second/main.rs -o target/tests/second
+second
 target/tests/second test

@@ -100,13 +100,21 @@ fn counted_cells(random: &mut Random, bits: usize, count: usize) -> Vec<bool> {
 
 /// The limit of 64 satellites or of 256 cells, met (`over` 0) or passed by one.
 pub fn at_limit(random: &mut Random, over: usize) -> Mask {
-    let mut mask = match random.below(4) {
-        0 | 1 => satellites_at(random, MAX_SATELLITES + over),
-        2 => set_cells_at(random, MAX_CELLS + over),
-        _ => full_cells_at(random, over),
-    };
-    mask.iod = random.below(16) as u8;
-    mask
+    let [satellites, set_cells, full_cells] = limits(random, over);
+    random.pick(&[&satellites, &satellites, &set_cells, &full_cells]).clone()
+}
+
+/// The same, one mask for each way to count so many.
+pub fn limits(random: &mut Random, over: usize) -> [Mask; 3] {
+    let mut masks = [
+        satellites_at(random, MAX_SATELLITES + over),
+        set_cells_at(random, MAX_CELLS + over),
+        full_cells_at(random, over),
+    ];
+    for mask in &mut masks {
+        mask.iod = random.below(16) as u8;
+    }
+    masks
 }
 
 /// So many satellites over two or more systems, with few signals.
@@ -175,7 +183,7 @@ pub fn with_bad_system(random: &mut Random) -> Mask {
 }
 
 /// A good mask in which one system got one place without assignment: the first
-/// such, the last, or any.
+/// such, the last, or any. A cell mask keeps the bits that its system asks for.
 pub fn with_reserved_place(random: &mut Random) -> Mask {
     let mut mask = named(random);
     let at = random.below(mask.systems.len());
@@ -187,6 +195,9 @@ pub fn with_reserved_place(random: &mut Random) -> Mask {
     } else {
         let place = edge(random, SIGNAL_PLACES[usize::from(system.id)], SIGNAL_BITS);
         system.signals |= 1 << (SIGNAL_BITS - 1 - place);
+    }
+    if system.cells.is_some() {
+        system.cells = Some(cell_mask(random, system.cell_bits()));
     }
     mask
 }

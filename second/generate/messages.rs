@@ -47,7 +47,7 @@ impl Drawn {
 
     /// Epoch, interval, indicator and IOD SSR.
     fn put_opening(&mut self, random: &mut Random, epoch: usize, iod: u8) {
-        self.head[1] = self.put_any(random, epoch);
+        self.head[1] = self.put(epoch_value(random, epoch), epoch);
         self.head[2] = self.put_any(random, 4);
         self.head[3] = self.put_any(random, 1);
         self.head[4] = self.put(u64::from(iod), 4);
@@ -59,6 +59,14 @@ fn unsigned(random: &mut Random, width: usize) -> u64 {
     let all = (1 << width) - 1;
     let any = random.next() & all;
     random.pick(&[0, all, any, any])
+}
+
+/// An epoch of this width: often the last or the first that is none, after the
+/// seconds of an hour or of a week.
+fn epoch_value(random: &mut Random, width: usize) -> u64 {
+    let none = if width == 12 { 3_600 } else { 604_800 };
+    let any = unsigned(random, width);
+    random.pick(&[none - 1, none, any, any, any])
 }
 
 /// A signed field's value: often most negative, greatest, -1, 0 or next to the

@@ -6,119 +6,109 @@ use super::super::holding::{Holding, Mask};
 use super::super::random::Random;
 use super::super::STRETCH_BITS;
 use super::messages::Drawn;
-use super::{bad_room, damage_holding, dirty_bytes, good_room, mislength, misstart};
-use super::{masks, messages, Case};
+use super::{bad_room, lend, mislength, misstart};
+use super::{holdings, masks, messages, Case};
 
-/// What a case is made for; the answer is always the reader's own.
-const FAMILIES: [(&str, usize); 20] = [
-    ("good mask", 8),
-    ("good correction", 16),
-    ("good service", 4),
-    ("idle", 4),
-    ("number", 3),
-    ("sub type", 3),
-    ("no mask", 4),
-    ("other issue", 4),
-    ("system", 4),
-    ("reserved place", 4),
-    ("limit met", 4),
-    ("limit passed", 4),
-    ("network 0", 4),
-    ("damaged holding", 8),
-    ("room", 2),
-    ("place", 3),
-    ("truncated", 10),
-    ("one bit flipped", 10),
-    ("wrong count of systems", 3),
-    ("long stretch", 1),
+/// The mask held, if any, and the message read under it.
+type Scene = (Option<Mask>, Drawn);
+
+/// What a case is made for: its name, how often it comes, and its scene, made
+/// with a good mask. The answer is always the reader's own.
+type Family = (&'static str, usize, fn(&mut Random, Mask) -> Scene);
+
+const FAMILIES: [Family; 20] = [
+    ("good mask", 8, |random, _| fresh(random, masks::good)),
+    ("good correction", 20, correction),
+    ("good service", 4, service),
+    (IDLE, 4, service),
+    ("number", 3, |random, held| (Some(held), messages::other_number(random))),
+    ("sub type", 3, |random, held| (Some(held), messages::other_sub_type(random))),
+    ("no mask", 4, |random, held| (None, messages::correction(random, &held))),
+    ("other issue", 4, other_issue),
+    ("system", 4, |random, _| fresh(random, masks::with_bad_system)),
+    ("reserved place", 4, |random, _| fresh(random, masks::with_reserved_place)),
+    ("limit met", 4, |random, _| fresh(random, |random| masks::at_limit(random, 0))),
+    ("limit passed", 4, |random, _| fresh(random, |random| masks::at_limit(random, 1))),
+    ("network 0", 4, |random, held| with(held, |mask| messages::network_zero(random, mask))),
+    (DAMAGED_HOLDING, 8, correction),
+    (ROOM, 2, correction),
+    (PLACE, 3, correction),
+    (TRUNCATED, 10, any_message),
+    (FLIPPED, 10, any_message),
+    ("wrong count of systems", 3, |random, _| wrong_count(random)),
+    (LONG, 1, correction),
 ];
 
-const IDLE: u8 = 3;
-const DAMAGED_HOLDING: u8 = 13;
-const ROOM: u8 = 14;
-const PLACE: u8 = 15;
-const TRUNCATED: u8 = 16;
-const FLIPPED: u8 = 17;
-const LONG: u8 = 19;
-
-/// The name of a family, for reports.
-pub fn family_name(family: u8) -> &'static str {
-    FAMILIES[usize::from(family)].0
-}
+const IDLE: &str = "idle";
+const DAMAGED_HOLDING: &str = "damaged holding";
+const ROOM: &str = "room";
+const PLACE: &str = "place";
+const TRUNCATED: &str = "truncated";
+const FLIPPED: &str = "one bit flipped";
+const LONG: &str = "long stretch";
 
 /// The next case of one reading.
 pub fn case(random: &mut Random) -> Case {
-    let family = family(random);
-    let (mask, drawn) = scene(random, family);
-    let mut case = place(random, family, &drawn);
-    case.holding = holding(random, mask).to_flat();
-    spoil(random, family, &mut case, &drawn);
+    let (family, _, scene) = family(random);
+    let held = if random.chance(6) { masks::at_limit(random, 0) } else { masks::good(random) };
+    let (mask, drawn) = scene(random, held);
+    let holding = holding(random, mask);
+    let mut case = place(random, family, &holding, &drawn);
+    spoil(random, &mut case, &drawn);
     case
 }
 
-fn family(random: &mut Random) -> u8 {
+fn family(random: &mut Random) -> Family {
     let total = FAMILIES.iter().map(|family| family.1).sum();
     let mut left = random.below(total);
-    for (index, family) in FAMILIES.iter().enumerate() {
+    for family in FAMILIES {
         if left < family.1 {
-            return index as u8;
+            return family;
         }
         left -= family.1;
     }
-    0
+    FAMILIES[0]
 }
 
-/// The mask held, if any, and the message read under it.
-fn scene(random: &mut Random, family: u8) -> (Option<Mask>, Drawn) {
-    let held = if random.chance(6) { masks::at_limit(random, 0) } else { masks::good(random) };
-    match family {
-        0 => fresh(random, masks::good),
-        2 | 3 => (Some(held), messages::service(random)),
-        4 => (Some(held), messages::other_number(random)),
-        5 => (Some(held), messages::other_sub_type(random)),
-        6 => (None, messages::correction(random, &held)),
-        7 => other_issue(random, held),
-        8 => fresh(random, masks::with_bad_system),
-        9 => fresh(random, masks::with_reserved_place),
-        10 => fresh(random, |random| masks::at_limit(random, 0)),
-        11 => fresh(random, |random| masks::at_limit(random, 1)),
-        12 => with(held, |mask| messages::network_zero(random, mask)),
-        18 => wrong_count(random),
-        16 | 17 => any_message(random, held),
-        _ => with(held, |mask| messages::correction(random, mask)),
-    }
-}
-
-fn with(mask: Mask, draw: impl FnOnce(&Mask) -> Drawn) -> (Option<Mask>, Drawn) {
+fn with(mask: Mask, draw: impl FnOnce(&Mask) -> Drawn) -> Scene {
     let drawn = draw(&mask);
     (Some(mask), drawn)
 }
 
 /// A mask message of its own, read while any mask or none is held.
-fn fresh(random: &mut Random, make: impl FnOnce(&mut Random) -> Mask) -> (Option<Mask>, Drawn) {
+fn fresh(random: &mut Random, make: impl FnOnce(&mut Random) -> Mask) -> Scene {
     let sent = make(random);
     let drawn = messages::mask(random, &sent);
     let held = random.chance(70).then(|| masks::good(random));
     (held, drawn)
 }
 
-fn other_issue(random: &mut Random, held: Mask) -> (Option<Mask>, Drawn) {
+fn correction(random: &mut Random, held: Mask) -> Scene {
+    with(held, |mask| messages::correction(random, mask))
+}
+
+fn service(random: &mut Random, held: Mask) -> Scene {
+    (Some(held), messages::service(random))
+}
+
+fn other_issue(random: &mut Random, held: Mask) -> Scene {
     let sent = Mask { iod: (held.iod + 1 + random.below(15) as u8) % 16, ..held.clone() };
     (Some(held), messages::correction(random, &sent))
 }
 
 /// A mask message whose number of systems isn't that of the systems sent.
-fn wrong_count(random: &mut Random) -> (Option<Mask>, Drawn) {
+fn wrong_count(random: &mut Random) -> Scene {
     let sent = masks::good(random);
     let count = random.below(16) as u64;
     (None, messages::mask_of(random, &sent, count))
 }
 
-fn any_message(random: &mut Random, held: Mask) -> (Option<Mask>, Drawn) {
+fn any_message(random: &mut Random, held: Mask) -> Scene {
     match random.below(10) {
-        0 => with(held, |_| messages::service(random)),
-        1..=4 => fresh(random, masks::good),
-        _ => with(held, |mask| messages::correction(random, mask)),
+        0 => service(random, held),
+        1..=3 => fresh(random, masks::good),
+        4 => fresh(random, |random| masks::at_limit(random, 0)),
+        _ => correction(random, held),
     }
 }
 
@@ -131,7 +121,7 @@ fn holding(random: &mut Random, mask: Option<Mask>) -> Holding {
 
 /// The message after up to 40 other bits, at any alignment, and before nothing,
 /// zeros or other bits; dirt after the bit length.
-fn place(random: &mut Random, family: u8, drawn: &Drawn) -> Case {
+fn place(random: &mut Random, family: &'static str, holding: &Holding, drawn: &Drawn) -> Case {
     let start = if random.chance(20) { 0 } else { random.below(41) };
     let mut bits = random.bits(start);
     if family == IDLE {
@@ -142,15 +132,7 @@ fn place(random: &mut Random, family: u8, drawn: &Drawn) -> Case {
         let tail = tail(random);
         bits.extend(tail);
     }
-    Case {
-        family,
-        holding: Holding::Empty.to_flat(),
-        bytes: dirty_bytes(random, &bits),
-        bit_length: bits.len(),
-        start,
-        room: good_room(random),
-        fill: random.next(),
-    }
+    Case { start, ..lend(random, family, holding, &bits) }
 }
 
 fn tail(random: &mut Random) -> Vec<bool> {
@@ -164,7 +146,8 @@ fn tail(random: &mut Random) -> Vec<bool> {
 
 /// What the family calls for, and rarely one more thing so that the order of
 /// the refusals shows.
-fn spoil(random: &mut Random, family: u8, case: &mut Case, drawn: &Drawn) {
+fn spoil(random: &mut Random, case: &mut Case, drawn: &Drawn) {
+    let family = case.family;
     if family == TRUNCATED || random.chance(2) {
         truncate(random, case, drawn);
     }
@@ -175,7 +158,7 @@ fn spoil(random: &mut Random, family: u8, case: &mut Case, drawn: &Drawn) {
         lengthen(random, case);
     }
     if family == DAMAGED_HOLDING || random.chance(1) {
-        damage_holding(random, &mut case.holding);
+        holdings::damage(random, &mut case.holding);
     }
     if family == PLACE || random.chance(1) {
         if random.chance(50) {

@@ -1,63 +1,54 @@
-//! Cases of one walk: stretches from a sender that changes its mask now and
+//! Cases of one stretch: stretches from a sender that changes its mask now and
 //! then, received by a receiver that may have missed it. The receiver keeps its
 //! holding from stretch to stretch.
 
-use super::super::flat::Flat;
 use super::super::holding::{Holding, Mask};
 use super::super::random::Random;
 use super::super::STRETCH_BITS;
-use super::{bad_room, damage_holding, dirty_bytes, good_room, mislength};
-use super::{masks, messages, Case};
+use super::{bad_room, holdings, lend, masks, messages, mislength, Case};
 
-/// Families of walks, for reports.
-const PLAIN: u8 = 0;
-const FRESH: u8 = 1;
-const MISSED: u8 = 2;
-const DAMAGED: u8 = 3;
-const PLACE: u8 = 4;
-const ROOM: u8 = 5;
-const NAMES: [&str; 6] =
-    ["plain", "fresh receiver", "mask missed", "damaged holding", "place", "room"];
-
-/// The name of a family, for reports.
-pub fn family_name(family: u8) -> &'static str {
-    NAMES[usize::from(family)]
-}
+/// Families of stretches, by their names in reports.
+const PLAIN: &str = "plain";
+const FRESH: &str = "fresh receiver";
+const MISSED: &str = "mask missed";
+const DAMAGED: &str = "damaged holding";
+const PLACE: &str = "place";
+const ROOM: &str = "room";
 
 /// A sender and a receiver, stretch after stretch.
 pub struct Run {
     random: Random,
     sender: Mask,
-    receiver: Flat,
+    receiver: Holding,
 }
 
 impl Run {
     pub fn new(seed: u64) -> Self {
         let mut random = Random::new(seed);
         let sender = masks::good(&mut random);
-        Run { random, sender, receiver: Flat::default() }
+        Run { random, sender, receiver: Holding::Empty }
     }
 
     /// What the receiver holds after the last case, for the next one. A holding
     /// that damage made nonsense is given up for the one before it, because
     /// every later walk would only be refused for it.
     pub fn keep(&mut self, holding: &Holding) {
-        if !matches!(holding, Holding::Nonsense(_)) {
-            self.receiver = holding.to_flat();
+        if *holding != Holding::Nonsense {
+            self.receiver = holding.clone();
         }
     }
 
     pub fn case(&mut self) -> Case {
         let family = self.family();
         match family {
-            FRESH => self.receiver = Flat::default(),
+            FRESH => self.receiver = Holding::Empty,
             MISSED => self.sender = masks::successor(&mut self.random, &self.sender),
             _ => {}
         }
         let bits = self.stretch();
-        let mut case = self.lend(family, &bits);
+        let mut case = lend(&mut self.random, family, &self.receiver, &bits);
         match family {
-            DAMAGED => damage_holding(&mut self.random, &mut case.holding),
+            DAMAGED => holdings::damage(&mut self.random, &mut case.holding),
             PLACE => mislength(&mut self.random, &mut case),
             ROOM => case.room = bad_room(&mut self.random),
             _ => {}
@@ -65,7 +56,7 @@ impl Run {
         case
     }
 
-    fn family(&mut self) -> u8 {
+    fn family(&mut self) -> &'static str {
         match self.random.below(100) {
             0..=9 => FRESH,
             10..=17 => MISSED,
@@ -73,18 +64,6 @@ impl Run {
             21 | 22 => PLACE,
             23 => ROOM,
             _ => PLAIN,
-        }
-    }
-
-    fn lend(&mut self, family: u8, bits: &[bool]) -> Case {
-        Case {
-            family,
-            holding: self.receiver.clone(),
-            bytes: dirty_bytes(&mut self.random, bits),
-            bit_length: bits.len(),
-            start: 0,
-            room: good_room(&mut self.random),
-            fill: self.random.next(),
         }
     }
 

@@ -4,14 +4,11 @@ use super::tools::*;
 use super::Group;
 use crate::codec::answer::Stop;
 use crate::codec::bits::pack;
-use crate::codec::flat::Flat;
 use crate::codec::holding::Holding;
 use crate::codec::reader::read;
 use crate::codec::ROW_ROOM;
 
-fn nonsense() -> Holding {
-    Holding::from_flat(&Flat { held: 2, ..Flat::default() })
-}
+const NONSENSE: Holding = Holding::Nonsense;
 
 /// The answer of a reading with everything given.
 fn answer(
@@ -48,7 +45,7 @@ fn lent(group: &mut Group) {
     group.same("2: over the bytes", answer(&empty, 2, 17, 7, ROW_ROOM), refused(2, 7));
     group.same("2: past the end", answer(&empty, 2, 9, 10, ROW_ROOM), refused(2, 10));
     group.same("2: far", answer(&empty, 1, usize::MAX, usize::MAX, ROW_ROOM), refused(2, usize::MAX));
-    group.same("12: holding", answer(&nonsense(), 1, 8, 2, ROW_ROOM), refused(12, 2));
+    group.same("12: holding", answer(&NONSENSE, 1, 8, 2, ROW_ROOM), refused(12, 2));
 }
 
 /// 3 to 7 and 11.
@@ -122,9 +119,9 @@ fn mask_fields(group: &mut Group) {
 /// Several things wrong at once: the first in the order is answered.
 pub fn order(group: &mut Group) {
     let empty = Holding::Empty;
-    group.same("1 before 2", answer(&nonsense(), 0, 1, 9, 2_047), refused(1, 9));
-    group.same("2 before 12", answer(&nonsense(), 0, 1, 9, 2_048), refused(2, 9));
-    group.same("12 before 0", answer(&nonsense(), 1, 8, 8, 2_048), refused(12, 8));
+    group.same("1 before 2", answer(&NONSENSE, 0, 1, 9, 2_047), refused(1, 9));
+    group.same("2 before 12", answer(&NONSENSE, 0, 1, 9, 2_048), refused(2, 9));
+    group.same("12 before 0", answer(&NONSENSE, 1, 8, 8, 2_048), refused(12, 8));
     let zeros = vec![false; 500];
     group.same("0 before 4", stop(&empty, &zeros), Some(0));
     group.same("5 before 3", stop(&empty, &fields(&[(4_073, 12), (9, 4)])), Some(5));

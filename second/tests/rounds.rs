@@ -7,6 +7,7 @@ use crate::codec::bits::bit;
 use crate::codec::generate::messages::{self, Drawn};
 use crate::codec::generate::{filled, masks, single, Case};
 use crate::codec::holding::{Holding, Mask};
+use crate::codec::host::decode;
 use crate::codec::random::Random;
 use crate::codec::reader::{raw, read, Message};
 use crate::codec::writer::write;
@@ -88,15 +89,14 @@ pub fn generated(group: &mut Group) {
     let mut seen = [0; 13];
     for _ in 0..GENERATED {
         let case = single::case(&mut random);
-        let holding = Holding::from_flat(&case.holding);
+        let holding = decode(&case.holding);
         let old = filled(case.fill, case.room);
         let mut rows = old.clone();
         let reading = read(&holding, &case.bytes, case.bit_length, case.start, &mut rows);
         match &reading {
             Ok(message) => check_back(group, &case, message, &rows, &old, &mut random),
             Err(stop) => {
-                let family = single::family_name(case.family);
-                group.check(family, rows == old && stop.place == case.start);
+                group.check(case.family, rows == old && stop.place == case.start);
                 group.check("no raw part", raw(&reading) == (0..0));
                 seen[usize::from(stop.number)] += 1;
             }

@@ -3,7 +3,6 @@
 use super::tools::{adopted, first, held, mask_bits, place};
 use super::Group;
 use crate::codec::answer::Stop;
-use crate::codec::flat::Flat;
 use crate::codec::generate::masks;
 use crate::codec::holding::Holding;
 use crate::codec::random::Random;
@@ -75,10 +74,9 @@ fn room(group: &mut Group) {
     let mut buffer = vec![b'?'; length + 3];
     group.same("length", save(&holding, &mut buffer), Ok(length));
     group.check("later bytes stay", buffer.ends_with(b"\n???"));
-    let nonsense = Holding::from_flat(&Flat { held: 1, count: 6, ..Flat::default() });
     for room in [0, 100] {
         let mut buffer = vec![b'?'; room];
-        group.same("12: holding", save(&nonsense, &mut buffer), Err(REFUSED));
+        group.same("12: holding", save(&Holding::Nonsense, &mut buffer), Err(REFUSED));
         group.check("nothing written", buffer.iter().all(|&byte| byte == b'?'));
     }
 }

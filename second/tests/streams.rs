@@ -1,61 +1,98 @@
-//! The stream of cases: the same from the same seed, of the documented length,
-//! and with every answer number in it often.
+//! The streams of cases: the same from the same seed, of the documented length,
+//! and with every answer number in them often.
+
+use std::io::{self, sink};
 
 use super::Group;
-use crate::codec::emit::{emit_read, emit_walk, hash, ACCEPTED};
+use crate::codec::emit::{emit_fixed, emit_read, emit_stretch, emit_walk, hash, Answers};
+use crate::codec::host::MESSAGE;
 
 const CASES: usize = 30_000;
 
 pub fn answers(group: &mut Group) {
-    let answers = emit_read(&mut std::io::sink(), 1, CASES).unwrap_or_default();
-    for (number, &count) in answers.iter().enumerate() {
-        group.check(&format!("answer {number}, {count} times"), count * 300 >= CASES);
+    let read = emit_read(&mut sink(), 1, CASES);
+    often(group, "read", read, CASES / 300);
+    often(group, "stretch", emit_stretch(&mut sink(), 1, 3_000), 10);
+    often(group, "walk", emit_walk(&mut sink(), 1, 3_000), 10);
+    often(group, "fixed", emit_fixed(&mut sink()), 1);
+}
+
+fn often(group: &mut Group, kind: &str, answers: io::Result<Answers>, least: usize) {
+    for (number, &count) in answers.unwrap_or_default().iter().enumerate() {
+        group.check(&format!("{kind}: answer {number}, {count} times"), count >= least);
     }
-    let answers = emit_walk(&mut std::io::sink(), 1, 3_000).unwrap_or_default();
-    for (number, &count) in answers.iter().enumerate() {
-        group.check(&format!("stop {number}, {count} times"), count >= 10);
-    }
-    let stream = |seed| {
-        let mut bytes = Vec::new();
-        let done = emit_read(&mut bytes, seed, 50);
-        (done.is_ok(), bytes)
-    };
+}
+
+pub fn formats(group: &mut Group) {
+    let stream = |seed| written(|output| emit_read(output, seed, 50));
     group.check("the same seed", stream(5) == stream(5));
     group.check("another seed", stream(5) != stream(6));
-    group.same("records end where the stream ends", last_record(&stream(5).1), Some(50));
+    let fixed = written(|output| emit_fixed(output));
+    let stretches = written(|output| emit_stretch(output, 5, 50));
+    let walks = written(|output| emit_walk(output, 5, 50));
+    let readings = |stream: &[u8], kind: &[u8]| records(stream, kind, skip_readings);
+    group.same("read ends where it should", readings(&stream(5), b"read\0\0\0\0"), Some(50));
+    group.same("stretch too", readings(&stretches, b"stretch\0"), Some(50));
+    group.check("fixed too", readings(&fixed, b"fixed\0\0\0") > Some(5_000));
+    group.same("walk too", records(&walks, b"walk\0\0\0\0", skip_walk), Some(50));
     group.same("hash of nothing", hash(&[]), 0xCBF2_9CE4_8422_2325);
     group.same("hash of the letters foob", hash(&[0x626F_6F66]), 0xDD12_0E79_0C25_12AF);
 }
 
+fn written(emitted: impl FnOnce(&mut Vec<u8>) -> io::Result<Answers>) -> Vec<u8> {
+    let mut bytes = Vec::new();
+    match emitted(&mut bytes) {
+        Ok(_) => bytes,
+        Err(_) => Vec::new(),
+    }
+}
+
 /// Steps over the records by the documented format; the number of records when
 /// the last one ends with the stream.
-fn last_record(stream: &[u8]) -> Option<u64> {
-    let mut left = stream.strip_prefix(b"cssrread")?;
+fn records(
+    stream: &[u8],
+    kind: &[u8],
+    skip_expected: fn(&mut &[u8], usize) -> Option<()>,
+) -> Option<u64> {
+    let mut left = stream.strip_prefix(kind)?;
     let count = take(&mut left, 8)?;
     for _ in 0..count {
-        skip(&mut left, 1)?;
-        skip_holding(&mut left)?;
-        let bytes = take(&mut left, 4)?;
-        skip(&mut left, bytes as usize + 8 + 8 + 4 + 8)?;
-        let answer = take(&mut left, 1)?;
-        if answer > 12 && answer != u64::from(ACCEPTED) {
-            return None;
-        }
-        skip(&mut left, 8 + 32 + 4 + 8 + 8 + 8)?;
-        skip_holding(&mut left)?;
-        skip(&mut left, 8)?;
+        let holding = skip_lent(&mut left)?;
+        skip_expected(&mut left, holding)?;
     }
     left.is_empty().then_some(count)
 }
 
-fn skip_holding(left: &mut &[u8]) -> Option<()> {
-    skip(left, 3)?;
-    for _ in 0..5 {
-        skip(left, 1 + 8 + 2 + 1)?;
-        let cells = take(left, 2)?;
-        skip(left, cells as usize)?;
+/// Steps over what is lent; the number of the holding's bytes.
+fn skip_lent(left: &mut &[u8]) -> Option<usize> {
+    skip_counted(left, 1)?;
+    let holding = skip_counted(left, 2)?;
+    skip_counted(left, 4)?;
+    skip(left, 8 + 8 + 4 + 8)?;
+    Some(holding)
+}
+
+fn skip_readings(left: &mut &[u8], holding: usize) -> Option<()> {
+    for _ in 0..take(left, 4)? {
+        let answer = take(left, 1)?;
+        skip(left, 8 + 32)?;
+        let rows = take(left, 4)?;
+        if answer > u64::from(MESSAGE) || rows > 256 {
+            return None;
+        }
+        skip(left, 8 + 8 + 32 * rows as usize + holding)?;
     }
     Some(())
+}
+
+fn skip_walk(left: &mut &[u8], holding: usize) -> Option<()> {
+    skip(left, 1 + 8 + 8 + 8 + holding + 8)
+}
+
+fn skip_counted(left: &mut &[u8], width: usize) -> Option<usize> {
+    let count = take(left, width)? as usize;
+    skip(left, count)?;
+    Some(count)
 }
 
 fn take(left: &mut &[u8], width: usize) -> Option<u64> {

@@ -7,6 +7,7 @@ use crate::codec::answer::Stop;
 use crate::codec::bits::pack;
 use crate::codec::generate::{filled, stretches, Case};
 use crate::codec::holding::Holding;
+use crate::codec::host::decode;
 use crate::codec::reader::{read, Message};
 use crate::codec::walk::{walk, Walk};
 
@@ -36,18 +37,23 @@ pub fn generated(group: &mut Group) {
     by_hand(group);
     let mut run = stretches::Run::new(9);
     let mut after_messages = [0; 13];
+    let (mut changed, mut kept) = (0, 0);
     for _ in 0..CASES {
         let case = run.case();
-        let holding = Holding::from_flat(&case.holding);
+        let holding = decode(&case.holding);
         let mut rows = filled(case.fill, case.room);
         let mut again = rows.clone();
         let mut shown = 0;
         let walk = walk(&holding, &case.bytes, case.bit_length, &mut rows, |place, message, _| {
             shown += message.next - place;
+            match (place, message.head[0]) {
+                (0, 2..=5 | 11) => kept += 1,
+                (1.., 1) => changed += 1,
+                _ => {}
+            }
         });
         let (expected, place) = retold(&case, &holding, &mut again);
-        let family = stretches::family_name(case.family);
-        group.check(family, walk == expected && rows == again);
+        group.check(case.family, walk == expected && rows == again);
         group.check("messages without a gap", shown == place && walk.stop.place == place);
         group.check("at most a 37th", walk.messages * 37 <= walk.stop.place);
         if walk.messages > 1 {
@@ -55,6 +61,8 @@ pub fn generated(group: &mut Group) {
         }
         run.keep(&walk.holding);
     }
+    group.check("masks adopted inside a stretch", changed >= 1_000);
+    group.check("corrections under a mask of an earlier stretch", kept >= 500);
     for number in [0, 3, 4, 5, 7, 8, 9, 10, 11] {
         let often = after_messages[number] >= 5;
         group.check(&format!("stop {number} in the middle occurred"), often);

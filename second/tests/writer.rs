@@ -5,7 +5,6 @@ use super::tools::*;
 use super::Group;
 use crate::codec::answer::Stop;
 use crate::codec::bits::{bit, pack};
-use crate::codec::flat::Flat;
 use crate::codec::holding::Holding;
 use crate::codec::writer::write;
 
@@ -14,12 +13,10 @@ const HEAD: [i32; 8] = [3, 100, 2, 0, 3, NO, NO, NO];
 const ROWS: [i32; 16] = [0, 1, NO, 5, NO, NO, NO, NO, 0, 2, NO, -1, NO, NO, NO, NO];
 const LENGTH: usize = 67;
 
+const NONSENSE: Holding = Holding::Nonsense;
+
 fn mask() -> Holding {
     held(&[(0, first(2, 40), 0x8000)])
-}
-
-fn nonsense() -> Holding {
-    Holding::from_flat(&Flat { held: 1, iod: 16, ..Flat::default() })
 }
 
 /// The head with one column changed.
@@ -80,7 +77,7 @@ fn places(group: &mut Group) {
 
 /// 5, 6, 7, 11 and 12 of head and holding.
 fn issues(group: &mut Group) {
-    group.same("12: holding", written(&nonsense(), &HEAD), Err(12));
+    group.same("12: holding", written(&NONSENSE, &HEAD), Err(12));
     for sub_type in [0, 6, 7, 8, 9, 12, 13, 14, 15, 16, 19, -1, NO, i32::MIN, i32::MAX] {
         group.same("5: sub type", written(&mask(), &head(0, sub_type)), Err(5));
     }
@@ -100,7 +97,7 @@ fn issues(group: &mut Group) {
     let sent = |holding: &Holding, head: &[i32; 8]| attempt(holding, head, &row, 1, 16, 0);
     group.same("10 without a mask", sent(&Holding::Empty, &service), Ok(62));
     group.same("10 with a mask", sent(&mask(), &service), Ok(62));
-    group.same("10 with a damaged holding", sent(&nonsense(), &service), Err(12));
+    group.same("10 with a damaged holding", sent(&NONSENSE, &service), Err(12));
     for (column, value) in [(1, 100), (2, 2), (4, 3)] {
         let mut head = service;
         head[column] = value;
@@ -168,8 +165,8 @@ fn neighbours(group: &mut Group) {
 pub fn order(group: &mut Group) {
     let all_wrong = [99, -1, -1, -1, 99, -1, -1, 0];
     let at = |holding: &Holding, head: &[i32; 8], start| attempt(holding, head, &[], 9, 0, start);
-    group.same("2 before 12", at(&nonsense(), &all_wrong, 1), Err(2));
-    group.same("12 before 5", at(&nonsense(), &all_wrong, 0), Err(12));
+    group.same("2 before 12", at(&NONSENSE, &all_wrong, 1), Err(2));
+    group.same("12 before 5", at(&NONSENSE, &all_wrong, 0), Err(12));
     group.same("5 before 6", at(&Holding::Empty, &all_wrong, 0), Err(5));
     let combined = [11, -1, -1, -1, 99, -1, -1, 0];
     group.same("6 before 7", at(&Holding::Empty, &combined, 0), Err(6));

@@ -2,6 +2,8 @@
 #   CC    compiles C for x86-64, statically linked where the program is emulated
 #   RUN   goes in front of such a program; empty on x86-64
 # need COMMAND PACKAGE..: installs Debian's packages where the command is missing.
+# compile NAME CRATE: makes target/tests/NAME of tests/NAME.c and the crate's static library.
+# second: makes the second program, target/tests/second.
 need() {
     command -v "$1" >/dev/null 2>&1 && return 0
     shift
@@ -25,3 +27,15 @@ x86_64)
     RUN='qemu-x86_64'
     ;;
 esac
+
+compile() {
+    rt staticlib "$2"
+    mkdir -p target/tests
+    $CC -O2 -std=c11 -Wall -Wextra -Werror -Iinclude "tests/$1.c" "target/staticlib/lib$2.a" -o "target/tests/$1"
+}
+
+second() {
+    need rustc rustc
+    mkdir -p target/tests
+    rustc -O --edition 2021 -D warnings second/main.rs -o target/tests/second
+}

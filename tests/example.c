@@ -1,0 +1,53 @@
+/* Calling from C (docs/HOST.md): reads document 01's worked stretch message by message and prints it as its
+   listing does, a line M and lines R for each message, a line E for the stop. */
+#include <inttypes.h>
+#include <stdio.h>
+
+#include "hundurzek.h"
+
+enum { BITS = 181 };
+
+static const uint8_t stretch[] = {0xFE, 0x91, 0x00, 0x06, 0x45, 0x18, 0x85, 0x00, 0x00, 0x00, 0x00, 0x04,
+                                  0x08, 0x06, 0xFF, 0xA4, 0xC1, 0x90, 0x86, 0x00, 0x16, 0x00, 0x00};
+
+static uint8_t holding[HUNDURZEK_HOLDING];
+static int32_t rows[HUNDURZEK_ROOM];
+
+static void print_numbers(const int32_t *numbers) {
+  for (size_t i = 0; i < HUNDURZEK_ROW; i++) {
+    if (numbers[i] == HUNDURZEK_ABSENT)
+      printf("\t-");
+    else
+      printf("\t%" PRId32, numbers[i]);
+  }
+}
+
+static void print_message(size_t start, const hundurzek_reading *message) {
+  const hundurzek_head *head = &message->head;
+  const int32_t numbers[HUNDURZEK_ROW] = {head->subtype, head->epoch, head->interval, head->indicator,
+                                          head->iod,     head->a,     head->b,        head->c};
+  printf("M\t%zu\t%zu", start, message->place - start);
+  print_numbers(numbers);
+  printf("\t%zu\n", message->rows);
+  for (size_t row = 0; row < message->rows; row++) {
+    printf("R");
+    print_numbers(rows + row * HUNDURZEK_ROW);
+    printf("\n");
+  }
+}
+
+int main(void) {
+  size_t place = 0, messages = 0, row_count = 0;
+  hundurzek_reading reading;
+  hundurzek_empty(holding, sizeof holding);
+  for (;;) {
+    reading = hundurzek_read(holding, sizeof holding, stretch, sizeof stretch, BITS, place, rows, HUNDURZEK_ROOM);
+    if (reading.answer != HUNDURZEK_MESSAGE) break;
+    print_message(place, &reading);
+    place = reading.place;
+    messages++;
+    row_count += reading.rows;
+  }
+  printf("E\t%" PRIu64 "\t%zu\t%zu\t%zu\n", reading.answer, reading.place, messages, row_count);
+  return 0;
+}
