@@ -4,19 +4,14 @@
 # docs/PERFORMANCE.md. ICOUNT names the instruction counter.
 set -eu
 cd "$(dirname "$0")/.."
-: "${ICOUNT:=../shared/tools/icount}"
-. tests/lib/tools.sh
-rt staticlib probe >/dev/null
-mkdir -p target/bench
-# static: the counter runs the program under an emulator on every machine
-$CC -static -O2 -std=c11 -Wall -Wextra -Werror -Wno-cast-function-type -Iinclude bench/fields.c target/staticlib/libprobe.a -o target/bench/fields
+. bench/lib/count.sh
+build fields probe -Wno-cast-function-type bench/fields.c
 
 calls=8000
-count() { "$ICOUNT" target/bench/fields "$1" "$2" 2>&1 | sed -n 's/^instructions //p'; }
 # against the loop that calls a function of one instruction, its return: that and the call are added again
 per_call() {
-    with=$(count "$1" "$3")
-    without=$(count "$2" "$3")
+    with=$(count fields "$1" "$3")
+    without=$(count fields "$2" "$3")
     awk -v a="$with" -v b="$without" -v n="$calls" 'BEGIN { printf "%.1f", (a - b) / n + 2 }'
 }
 

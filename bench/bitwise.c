@@ -1,0 +1,302 @@
+/* Document 01's reader, bit by bit. Titles in comments are that document's. */
+#include "bitwise.h"
+
+#include "getbit.h"
+
+/* "Answer numbers", and the one of docs/HOST.md for a message. */
+enum {
+  IDLE, ROOM, PLACE, SHORT, NUMBER, SUBTYPE, NO_MASK, OTHER_ISSUE, SYSTEM, RESERVED, SIZE, NETWORK, VALUE, MESSAGE
+};
+
+/* "Held mask and assigned places": how many places each system has, and the house limits. */
+enum { GALILEO = 2, SYSTEMS = 5, SATELLITES = 64, CELLS = 256, LONGEST = 50850 };
+static const int satellite_places[SYSTEMS] = {40, 24, 37, 40, 10};
+static const int signal_places[SYSTEMS] = {14, 13, 15, 9, 10};
+
+static const hundurzek_head nothing = {HUNDURZEK_ABSENT, HUNDURZEK_ABSENT, HUNDURZEK_ABSENT, HUNDURZEK_ABSENT,
+                                       HUNDURZEK_ABSENT, HUNDURZEK_ABSENT, HUNDURZEK_ABSENT, HUNDURZEK_ABSENT};
+
+/* ---- fields one after another */
+
+struct cursor {
+  const uint8_t *bytes;
+  int place;
+  int end;
+};
+
+static int has(const struct cursor *c, int width) { return width <= c->end - c->place; }
+
+static int32_t unsigned_field(struct cursor *c, int width) {
+  int32_t value = (int32_t)getbitu(c->bytes, c->place, width);
+  c->place += width;
+  return value;
+}
+
+static int32_t signed_field(struct cursor *c, int width) {
+  int32_t value = getbits(c->bytes, c->place, width);
+  c->place += width;
+  return value;
+}
+
+/* A field of the head: 0 where it is short. */
+static int take(struct cursor *c, int width, int32_t *value) {
+  if (!has(c, width)) return 0;
+  *value = unsigned_field(c, width);
+  return 1;
+}
+
+/* A mask of up to 64 bits, in two pieces where one call of getbitu does not do. */
+static int take_mask(struct cursor *c, int width, uint64_t *mask) {
+  if (!has(c, width)) return 0;
+  *mask = 0;
+  if (width > 32) {
+    *mask = (uint64_t)unsigned_field(c, width - 32) << 32;
+    width = 32;
+  }
+  *mask |= (uint32_t)unsigned_field(c, width);
+  return 1;
+}
+
+static int all_zero(const struct cursor *c) {
+  for (int place = c->place; place < c->end; place += 8) {
+    int left = c->end - place;
+    if (getbitu(c->bytes, place, left < 8 ? left : 8)) return 0;
+  }
+  return 1;
+}
+
+/* ---- sub type 1 */
+
+static int names(const bitwise_holding *mask, int id) {
+  for (int k = 0; k < mask->systems; k++)
+    if (mask->system[k].id == id) return 1;
+  return 0;
+}
+
+/* Whether a mask of width bits has a place set that is not one of the first assigned ones. */
+static int reserved(uint64_t mask, int width, int assigned) {
+  return (mask & ((UINT64_C(1) << (width - assigned)) - 1)) != 0;
+}
+
+static int read_satellites(struct cursor *c, bitwise_holding *mask, int system) {
+  uint64_t places;
+  int id = mask->system[system].id;
+  if (!take_mask(c, 40, &places)) return SHORT;
+  if (reserved(places, 40, satellite_places[id])) return RESERVED;
+  for (int place = 0; place < 40; place++) {
+    if (!(places >> (39 - place) & 1)) continue;
+    if (mask->satellites == SATELLITES) return SIZE;
+    mask->satellite[mask->satellites++] = (bitwise_satellite){system, place + 1, 0};
+  }
+  return MESSAGE;
+}
+
+static int read_signals(struct cursor *c, bitwise_system *system) {
+  uint64_t places;
+  if (!take_mask(c, 16, &places)) return SHORT;
+  if (reserved(places, 16, signal_places[system->id])) return RESERVED;
+  for (int place = 0; place < 16; place++)
+    if (places >> (15 - place) & 1) system->signal[system->signals++] = place;
+  return MESSAGE;
+}
+
+/* The cells of the satellites from first on. "With flag 0 every signal counts for every satellite." */
+static int read_cells(struct cursor *c, bitwise_holding *mask, int first, int signals) {
+  int32_t flag, cells;
+  if (!take(c, 1, &flag)) return SHORT;
+  for (int k = first; k < mask->satellites; k++) {
+    cells = (1 << signals) - 1;
+    if (flag && !take(c, signals, &cells)) return SHORT;
+    mask->satellite[k].cells = (uint32_t)cells;
+    for (int j = 0; j < signals; j++) mask->cells += cells >> j & 1;
+  }
+  return mask->cells > CELLS ? SIZE : MESSAGE;
+}
+
+static int read_system(struct cursor *c, bitwise_holding *mask) {
+  int32_t id;
+  if (!take(c, 4, &id)) return SHORT;
+  if (id >= SYSTEMS || names(mask, id)) return SYSTEM;
+  int index = mask->systems++, first = mask->satellites;
+  bitwise_system *system = &mask->system[index];
+  system->id = id;
+  int answer = read_satellites(c, mask, index);
+  if (answer == MESSAGE) answer = read_signals(c, system);
+  if (answer == MESSAGE) answer = read_cells(c, mask, first, system->signals);
+  return answer;
+}
+
+/* "Each good mask message is adopted as the new holding and replaces the old one whole": till then apart. */
+static int read_mask(struct cursor *c, bitwise_holding *holding, hundurzek_head *head) {
+  bitwise_holding mask = {.held = 1};
+  if (!take(c, 20, &head->epoch) || !take(c, 4, &head->interval) || !take(c, 1, &head->indicator) ||
+      !take(c, 4, &head->iod) || !take(c, 4, &head->a))
+    return SHORT;
+  mask.iod = head->iod;
+  for (int k = 0; k < head->a; k++) {
+    int answer = read_system(c, &mask);
+    if (answer != MESSAGE) return answer;
+  }
+  *holding = mask;
+  return MESSAGE;
+}
+
+/* ---- rows */
+
+struct rows {
+  int32_t *numbers;
+  size_t count;
+};
+
+static int32_t *open_row(struct rows *rows, int system, int satellite, int signal) {
+  int32_t *row = rows->numbers + HUNDURZEK_ROW * rows->count++;
+  row[0] = system;
+  row[1] = satellite;
+  row[2] = signal;
+  for (int k = 3; k < HUNDURZEK_ROW; k++) row[k] = HUNDURZEK_ABSENT;
+  return row;
+}
+
+/* What a message has for each of its satellites: the orbit's four fields or not, the clock in a column of the row or,
+   with column 0, not, and which satellites, the first one highest. */
+struct parts {
+  int orbit;
+  int clock_column;
+  uint64_t selected;
+};
+
+static int is_selected(const struct parts *parts, const bitwise_holding *holding, int k) {
+  return parts->selected >> (holding->satellites - 1 - k) & 1;
+}
+
+static int iode_width(const bitwise_holding *holding, int k) {
+  return holding->system[holding->satellite[k].system].id == GALILEO ? 10 : 8;
+}
+
+static int satellites_width(const bitwise_holding *holding, const struct parts *parts) {
+  int width = 0;
+  for (int k = 0; k < holding->satellites; k++) {
+    if (!is_selected(parts, holding, k)) continue;
+    if (parts->orbit) width += iode_width(holding, k) + 15 + 13 + 13;
+    if (parts->clock_column) width += 15;
+  }
+  return width;
+}
+
+static int read_satellite_rows(struct cursor *c, const bitwise_holding *holding, const struct parts *parts,
+                               struct rows *rows) {
+  if (!has(c, satellites_width(holding, parts))) return SHORT;
+  for (int k = 0; k < holding->satellites; k++) {
+    if (!is_selected(parts, holding, k)) continue;
+    const bitwise_satellite *satellite = &holding->satellite[k];
+    int32_t *row = open_row(rows, holding->system[satellite->system].id, satellite->number, HUNDURZEK_ABSENT);
+    if (parts->orbit) {
+      row[3] = unsigned_field(c, iode_width(holding, k));
+      row[4] = signed_field(c, 15);
+      row[5] = signed_field(c, 13);
+      row[6] = signed_field(c, 13);
+    }
+    if (parts->clock_column) row[parts->clock_column] = signed_field(c, 15);
+  }
+  return MESSAGE;
+}
+
+static int read_bias_rows(struct cursor *c, const bitwise_holding *holding, int bias, int discontinuity,
+                          struct rows *rows) {
+  if (!has(c, (bias + discontinuity) * holding->cells)) return SHORT;
+  for (int k = 0; k < holding->satellites; k++) {
+    const bitwise_satellite *satellite = &holding->satellite[k];
+    const bitwise_system *system = &holding->system[satellite->system];
+    for (int j = 0; j < system->signals; j++) {
+      if (!(satellite->cells >> (system->signals - 1 - j) & 1)) continue;
+      int32_t *row = open_row(rows, system->id, satellite->number, system->signal[j]);
+      row[3] = signed_field(c, bias);
+      if (discontinuity) row[4] = unsigned_field(c, discontinuity);
+    }
+  }
+  return MESSAGE;
+}
+
+/* ---- sub types 2, 3, 4, 5 and 11 */
+
+static int read_combined(struct cursor *c, const bitwise_holding *holding, hundurzek_head *head, struct rows *rows) {
+  int32_t network;
+  struct parts parts = {.selected = UINT64_MAX};
+  if (!take(c, 1, &head->a) || !take(c, 1, &head->b) || !take(c, 1, &network)) return SHORT;
+  if (network) {
+    if (!take(c, 5, &head->c)) return SHORT;
+    if (head->c == 0) return NETWORK;
+    if (!take_mask(c, holding->satellites, &parts.selected)) return SHORT;
+  }
+  parts.orbit = head->a;
+  parts.clock_column = head->b ? 7 : 0;
+  return read_satellite_rows(c, holding, &parts, rows);
+}
+
+static int read_under_mask(struct cursor *c, const bitwise_holding *holding, hundurzek_head *head, struct rows *rows) {
+  if (!take(c, 12, &head->epoch) || !take(c, 4, &head->interval) || !take(c, 1, &head->indicator) ||
+      !take(c, 4, &head->iod))
+    return SHORT;
+  if (!holding->held) return NO_MASK;
+  if (head->iod != holding->iod) return OTHER_ISSUE;
+  switch (head->subtype) {
+    case 2: return read_satellite_rows(c, holding, &(struct parts){1, 0, UINT64_MAX}, rows);
+    case 3: return read_satellite_rows(c, holding, &(struct parts){0, 3, UINT64_MAX}, rows);
+    case 4: return read_bias_rows(c, holding, 11, 0, rows);
+    case 5: return read_bias_rows(c, holding, 15, 2, rows);
+    default: return read_combined(c, holding, head, rows);
+  }
+}
+
+/* ---- sub type 10 */
+
+static int read_service(struct cursor *c, hundurzek_head *head, struct rows *rows) {
+  if (!take(c, 1, &head->indicator) || !take(c, 3, &head->a) || !take(c, 2, &head->b)) return SHORT;
+  if (!has(c, 40 * (head->b + 1))) return SHORT;
+  for (int k = 0; k <= head->b; k++) {
+    int32_t *row = open_row(rows, HUNDURZEK_ABSENT, HUNDURZEK_ABSENT, k + 1);
+    for (int j = 3; j < HUNDURZEK_ROW; j++) row[j] = unsigned_field(c, 8);
+  }
+  return MESSAGE;
+}
+
+/* ---- one message */
+
+static int read_message(struct cursor *c, bitwise_holding *holding, hundurzek_head *head, struct rows *rows) {
+  int32_t number;
+  if (!take(c, 12, &number)) return SHORT;
+  if (number != 4073) return NUMBER;
+  if (!take(c, 4, &head->subtype)) return SHORT;
+  switch (head->subtype) {
+    case 1: return read_mask(c, holding, head);
+    case 2:
+    case 3:
+    case 4:
+    case 5:
+    case 11: return read_under_mask(c, holding, head, rows);
+    case 10: return read_service(c, head, rows);
+    default: return SUBTYPE;
+  }
+}
+
+static hundurzek_reading refused(int answer, size_t start) {
+  return (hundurzek_reading){.answer = (uint64_t)answer, .place = start, .head = nothing};
+}
+
+hundurzek_reading bitwise_read(uint8_t *holding, size_t holding_count, const uint8_t *bytes, size_t count, size_t end,
+                               size_t start, int32_t *rows, size_t row_count) {
+  if (row_count < HUNDURZEK_ROOM) return refused(ROOM, start);
+  if (end > LONGEST || (end + 7) / 8 > count || start > end) return refused(PLACE, start);
+  if (holding_count < sizeof(bitwise_holding)) return refused(VALUE, start);
+  struct cursor c = {bytes, (int)start, (int)end};
+  if (all_zero(&c)) return refused(IDLE, start);
+  hundurzek_reading reading = {.answer = MESSAGE, .head = nothing};
+  struct rows table = {rows, 0};
+  int answer = read_message(&c, (bitwise_holding *)(void *)holding, &reading.head, &table);
+  if (answer != MESSAGE) return refused(answer, start);
+  reading.rows = table.count;
+  reading.place = (size_t)c.place;
+  reading.raw_offset = start / 8;
+  reading.raw_count = (reading.place + 7) / 8 - start / 8;
+  return reading;
+}

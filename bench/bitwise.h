@@ -1,0 +1,39 @@
+/* A reader of one message in the way that today's GNSS libraries are written: every field by getbitu or getbits,
+   loops over satellites and signals. It gives hundurzek_read's answers, heads and rows, and takes what that takes,
+   but keeps its holding as a struct of its own. */
+#ifndef BENCH_BITWISE_H
+#define BENCH_BITWISE_H
+
+#include "hundurzek.h"
+
+/* One system of the mask: how many signals, and their places, ascending. */
+typedef struct {
+  int id;
+  int signals;
+  int signal[16];
+} bitwise_system;
+
+/* One satellite of the mask: its system's index, its number, and a bit for each of the system's signals, first
+   signal highest, that is set where the signal counts for it. */
+typedef struct {
+  int system;
+  int number;
+  uint32_t cells;
+} bitwise_satellite;
+
+/* All zero is the empty holding. */
+typedef struct {
+  int held;
+  int iod;
+  int systems;
+  int satellites;
+  int cells;
+  bitwise_system system[5];
+  bitwise_satellite satellite[64];
+} bitwise_holding;
+
+/* As hundurzek_read; the bytes lent as a holding are those of a bitwise_holding. */
+hundurzek_reading bitwise_read(uint8_t *holding, size_t holding_count, const uint8_t *bytes, size_t count, size_t end,
+                               size_t start, int32_t *rows, size_t row_count);
+
+#endif

@@ -1,0 +1,22 @@
+/* The stretches that the benches read; the same ones at every run. */
+#ifndef BENCH_STRETCHES_H
+#define BENCH_STRETCHES_H
+
+#include <stddef.h>
+#include <stdint.h>
+
+/* Document 01, "What is built": the longest stretch; five data parts, as one subframe of CLAS has; an hour of them. */
+enum { LONGEST = 30 * 1695, SUBFRAME = 5 * 1695, HOUR = 720 };
+
+typedef struct {
+  size_t end; /* length in bits */
+  uint8_t bytes[(LONGEST + 7) / 8];
+} stretch;
+
+/* Input (a): an hour as a CLAS receiver sees it. Makes HOUR stretches, and answers how many. */
+size_t make_hour(stretch *stretches);
+
+/* Input (b): 64 satellites, 256 cells, sub type 5 back to back. Makes at most HOUR stretches, and answers how many. */
+size_t make_biases(stretch *stretches);
+
+#endif
