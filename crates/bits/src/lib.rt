@@ -3,5 +3,5 @@ pub mod part;
 pub mod read;
 pub mod rest;
 pub mod signed;
-mod window;
+pub mod window;
 pub mod write;
