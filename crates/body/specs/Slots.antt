@@ -4,7 +4,9 @@ use Prim.Native.Nat.{ℕ, suc}
 use Rattle.bits.specs.BitLists.{spell}
 use Rattle.format.specs.Masks.{Satellite, Cell, placesFrom, pick}
 use Rattle.format.specs.Messages.{satelliteLines}
-use Rattle.format.specs.Rows.{Column, Line}
+use Rattle.format.specs.Rows.{Column, gap, Line}
+use Rattle.rows.specs.declared.shape.Column.{Column as CodeColumn}
+use Rattle.rows.specs.Shapes.{columnOf}
 
 -- the satellites of one system, by a mask of w bits
 unfoldable pub satellitesIn : ℕ → ℕ → ℕ → List Satellite
@@ -19,6 +21,10 @@ slotSatellites (id ∷ ids) (m ∷ masks) = satellitesIn 40 id m ++ slotSatellit
 -- a line for each satellite that a selection chooses, the first one's bit being the highest of 64
 unfoldable pub chosenLines : (ℕ → List Column) → ℕ → List Satellite → List Line
 chosenLines shape chosen sats = satelliteLines shape (pick (spell 64 chosen) sats)
+
+-- two columns, as the code has them, and three gaps
+unfoldable pub slimOf : CodeColumn → CodeColumn → List Column
+slimOf v1 v2 = columnOf v1 ∷ columnOf v2 ∷ gap ∷ gap ∷ gap ∷ []
 
 -- the cells of one satellite, by a row of w bits
 unfoldable pub cellsIn : ℕ → Satellite → ℕ → List Cell
