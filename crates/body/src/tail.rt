@@ -1,7 +1,7 @@
 // What a string has from a byte on, with zeros behind it.
 ghost use mathlib.Core.Path.{_≡_};
 ghost use Prim.Native.Nat.{ℕ, _+_, _^_, _≤_, _<_};
-ghost use lib.ListN.{length, getD};
+ghost use lib.ListN.{getD};
 
 // The smaller of two numbers.
 fn least(a: usize, b: usize) -> usize
