@@ -23,7 +23,7 @@ use Rattle.rows.specs.Shapes.{isGap, shapeWith}
 use Rattle.body.specs.declared.Lines.{Lines}
 use Rattle.body.specs.declared.Lines.the-variants.{Orbits, Clocks, Codes, Phases, Combined, Packet}
 use Rattle.body.specs.Lines.{shapeFor, linesOf, partsOf}
-use Rattle.body.specs.Slots.{slotSatellites, chosenLines, slimOf}
+use Rattle.body.specs.Slots.{slotsOf, chosenLines, slimOf}
 use Rattle.body.specs.Written.{Room, Countable}
 use Rattle.body.proofs.Held.{says}
 use Rattle.body.proofs.HeldLines.{eights, few-lines, countable, few-bits}
@@ -33,10 +33,6 @@ use Rattle.body.proofs.Picks.{pick-all}
 all-chosen : (shape : ℕ → List Column) (sats : List Satellite) → length sats ≤ 64 → chosenLines shape 18446744073709551615 sats ≡ satelliteLines shape sats
 unfolding chosenLines
 all-chosen shape sats few = ap (satelliteLines shape) (pick-all sats few)
-
--- the satellites of a holding's slots
-abbrev pub slotsOf : Holding → List Satellite
-slotsOf h = slotSatellites (take (h .count) (h .ids)) (h .satellites)
 
 module _ (h : Holding) (e : sound h ≡ true) where
   -- ---- the arrays
@@ -49,12 +45,6 @@ module _ (h : Holding) (e : sound h ≡ true) where
 
   pub masked : (length (take (h .count) (h .ids)) ≤ length (h .satellites)) × (narrow 40 (h .satellites) ≡ true)
   masked = let s = says h e in (omega (arith, prefix, s .count, s .masks), held-masks h e .1)
-
-  pub five-masks : 5 ≡ length (h .satellites)
-  five-masks = sym (says h e .masks)
-
-  pub all-rows : 64 ≡ length (h .cells)
-  all-rows = sym (says h e .cells)
 
   pub covered : length (slotsOf h) ≤ length (h .cells)
   covered = let s = says h e in omega (arith, ap length (s .slots), s .few-satellites, s .cells)
