@@ -74,7 +74,7 @@ pub going-start : {bs : List ℕ} {all : List Line} {from : ℕ} {old : List ℤ
 going-start r = record { ends = refl; room = omega (arith, r .room); count = omega arith; place = refl; few = r .few; near = r .near; whole = r .whole; same = refl }
 
 -- the rows of some lines are written
-pub going-part : {bs : List ℕ} {all : List Line} {from : ℕ} {old : List ℤ} (some more : List Line) (j at : ℕ) (buffer : List ℤ)
+going-part : {bs : List ℕ} {all : List Line} {from : ℕ} {old : List ℤ} (some more : List Line) (j at : ℕ) (buffer : List ℤ)
     → Going bs all from old (some ++ more) j at buffer
     → Going bs all from old more (j + length (numbersAt some bs at)) (at + bodyWidth some) (take j buffer ++ over (numbersAt some bs at) (drop j buffer))
 going-part {bs} some more j at buffer g =

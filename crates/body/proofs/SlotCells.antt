@@ -30,7 +30,7 @@ unfolding cellsIn
 next-of sat x rest some small e = rw (next-place x some small .2, e)
 
 -- a row of 16 bits moved up
-pub up-of : (sat : Satellite) (row : ℕ) → row < 2 ^ 16 → cellsIn 64 sat (row * 2 ^ 48 % 2 ^ 64) ≡ cellsIn 16 sat row
+up-of : (sat : Satellite) (row : ℕ) → row < 2 ^ 16 → cellsIn 64 sat (row * 2 ^ 48 % 2 ^ 64) ≡ cellsIn 16 sat row
 unfolding cellsIn
 up-of sat row small = rw (spots-up 16 48 row small (omega arith))
 
