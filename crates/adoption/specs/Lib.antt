@@ -1,1 +1,3 @@
 pub mod Adoptions
+pub mod Growing
+pub mod Stages

@@ -6,3 +6,4 @@ pub mod Setting
 pub mod Stores
 pub mod Short
 pub mod Complement
+pub mod Lists

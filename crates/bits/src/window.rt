@@ -8,7 +8,7 @@ ghost use Rattle.bits.specs.Places.{field};
 
 // Eight bytes as one number. Written with shifts and `|`, which LLVM makes one load and one swap
 // where the bytes are neighbours; a sum of products it does not.
-fn join(a: u8, b: u8, c: u8, d: u8, e: u8, f: u8, g: u8, h: u8) -> u64
+pub fn join(a: u8, b: u8, c: u8, d: u8, e: u8, f: u8, g: u8, h: u8) -> u64
     ensures { λ r. ⌜ r ≡ a * 2 ^ 56 + b * 2 ^ 48 + c * 2 ^ 40 + d * 2 ^ 32 + e * 2 ^ 24 + f * 2 ^ 16 + g * 2 ^ 8 + h ⌝ }
 {
     ((a as u64) << 56)

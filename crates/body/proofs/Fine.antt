@@ -4,9 +4,9 @@ use Prim.Native.Nat.{ℕ}
 use Rattle.rows.proofs.Shaped.{FineShape, columns-of, formed-shape, combined-fine, orbit-fine, clock-fine, code-fine, phase-fine, packet-fine}
 use Rattle.rows.specs.Shapes.{columnsOf, shapeWith, FormedShape}
 use Rattle.rows.specs.declared.shape.Shape.{Shape}
-use Rattle.body.specs.declared.Lines.{Lines}
-use Rattle.body.specs.declared.Lines.the-variants.{Orbits, Clocks, Codes, Phases, Combined, Packet}
-use Rattle.body.specs.Lines.{shapeFor}
+use Rattle.heads.specs.declared.lines.Lines.{Lines}
+use Rattle.heads.specs.declared.lines.Lines.the-variants.{Orbits, Clocks, Codes, Phases, Combined, Packet}
+use Rattle.heads.specs.Lines.{shapeFor}
 
 pub fine : (lines : Lines) (system : ℕ) → FineShape (shapeFor lines system)
 unfolding shapeFor

@@ -20,9 +20,9 @@ use Rattle.rows.proofs.RowsAt.{rows-length}
 use Rattle.rows.proofs.Shaped.{FineShape, columns-of, formed-shape, slim-columns, code-fine, phase-fine}
 use Rattle.rows.specs.declared.shape.Shape.{Shape}
 use Rattle.rows.specs.Shapes.{isGap, shapeWith}
-use Rattle.body.specs.declared.Lines.{Lines}
-use Rattle.body.specs.declared.Lines.the-variants.{Orbits, Clocks, Codes, Phases, Combined, Packet}
-use Rattle.body.specs.Lines.{shapeFor, linesOf, partsOf}
+use Rattle.heads.specs.declared.lines.Lines.{Lines}
+use Rattle.heads.specs.declared.lines.Lines.the-variants.{Orbits, Clocks, Codes, Phases, Combined, Packet}
+use Rattle.heads.specs.Lines.{shapeFor, linesOf, partsOf}
 use Rattle.body.specs.Slots.{slotsOf, chosenLines, slimOf}
 use Rattle.body.specs.Written.{Room, Countable}
 use Rattle.body.proofs.Held.{says}

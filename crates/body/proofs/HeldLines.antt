@@ -16,9 +16,9 @@ use Rattle.holding.specs.Kth.{satellitesHeld, cellsHeld}
 use Rattle.rows.proofs.Columns.{narrow-for, width-for}
 use Rattle.rows.proofs.RowsAt.{Eights}
 use Rattle.rows.proofs.Shaped.{FineShape, five}
-use Rattle.body.specs.declared.Lines.{Lines}
-use Rattle.body.specs.declared.Lines.the-variants.{Orbits, Clocks, Codes, Phases, Combined, Packet}
-use Rattle.body.specs.Lines.{shapeFor, linesOf, partsOf}
+use Rattle.heads.specs.declared.lines.Lines.{Lines}
+use Rattle.heads.specs.declared.lines.Lines.the-variants.{Orbits, Clocks, Codes, Phases, Combined, Packet}
+use Rattle.heads.specs.Lines.{shapeFor, linesOf, partsOf}
 use Rattle.body.specs.Slots.{chosenLines}
 use Rattle.body.specs.Written.{Counts, Countable}
 use Rattle.body.proofs.Fine.{fine}

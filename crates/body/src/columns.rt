@@ -1,8 +1,8 @@
 // The shape of a row, by the body's lines and the row's system.
 ghost use mathlib.Core.Path.{_≡_};
-ghost use Rattle.body.specs.Lines.{shapeFor};
+ghost use Rattle.heads.specs.Lines.{shapeFor};
 ghost use Rattle.rows.specs.Shapes.{shapeWith};
-use crate::Lines;
+use heads::lines::Lines;
 use rows::shape::Shape;
 use rows::shapes;
 

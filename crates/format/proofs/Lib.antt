@@ -14,3 +14,4 @@ pub mod Spells
 pub mod RoundTrips
 pub mod Lengths
 pub mod HeldGood
+pub mod Placed

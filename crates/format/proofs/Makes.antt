@@ -35,7 +35,7 @@ flag-width (suc (suc f)) n h = absurd (omega arith)
 
 -- ---- a system, systems, a head: good, and spelled by the bits taken
 
-system-gives : (before : List System) → Gives (system before) (λ s m. (goodSystem before s ≡ true) × (putSystem s ≡ m))
+pub system-gives : (before : List System) → Gives (system before) (λ s m. (goodSystem before s ≡ true) × (putSystem s ≡ m))
 unfolding system goodSystem putSystem
 system-gives before =
     gives-numbered _ _ λ id small.

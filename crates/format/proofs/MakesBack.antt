@@ -155,20 +155,30 @@ names-more (suc n) l s h new = go (names-more n l s) (decLt (s .id) n)
         rw (names-same n l s (omega arith), same, named-self l s, new) (omega arith)
 
 -- each system that follows has a name of its own below 5
-few-after : (before ss : List System) → length before ≡ names 5 before → goodSystems before ss ≡ true → length before + length ss ≤ 5
+names-after : (before ss : List System) → length before ≡ names 5 before → goodSystems before ss ≡ true → length (before ++ ss) ≡ names 5 (before ++ ss)
 unfolding goodSystems known
-few-after before [] e all = omega (arith, names-le 5 before)
-few-after before (s ∷ ss) e all =
+names-after before [] e all = rw append-nil e
+names-after before (s ∷ ss) e all =
     let parts = and-true (goodSystem before s) _ all in
     let g = good-system before s (parts .0) in
-    let longer = length-append before (s ∷ []) in
     let small : s .id < 5 = omega (arith, leb-true (s .id) 4 (g .known-id)) in
     let more = names-more 5 before s small (not-true _ (g .fresh)) in
-    omega (arith, few-after (before ++ (s ∷ [])) ss (omega arith) (parts .1))
+    rw append-snoc at (names-after (before ++ (s ∷ [])) ss (rw length-append (omega arith)) (parts .1))
+
+own-names : (m : Mask) → good (mask m) ≡ true → length (m .systems) ≡ names 5 (m .systems)
+unfolding good names named
+own-names m e = names-after [] (m .systems) refl (and-true (ltb (m .iod) 16) _ e .1)
 
 pub few-systems : (m : Mask) → good (mask m) ≡ true → length (m .systems) ≤ 5
-unfolding good names named
-few-systems m e = omega (arith, few-after [] (m .systems) refl (and-true (ltb (m .iod) 16) _ e .1))
+few-systems m e = omega (arith, own-names m e, names-le 5 (m .systems))
+
+-- and where an ID is not named yet, there is room for its system
+pub room-for : (m : Mask) (id : ℕ) → good (mask m) ≡ true → known id ≡ true → named id (m .systems) ≡ false → length (m .systems) < 5
+unfolding known
+room-for m id e small new =
+    let s : System = record { id = id; satellites = []; signals = []; flag = false; cells = [] } in
+    let more = names-more 5 (m .systems) s (omega (arith, leb-true id 4 small)) new in
+    omega (arith, own-names m e, more, names-le 5 (m .systems ++ (s ∷ [])))
 
 -- ---- a good mask
 

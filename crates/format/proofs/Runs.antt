@@ -40,7 +40,7 @@ unfolding later
 later-zero (well a taken) = ap (well a) (zero-add taken)
 later-zero (badly r missing) = refl
 
-later-later : {A : Type 0} (v w : ℕ) (e : Ended A) → later v (later w e) ≡ later (v + w) e
+pub later-later : {A : Type 0} (v w : ℕ) (e : Ended A) → later v (later w e) ≡ later (v + w) e
 unfolding later
 later-later v w (well a taken) = ap (well a) (sym (add-assoc v w taken))
 later-later v w (badly r missing) = refl
@@ -50,7 +50,7 @@ unfolding later
 later-well w (well b rest) a taken e = (rest, cc, cc)
 later-well w (badly r missing) a taken e = absurd (let z : _≡_ {A = ℕ} 0 1 = cc in omega arith)
 
-badly-later : {A : Type 0} (w : ℕ) (r : Refusal) (missing : ℕ) → later {A = A} w (badly r missing) ≡ badly r missing
+pub badly-later : {A : Type 0} (w : ℕ) (r : Refusal) (missing : ℕ) → later {A = A} w (badly r missing) ≡ badly r missing
 unfolding later
 badly-later w r missing = refl
 

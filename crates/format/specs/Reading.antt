@@ -62,7 +62,7 @@ heldAfter (idle held) = held
 heldAfter (refused r missing held) = held
 
 -- the buffer holds the rows first and its old numbers after them
-unfoldable pub over : List ℤ → List ℤ → List ℤ
+unfoldable pub over : {A : Type 0} → List A → List A → List A
 over new old = new ++ drop (length new) old
 
 unfoldable pub rowsAfter : Outcome → List ℤ → List ℤ

@@ -10,16 +10,15 @@ use lib.Count.{ones}
 use lib.ListN.{length, set, drop, replicate, length-append, length-map}
 use lib.Seq.{append-snoc, set-at}
 use Rattle.bits.specs.BitLists.{number}
-use Rattle.format.specs.Good.{goodSystem}
 use Rattle.format.specs.Masks.{System, Mask, mask, Satellite, placesFrom, satellitesOf, cellsOf, satellites, cells}
 use Rattle.holding.specs.Building.{withRow, withSystem, onesIn, begun}
 use Rattle.holding.specs.Pictures.{filled, rowsFrom, rowsOf, pictureOf}
 use Rattle.holding.specs.Spread.{spread}
 use Rattle.holding.proofs.Places.{ones-number}
-use Rattle.holding.proofs.PicturedRows.{sized, length-rows, length-satellites, picture-rows, spell-bits, spell-row}
+use Rattle.holding.proofs.PicturedRows.{length-rows, length-satellites, picture-rows, spell-bits, spell-row}
 use Rattle.holding.proofs.PicturedCells.{rowCells, row-cells}
--- a good mask has at most five systems
-pub use Rattle.format.proofs.MakesBack.{few-systems}
+-- a good mask has at most five systems, and room for one that it does not name
+pub use Rattle.format.proofs.MakesBack.{few-systems, room-for}
 
 -- before any row it is the mask's own picture
 pub begun-picture : (m : Mask) → begun m [] ≡ pictureOf (mask m)
@@ -94,12 +93,12 @@ set-slot : {A : Type 0} (f : System → A) (d : A) (ss : List System) (s : Syste
     → set (filled 5 d (map f ss)) (length ss) (f s) ≡ filled 5 d (map f (ss ++ (s ∷ [])))
 set-slot f d ss s room = rw (map-append f ss (s ∷ [])) (set-filled 5 d (f s) (map f ss) (length ss) (length-map ss f) room)
 
--- with the rows of a good system, its slot makes the picture of the mask with that system behind the others
-pub system-built : (m : Mask) (s : System) → length (m .systems) < 5 → goodSystem (m .systems) s ≡ true
+-- with the rows of a system, its slot makes the picture of the mask with that system behind the others
+pub system-built : (m : Mask) (s : System) → length (m .systems) < 5 → length (s .signals) ≡ 16
     → withSystem (begun m (rowsOf s)) (s .id) (number (s .satellites)) (number (s .signals)) (s .flag)
     ≡ pictureOf (mask (record { iod = m .iod; systems = m .systems ++ (s ∷ []) }))
 unfolding withSystem begun pictureOf satellites cells
-system-built m s room e =
+system-built m s room long =
     let ss = m .systems in
     let count : length ss + 1 ≡ length (ss ++ (s ∷ [])) = simp length-append in
     let ids = set-slot (λ s. s .id) 0 ss s room in
@@ -109,5 +108,5 @@ system-built m s room e =
     let rows = flatMap-snoc rowsOf ss s in
     let nsat : length (satellites ss) + length (rowsOf s) ≡ length (satellites (ss ++ (s ∷ []))) =
     rw flatMap-snoc (simp length-append (rw (length-rows s, length-satellites s))) in
-    let ncell : length (cells ss) + onesIn (rowsOf s) ≡ length (cells (ss ++ (s ∷ []))) = rw flatMap-snoc (simp length-append (rw (rows-ones s (sized ss s e .long)))) in
+    let ncell : length (cells ss) + onesIn (rowsOf s) ≡ length (cells (ss ++ (s ∷ []))) = rw flatMap-snoc (simp length-append (rw (rows-ones s long))) in
     rw (count, ids, sats, signals, flags, rows, nsat, ncell)

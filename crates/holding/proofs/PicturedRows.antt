@@ -58,7 +58,7 @@ sized before s e =
 
 -- ---- rows
 
-length-rowsFrom : (n : ℕ) (signals bits : List Bool) → length (rowsFrom n signals bits) ≡ n
+pub length-rowsFrom : (n : ℕ) (signals bits : List Bool) → length (rowsFrom n signals bits) ≡ n
 unfolding rowsFrom
 length-rowsFrom zero signals bits = refl
 length-rowsFrom (suc n) signals bits = ap suc (length-rowsFrom n signals (drop (length (placesFrom 0 signals)) bits))

@@ -2,4 +2,3 @@ pub mod Columns
 pub mod Cuts
 pub mod RowsAt
 pub mod Shaped
-pub mod Stored

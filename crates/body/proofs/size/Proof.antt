@@ -7,8 +7,8 @@ use borrow.Author.Needs.{needs}
 use Rattle.format.specs.Rows.{Line}
 use Rattle.holding.proofs.HeldKths.{held-counts}
 use Rattle.holding.specs.Pictures.{maskOf}
-use Rattle.body.specs.declared.Lines.{Lines}
-use Rattle.body.specs.Lines.{linesOf}
+use Rattle.heads.specs.declared.lines.Lines.{Lines}
+use Rattle.heads.specs.Lines.{linesOf}
 use Rattle.body.specs.Written.{Counts}
 use Rattle.body.proofs.HeldBodies.{counted, prefix, masked, orbits, combined, can-count, few-held, few-parts}
 use Rattle.body.proofs.HeldLines.{clocks-size, codes-size, phases-size, packet-size}

@@ -2,8 +2,8 @@
 use mathlib.Core.Path.{_≡_, sym, ap, _∙_, subst}
 use Prim.Native.Nat.{ℕ}
 use borrow.Author.Needs.{needs}
-use Rattle.body.specs.declared.Lines.{Lines}
-use Rattle.body.specs.Lines.{shapeFor}
+use Rattle.heads.specs.declared.lines.Lines.{Lines}
+use Rattle.heads.specs.Lines.{shapeFor}
 use Rattle.rows.proofs.Shaped.{orbit-combined}
 use Rattle.rows.specs.Shapes.{shapeWith}
 use Rattle.rows.specs.declared.shape.Shape.{Shape}

@@ -12,7 +12,7 @@ use lib.ListN.{length, getD, drop}
 use Rattle.format.specs.Rows.{Column, Line, bodyWidth}
 use Rattle.holding.proofs.Highest.{below-at}
 use Rattle.rows.specs.Shapes.{columnsOf}
-use Rattle.body.specs.Lines.{shapeFor}
+use Rattle.heads.specs.Lines.{shapeFor}
 use Rattle.body.specs.Slots.{slotSatellites, chosenLines}
 use Rattle.body.proofs.Fine.{columns-for, formed-for}
 use Rattle.body.proofs.Sizes.{slot-bits, slot-rows}

@@ -10,7 +10,7 @@ use lib.Count.{ones, ones-le}
 use lib.ListN.{length, getD, drop}
 use Rattle.format.specs.Rows.{Column, Line}
 use Rattle.holding.proofs.Highest.{below-at}
-use Rattle.body.specs.Lines.{shapeFor}
+use Rattle.heads.specs.Lines.{shapeFor}
 use Rattle.rows.specs.Shapes.{columnsOf}
 use Rattle.body.specs.Slots.{satellitesIn, slotSatellites, chosenLines}
 use Rattle.body.proofs.Fine.{columns-for, formed-for}

@@ -4,7 +4,7 @@ use native.Mathlib.Omega.{arith}
 use borrow.Author.Needs.{needs}
 use lib.ListN.{length-set}
 use mir.Facts.{toZ-ofZ}
-use Rattle.rows.proofs.Stored.{stored-all}
+use Rattle.bits.proofs.Lists.{stored-all}
 use Rattle.rows.proofs.row.store.Statement.{statement}
 use Rattle.rows.proofs.row.store.Tie as tie
 

@@ -2,8 +2,8 @@
 use mathlib.Core.List.{List}
 use Prim.Native.Nat.{ℕ}
 use Rattle.bits.specs.BitLists.{spell}
-use Rattle.body.specs.declared.Lines.{Lines}
-use Rattle.body.specs.declared.Lines.the-variants.{Orbits, Clocks, Codes, Phases, Combined, Packet}
+use Rattle.heads.specs.declared.lines.Lines.{Lines}
+use Rattle.heads.specs.declared.lines.Lines.the-variants.{Orbits, Clocks, Codes, Phases, Combined, Packet}
 use Rattle.format.specs.Masks.{Held, pick}
 use Rattle.format.specs.Messages.{satelliteLines, cellLines, packetLines, orbitShape, clockShape, codeShape, phaseShape, combinedShape, packetShape}
 use Rattle.format.specs.Rows.{Column, Line}

@@ -1,0 +1,89 @@
+-- Programs run over the bits of a byte string from a place on: a field is the number at that place, or short by what lies past the end.
+-- Assumes nothing.
+use mathlib.Core.Path.{_≡_, refl, sym, ap, _∙_}
+use mathlib.Core.Bool.{Bool, true, false}
+use mathlib.Core.List.{List, [], _∷_}
+use Prim.Native.Nat.{ℕ, _+_, _-_, _*_, _^_, _≤_, _<_}
+use native.Mathlib.Nat.{le-refl, mod-eq-of-lt}
+use native.Mathlib.Omega.{arith}
+use lib.Dec.{eqb}
+use lib.ListN.{length, take, drop, length-drop}
+use lib.Pow.{pow-pos}
+use lib.Seq.{drop-drop, take-all, take-take, length-take-le}
+use borrow.Author.Tests.{ne-eqb}
+use Rattle.bits.specs.BitLists.{number, spell, bits}
+use Rattle.bits.specs.Places.{field}
+use Rattle.bits.proofs.BitLists.{length-bits, number-spell}
+use Rattle.bits.proofs.Bridge.{spell-field}
+use Rattle.bits.proofs.Fields.{field-lt}
+use Rattle.format.specs.declared.Refusal.the-variants.{Short}
+use Rattle.format.specs.Assigned.{blank}
+use Rattle.format.specs.Programs.{Program, _>>=_, taking, numbered, badly, later, run}
+use Rattle.format.specs.Reading.{bitsFrom}
+use Rattle.format.proofs.Runs.{run-field, run-short, drop-take}
+
+module _ (bs : List ℕ) (end : ℕ) (inside : end ≤ 8 * length bs) where
+  whole : length (take end (bits bs)) ≡ end
+  whole = length-take-le end (bits bs) (rw (length-bits bs) inside)
+
+  pub length-from : (place : ℕ) → length (bitsFrom bs end place) ≡ end - place
+  unfolding bitsFrom
+  length-from place = length-drop place (take end (bits bs)) ∙ ap (λ (n : ℕ). n - place) whole
+
+  -- w bits there
+  pub take-from : (place w : ℕ) → place + w ≤ end → take w (bitsFrom bs end place) ≡ spell w (field bs place w)
+  unfolding bitsFrom
+  take-from place w room =
+      let long : place ≤ length (bits bs) = rw length-bits (omega arith) in
+      let e : place + (end - place) ≡ end = omega arith in
+      ap (λ (n : ℕ). take w (drop place (take n (bits bs)))) (sym e) ∙ ap (take w) (drop-take place (end - place) (bits bs) long)
+      ∙ take-take w (end - place) (drop place (bits bs)) (omega arith) ∙ sym (spell-field bs place w (omega arith))
+
+  -- the bits after w more
+  pub drop-from : (place w : ℕ) → drop w (bitsFrom bs end place) ≡ bitsFrom bs end (place + w)
+  unfolding bitsFrom
+  drop-from place w = drop-drop w place (take end (bits bs))
+
+  module _ {A : Type 0} where
+    -- a field of bits
+    pub taking-there : (place w : ℕ) (k : List Bool → Program A) → place + w ≤ end
+        → run (taking w >>= k) (bitsFrom bs end place) ≡ later w (run (k (spell w (field bs place w))) (bitsFrom bs end (place + w)))
+    unfolding taking _>>=_
+    taking-there place w k room =
+        run-field w k (bitsFrom bs end place) (rw (length-from place) (omega arith)) ∙ rw (take-from place w room, drop-from place w)
+
+    pub taking-short : (place w : ℕ) (k : List Bool → Program A) → end - place < w
+        → run (taking w >>= k) (bitsFrom bs end place) ≡ badly Short (w - (end - place))
+    unfolding taking _>>=_
+    taking-short place w k over = run-short w k (bitsFrom bs end place) (rw (length-from place) over) ∙ rw (length-from place)
+
+    -- a number
+    pub numbered-there : (place w : ℕ) (k : ℕ → Program A) → place + w ≤ end
+        → run (numbered w >>= k) (bitsFrom bs end place) ≡ later w (run (k (field bs place w)) (bitsFrom bs end (place + w)))
+    unfolding numbered _>>=_
+    numbered-there place w k room =
+        let same : number (spell w (field bs place w)) ≡ field bs place w = number-spell w (field bs place w) ∙ mod-eq-of-lt (field-lt bs place w) in
+        run-field w (λ b. k (number b)) (bitsFrom bs end place) (rw (length-from place) (omega arith)) ∙ rw (take-from place w room, drop-from place w, same)
+
+    pub numbered-short : (place w : ℕ) (k : ℕ → Program A) → end - place < w
+        → run (numbered w >>= k) (bitsFrom bs end place) ≡ badly Short (w - (end - place))
+    unfolding numbered _>>=_
+    numbered-short place w k over = run-short w (λ b. k (number b)) (bitsFrom bs end place) (rw (length-from place) over) ∙ rw (length-from place)
+
+-- ---- all bits are zero
+
+blank-number : (l : List Bool) → blank l ≡ eqb (number l) 0
+unfolding blank number
+blank-number [] = refl
+blank-number (true ∷ l) = sym (ne-eqb (1 * 2 ^ length l + number l) 0 (λ e. omega (arith, pow-pos (length l))))
+blank-number (false ∷ l) =
+    let e : 0 * 2 ^ length l + number l ≡ number l = omega arith in
+    blank-number l ∙ ap (λ (n : ℕ). eqb n 0) (sym e)
+
+-- just where the number in them is
+pub blank-from : (bs : List ℕ) (end place : ℕ) → end ≤ 8 * length bs → place ≤ end → blank (bitsFrom bs end place) ≡ eqb (field bs place (end - place)) 0
+blank-from bs end place inside room =
+    let all : take (end - place) (bitsFrom bs end place) ≡ bitsFrom bs end place = take-all (end - place) (bitsFrom bs end place) (rw (length-from bs end inside place) (le-refl (end - place))) in
+    let bits = sym all ∙ take-from bs end inside place (end - place) (omega arith) in
+    blank-number (bitsFrom bs end place) ∙ ap (λ (l : List Bool). eqb (number l) 0) bits
+    ∙ ap (λ (n : ℕ). eqb n 0) (number-spell (end - place) (field bs place (end - place)) ∙ mod-eq-of-lt (field-lt bs place (end - place)))

@@ -1,0 +1,38 @@
+-- The bytes of a holding in three segments: the start, what stands by system, the rows. Assumes nothing.
+use mathlib.Core.Path.{_≡_, refl}
+use mathlib.Core.List.{List, _∷_, _++_, map, append-assoc}
+use Prim.Native.Nat.{ℕ}
+use native.Mathlib.Omega.{arith}
+use lib.ListN.{length, length-append, length-map}
+use Rattle.bits.specs.BitLists.{digit}
+use Rattle.holding.specs.declared.Holding.{Holding}
+use Rattle.passing.specs.Bytes.{parts, partsOf}
+use Rattle.passing.specs.Passing.{bytesOf}
+use Rattle.passing.proofs.Parts.{length-partsOf}
+use Rattle.passing.proofs.Sizes.{Sizes}
+
+abbrev pub startOf : Holding → List ℕ
+startOf h = digit (h .held) ∷ h .iod ∷ h .count ∷ h .nsat ∷ parts 2 (h .ncell)
+
+abbrev pub systemsIn : Holding → List ℕ
+systemsIn h = h .ids ++ (map digit (h .flags) ++ (partsOf 2 (h .signals) ++ partsOf 8 (h .satellites)))
+
+abbrev pub rowsIn : Holding → List ℕ
+rowsIn h = partsOf 2 (h .cells)
+
+pub start-length : (h : Holding) → length (startOf h) ≡ 6
+unfolding parts
+start-length h = refl
+
+pub systems-length : (h : Holding) → Sizes h → length (systemsIn h) ≡ 60
+systems-length h sizes =
+    let signals = length-partsOf 2 (h .signals) in
+    let satellites = length-partsOf 8 (h .satellites) in
+    simp (length-append, length-map) (omega (arith, signals, satellites, sizes .ids, sizes .flags, sizes .signals, sizes .satellites))
+
+pub rows-length : (h : Holding) → Sizes h → length (rowsIn h) ≡ 128
+rows-length h sizes = omega (arith, length-partsOf 2 (h .cells), sizes .cells)
+
+pub three-segments : (h : Holding) → startOf h ++ (systemsIn h ++ rowsIn h) ≡ bytesOf h
+unfolding bytesOf
+three-segments h = rw (append-assoc, append-assoc, append-assoc)

@@ -1,0 +1,68 @@
+-- A holding as 194 bytes: docs/HOST.md, "A holding as bytes".
+use mathlib.Core.Bool.{Bool, true, false, cond, _&&_}
+use mathlib.Core.List.{List, [], _∷_, _++_, map}
+use Prim.Native.Nat.{ℕ}
+use lib.Dec.{eqb, leb}
+use lib.ListN.{length, getD, take, drop, replicate}
+use Rattle.bits.specs.BitLists.{digit}
+use Rattle.holding.specs.declared.Holding.{Holding}
+use Rattle.passing.specs.Bytes.{little, littles, parts, partsOf}
+
+abbrev pub size : ℕ
+size = 194
+
+-- ---- from bytes
+
+-- each is 0 or 1
+unfoldable pub truths : List ℕ → Bool
+truths [] = true
+truths (b ∷ bs) = leb b 1 && truths bs
+
+unfoldable pub truth : ℕ → Bool
+truth b = eqb b 1
+
+-- there are 194, and those that stand for a truth are 0 or 1
+unfoldable pub passes : List ℕ → Bool
+passes bs = leb size (length bs) && (leb (getD bs 0 0) 1 && truths (take 5 (drop 11 bs)))
+
+unfoldable pub said : List ℕ → Holding
+said bs =
+    record {
+      held = truth (getD bs 0 0);
+      iod = getD bs 1 0;
+      count = getD bs 2 0;
+      ids = take 5 (drop 6 bs);
+      satellites = littles 8 5 (drop 26 bs);
+      signals = littles 2 5 (drop 16 bs);
+      flags = map truth (take 5 (drop 11 bs));
+      cells = littles 2 64 (drop 66 bs);
+      nsat = getD bs 3 0;
+      ncell = little 2 (drop 4 bs);
+    }
+
+-- a value of the struct that is no holding: nothing held, under an issue
+unfoldable pub stray : Holding
+stray =
+    record {
+      held = false;
+      iod = 1;
+      count = 0;
+      ids = replicate 5 0;
+      satellites = replicate 5 0;
+      signals = replicate 5 0;
+      flags = replicate 5 false;
+      cells = replicate 64 0;
+      nsat = 0;
+      ncell = 0;
+    }
+
+-- what lent bytes say: other bytes say no holding
+unfoldable pub holdingIn : List ℕ → Holding
+holdingIn bs = cond (passes bs) (said bs) stray
+
+-- ---- and back
+
+unfoldable pub bytesOf : Holding → List ℕ
+bytesOf h =
+    (digit (h .held) ∷ h .iod ∷ h .count ∷ h .nsat ∷ parts 2 (h .ncell))
+    ++ (h .ids ++ (map digit (h .flags) ++ (partsOf 2 (h .signals) ++ (partsOf 8 (h .satellites) ++ partsOf 2 (h .cells)))))

@@ -1,0 +1,167 @@
+// A holding out of lent bytes.
+ghost use mathlib.Core.Path.{_≡_};
+ghost use mathlib.Core.List.{map};
+ghost use Prim.Native.Nat.{_+_, _*_, _≤_};
+ghost use lib.ListN.{length, take, drop};
+ghost use Rattle.passing.specs.Bytes.{little, littles};
+ghost use Rattle.passing.specs.Passing.{truths, truth, said, stray, holdingIn};
+use bits::window::join;
+use holding::Holding;
+
+// Two bytes from one on, and eight, as a number, the least byte first.
+fn word(bytes: &[u8], i: usize) -> u16
+    requires { ⌜ i + 2 ≤ length (now bytes) ⌝ }
+    ensures { λ r. ⌜ r ≡ little 2 (drop i (now (bytes .entry))) ⌝ }
+{
+    (bytes[i] as u16) + (bytes[i + 1] as u16) * 256
+}
+
+fn long(bytes: &[u8], i: usize) -> u64
+    requires { ⌜ i + 8 ≤ length (now bytes) ⌝ }
+    ensures { λ r. ⌜ r ≡ little 8 (drop i (now (bytes .entry))) ⌝ }
+{
+    join(
+        bytes[i + 7],
+        bytes[i + 6],
+        bytes[i + 5],
+        bytes[i + 4],
+        bytes[i + 3],
+        bytes[i + 2],
+        bytes[i + 1],
+        bytes[i],
+    )
+}
+
+// The rows of 64 satellites from byte 66 on.
+fn rows(bytes: &[u8]) -> [u16; 64]
+    requires { ⌜ 194 ≤ length (now bytes) ⌝ }
+    ensures { λ r. ⌜ r ≡ littles 2 64 (drop 66 (now (bytes .entry))) ⌝ }
+{
+    let mut cells = [0u16; 64];
+    let mut i = 0;
+    while i < 64 {
+        cells[i] = word(bytes, 66 + 2 * i);
+        i += 1;
+    }
+    cells
+}
+
+// A value of the struct that is no holding.
+fn stray() -> Holding
+    ensures { λ r. ⌜ r ≡ stray ⌝ }
+{
+    Holding {
+        held: false,
+        iod: 1,
+        count: 0,
+        ids: [0; 5],
+        satellites: [0; 5],
+        signals: [0; 5],
+        flags: [false; 5],
+        cells: [0; 64],
+        nsat: 0,
+        ncell: 0,
+    }
+}
+
+// Whether the bytes that stand for a truth are 0 or 1.
+fn truths(bytes: &[u8]) -> bool
+    requires { ⌜ 194 ≤ length (now bytes) ⌝ }
+    ensures { λ r. ⌜ r ≡ truths (take 5 (drop 11 (now (bytes .entry)))) ⌝ }
+{
+    if bytes[11] > 1 {
+        return false;
+    }
+    if bytes[12] > 1 {
+        return false;
+    }
+    if bytes[13] > 1 {
+        return false;
+    }
+    if bytes[14] > 1 {
+        return false;
+    }
+    bytes[15] <= 1
+}
+
+// By system: IDs, flags, signal masks and satellite masks.
+fn ids(bytes: &[u8]) -> [u8; 5]
+    requires { ⌜ 194 ≤ length (now bytes) ⌝ }
+    ensures { λ r. ⌜ r ≡ take 5 (drop 6 (now (bytes .entry))) ⌝ }
+{
+    [bytes[6], bytes[7], bytes[8], bytes[9], bytes[10]]
+}
+
+fn flags(bytes: &[u8]) -> [bool; 5]
+    requires { ⌜ 194 ≤ length (now bytes) ⌝ }
+    ensures { λ r. ⌜ r ≡ map truth (take 5 (drop 11 (now (bytes .entry)))) ⌝ }
+{
+    [
+        bytes[11] == 1,
+        bytes[12] == 1,
+        bytes[13] == 1,
+        bytes[14] == 1,
+        bytes[15] == 1,
+    ]
+}
+
+fn signals(bytes: &[u8]) -> [u16; 5]
+    requires { ⌜ 194 ≤ length (now bytes) ⌝ }
+    ensures { λ r. ⌜ r ≡ littles 2 5 (drop 16 (now (bytes .entry))) ⌝ }
+{
+    [
+        word(bytes, 16),
+        word(bytes, 18),
+        word(bytes, 20),
+        word(bytes, 22),
+        word(bytes, 24),
+    ]
+}
+
+fn satellites(bytes: &[u8]) -> [u64; 5]
+    requires { ⌜ 194 ≤ length (now bytes) ⌝ }
+    ensures { λ r. ⌜ r ≡ littles 8 5 (drop 26 (now (bytes .entry))) ⌝ }
+{
+    [
+        long(bytes, 26),
+        long(bytes, 34),
+        long(bytes, 42),
+        long(bytes, 50),
+        long(bytes, 58),
+    ]
+}
+
+// What 194 bytes say.
+fn said(bytes: &[u8]) -> Holding
+    requires { ⌜ 194 ≤ length (now bytes) ⌝ }
+    ensures { λ r. ⌜ r ≡ said (now (bytes .entry)) ⌝ }
+{
+    Holding {
+        held: bytes[0] == 1,
+        iod: bytes[1],
+        count: bytes[2] as usize,
+        ids: ids(bytes),
+        satellites: satellites(bytes),
+        signals: signals(bytes),
+        flags: flags(bytes),
+        cells: rows(bytes),
+        nsat: bytes[3] as usize,
+        ncell: word(bytes, 4) as usize,
+    }
+}
+
+// What lent bytes say: other bytes, or fewer, say no holding.
+pub fn holding_in(bytes: &[u8]) -> Holding
+    ensures { λ r. ⌜ r ≡ holdingIn (now (bytes .entry)) ⌝ }
+{
+    if bytes.len() < 194 {
+        return stray();
+    }
+    if bytes[0] > 1 {
+        return stray();
+    }
+    if !truths(bytes) {
+        return stray();
+    }
+    said(bytes)
+}

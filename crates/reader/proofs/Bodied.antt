@@ -1,0 +1,41 @@
+-- A body that is there, and one that is short. Assumes nothing.
+use mathlib.Core.Path.{_≡_, refl, ap}
+use mathlib.Core.List.{List, [], _∷_}
+use Prim.Native.Nat.{ℕ, suc, _+_, _-_, _*_, _≤_, _<_}
+use native.Mathlib.Nat.{suc-pred-eq-of-pos}
+use native.Mathlib.Omega.{arith}
+use lib.ListN.{length}
+use Rattle.format.specs.declared.Head.{Head}
+use Rattle.format.specs.declared.Refusal.the-variants.{Short}
+use Rattle.format.specs.Masks.{Held}
+use Rattle.format.specs.Reading.{accepted, refused}
+use Rattle.format.specs.Rows.{Line, shapeWidth, bodyWidth}
+use Rattle.heads.specs.declared.heading.Heading.the-variants.{Rows}
+use Rattle.heads.specs.declared.lines.Lines.{Lines}
+use Rattle.heads.specs.Headings.{bodied, headedBy}
+use Rattle.heads.specs.Lines.{linesOf}
+use Rattle.rows.specs.At.{rowsAt}
+use Rattle.rows.proofs.RowsAt.{rows-at}
+
+module _ (held : Held) (bs : List ℕ) (end : ℕ) (head : Head) (lines : Lines) (at : ℕ) where
+  abbrev ls : List Line
+  ls = linesOf held lines
+
+  pub headed-there : at + bodyWidth ls ≤ end → end ≤ 8 * length bs
+      → headedBy held bs end (Rows head lines at) ≡ accepted (record { content = record { head = head; rows = rowsAt ls bs at }; after = held }) (at + bodyWidth ls)
+  unfolding headedBy bodied
+  headed-there room inside =
+      let none : bodyWidth ls - (end - at) ≡ 0 = omega arith in
+      rw (none, rows-at ls bs end at room inside)
+
+  pub headed-short : end - at < bodyWidth ls → headedBy held bs end (Rows head lines at) ≡ refused Short (bodyWidth ls - (end - at)) held
+  unfolding headedBy bodied
+  headed-short over =
+      let some : 0 < bodyWidth ls - (end - at) = omega arith in
+      rw (← (suc-pred-eq-of-pos some))
+
+-- a row for each line
+pub count-at : (lines : List Line) (bs : List ℕ) (at : ℕ) → length (rowsAt lines bs at) ≡ length lines
+unfolding rowsAt
+count-at [] bs at = refl
+count-at (n ∷ ns) bs at = ap suc (count-at ns bs (at + shapeWidth (n .shape)))

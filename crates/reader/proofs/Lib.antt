@@ -1,0 +1,5 @@
+pub mod Held
+pub mod Bodied
+pub mod Adopted
+pub mod Rawed
+pub mod Outcomes

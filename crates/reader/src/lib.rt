@@ -1,0 +1,65 @@
+// Reading one message (document 01, "Reader's order"): 1, 2, 12, 0, then the message itself.
+pub mod message;
+pub mod raw;
+
+ghost use mathlib.Core.Path.{_≡_};
+ghost use Rattle.format.specs.declared.Answer.the-variants.{Refused};
+ghost use Rattle.format.specs.Reading.{rowsAfter, placed};
+ghost use Rattle.reader.specs.Readings.{readingOf, outcomeAt};
+use bits::rest::zero_from;
+use format::Answer;
+use format::Refusal;
+use holding::Holding;
+
+// The answer, and what is held after it.
+pub struct Reading {
+    pub answer: Answer,
+    pub holding: Holding,
+}
+
+// A refusal, after which what was held is held.
+pub fn refused(holding: Holding, r: Refusal) -> Reading
+    ensures { λ x. ⌜ x ≡ record { answer = Refused r; holding = holding } ⌝ }
+{
+    Reading {
+        answer: Answer::Refused(r),
+        holding,
+    }
+}
+
+// Whether a stretch of so many bits is within its limit and the bytes lent, and a place is within it.
+pub fn is_placed(bytes: &[u8], end: usize, start: usize) -> bool
+    ensures { λ r. ⌜ r ≡ placed (now (bytes .entry)) end start ⌝ }
+{
+    if end > Holding::BITS {
+        return false;
+    }
+    if bytes.len() < (end + 7) / 8 {
+        return false;
+    }
+    start <= end
+}
+
+// Reads the message at a place of a stretch of so many bits. The row buffer gets a message's rows first and
+// keeps its old numbers after them; a stop changes nothing.
+pub fn read(holding: Holding, bytes: &[u8], end: usize, start: usize, rows: &mut [i32]) -> Reading
+    ensures { λ r. ⌜ r ≡ readingOf holding (outcomeAt holding (now (bytes .entry)) end start (now (rows .entry))) ⌝ }
+    ensures { λ _. ⌜ now (rows .exit) ≡ rowsAfter (outcomeAt holding (now (bytes .entry)) end start (now (rows .entry))) (now (rows .entry)) ⌝ }
+{
+    if rows.len() < 2048 {
+        return refused(holding, Refusal::Room);
+    }
+    if !is_placed(bytes, end, start) {
+        return refused(holding, Refusal::Place);
+    }
+    if !holding.is_sound() {
+        return refused(holding, Refusal::Value);
+    }
+    if zero_from(bytes, end, start) {
+        return Reading {
+            answer: Answer::Idle,
+            holding,
+        };
+    }
+    message::message(holding, bytes, end, start, rows)
+}

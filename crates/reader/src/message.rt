@@ -1,0 +1,134 @@
+// One message, by its number and sub type.
+ghost use mathlib.Core.Path.{_≡_};
+ghost use mathlib.Core.Bool.{true};
+ghost use Prim.Native.Nat.{_*_, _≤_, _<_};
+ghost use lib.ListN.{length};
+ghost use Rattle.format.specs.Reading.{answerOf, rowsAfter, bitsFrom};
+ghost use Rattle.heads.specs.Headings.{isMasked, headedBy, Begins};
+ghost use Rattle.heads.specs.Openings.{openingAt};
+ghost use Rattle.format.specs.Messages.{maskMessage};
+ghost use Rattle.format.specs.Programs.{run};
+ghost use Rattle.heads.specs.Sorting.{adoptedBy, sortedAt, openedBy};
+ghost use Rattle.holding.specs.Pictures.{maskOf, sound};
+ghost use Rattle.reader.specs.Readings.{readingOf};
+use crate::Reading;
+use crate::refused;
+use adoption::Made;
+use format::Answer;
+use format::Refusal;
+use heads::Opening;
+use heads::heading;
+use heads::heading::Heading;
+use holding::Holding;
+
+// The body that a heading says: its length is tested once, and only then are its rows written.
+fn body_of(holding: Holding, heading: Heading, bytes: &[u8], end: usize, rows: &mut [i32]) -> Answer
+    requires { ⌜ (sound holding ≡ true) × Begins end heading × (end ≤ 8 * length (now bytes)) × (end ≤ 50850) × (2048 ≤ length (now rows)) ⌝ }
+    ensures { λ r. ⌜ r ≡ answerOf (headedBy (maskOf holding) (now (bytes .entry)) end heading) ⌝ }
+    ensures { λ _. ⌜ now (rows .exit) ≡ rowsAfter (headedBy (maskOf holding) (now (bytes .entry)) end heading) (now (rows .entry)) ⌝ }
+{
+    match heading {
+        Heading::Refused(r, _) => Answer::Refused(r),
+        Heading::Rows(head, lines, at) => {
+            let size = body::size(holding, lines);
+            if end - at < size.bits {
+                return Answer::Refused(Refusal::Short);
+            }
+            body::write(holding, lines, size.bits, bytes, at, rows);
+            Answer::Message(head, at + size.bits, size.rows)
+        }
+    }
+}
+
+// A mask message behind its number and sub type.
+fn adopted(holding: Holding, bytes: &[u8], end: usize, place: usize) -> Reading
+    requires { ⌜ (end ≤ 8 * length (now bytes)) × (end ≤ 50850) × (place ≤ end) ⌝ }
+    ensures { λ r. ⌜ r ≡ readingOf holding (adoptedBy (maskOf holding) place (run maskMessage (bitsFrom (now (bytes .entry)) end place))) ⌝ }
+{
+    let adoption = adoption::adopt(holding, bytes, end, place);
+    let made = adoption.made;
+    let after = adoption.holding;
+    match made {
+        Made::Mask(head, next) => Reading {
+            answer: Answer::Message(head, next, 0),
+            holding: after,
+        },
+        Made::Refused(r, _) => Reading {
+            answer: Answer::Refused(r),
+            holding: after,
+        },
+    }
+}
+
+// Whether a sub type is read under the mask.
+fn is_masked(n: usize) -> bool
+    ensures { λ r. ⌜ r ≡ isMasked n ⌝ }
+{
+    if n == 11 {
+        return true;
+    }
+    if n < 2 {
+        return false;
+    }
+    n <= 5
+}
+
+// Behind number and sub type.
+fn sorted(
+    holding: Holding,
+    bytes: &[u8],
+    end: usize,
+    place: usize,
+    n: usize,
+    rows: &mut [i32],
+) -> Reading
+    requires { ⌜ (sound holding ≡ true) × (end ≤ 8 * length (now bytes)) × (end ≤ 50850) × (place ≤ end) × (n < 16) × (2048 ≤ length (now rows)) ⌝ }
+    ensures { λ r. ⌜ r ≡ readingOf holding (sortedAt (maskOf holding) (now (bytes .entry)) end place n) ⌝ }
+    ensures { λ _. ⌜ now (rows .exit) ≡ rowsAfter (sortedAt (maskOf holding) (now (bytes .entry)) end place n) (now (rows .entry)) ⌝ }
+{
+    if n == 1 {
+        return adopted(holding, bytes, end, place);
+    }
+    if n == 10 {
+        let heading = heading::packet(bytes, end, place);
+        return Reading {
+            answer: body_of(holding, heading, bytes, end, rows),
+            holding,
+        };
+    }
+    if !is_masked(n) {
+        return refused(holding, Refusal::SubType);
+    }
+    let heading = heading::masked(
+        holding.held,
+        holding.iod,
+        holding.nsat,
+        n,
+        bytes,
+        end,
+        place,
+    );
+    Reading {
+        answer: body_of(holding, heading, bytes, end, rows),
+        holding,
+    }
+}
+
+// The message at a place.
+pub fn message(
+    holding: Holding,
+    bytes: &[u8],
+    end: usize,
+    start: usize,
+    rows: &mut [i32],
+) -> Reading
+    requires { ⌜ (sound holding ≡ true) × (end ≤ 8 * length (now bytes)) × (end ≤ 50850) × (start ≤ end) × (2048 ≤ length (now rows)) ⌝ }
+    ensures { λ r. ⌜ r ≡ readingOf holding (openedBy (maskOf holding) (now (bytes .entry)) end start (openingAt (now (bytes .entry)) end start)) ⌝ }
+    ensures { λ _. ⌜ now (rows .exit) ≡ rowsAfter (openedBy (maskOf holding) (now (bytes .entry)) end start (openingAt (now (bytes .entry)) end start)) (now (rows .entry)) ⌝ }
+{
+    let opening = heads::open(bytes, end, start);
+    match opening {
+        Opening::SubType(n) => sorted(holding, bytes, end, start + 16, n, rows),
+        Opening::Refused(r, _) => refused(holding, r),
+    }
+}
