@@ -3,7 +3,7 @@
 -- Assumes nothing.
 use mathlib.Core.Path.{_≡_, refl, sym, ap, ap₂, _∙_, subst}
 use mathlib.Core.List.{List, [], _∷_, _++_, append-assoc, append-nil, flatten}
-use Prim.Native.Nat.{ℕ, _+_, _-_, _^_, _≤_, _<_}
+use Prim.Native.Nat.{ℕ, _+_, _-_, _*_, _^_, _≤_, _<_}
 use native.Mathlib.Omega.{arith}
 use lib.IntN.{ℤ}
 use lib.ListN.{length, take, drop, length-append, length-take, length-drop, take-append-drop, drop-of-length-le}
@@ -67,13 +67,14 @@ pub record Going (bs : List ℕ) (all : List Line) (from : ℕ) (old : List ℤ)
   pub place : at + bodyWidth left ≡ from + bodyWidth all
   pub few : length (numbersAt all bs from) < 2 ^ 32
   pub near : from + bodyWidth all < 2 ^ 32
+  pub whole : from + bodyWidth all + 120 ≤ 8 * length bs
   pub same : length buffer ≡ length old
 
 pub going-start : {bs : List ℕ} {all : List Line} {from : ℕ} {old : List ℤ} → Room all bs from old → Going bs all from old all 0 from old
-going-start r = record { ends = refl; room = omega (arith, r .room); count = omega arith; place = refl; few = r .few; near = r .near; same = refl }
+going-start r = record { ends = refl; room = omega (arith, r .room); count = omega arith; place = refl; few = r .few; near = r .near; whole = r .whole; same = refl }
 
 -- the rows of some lines are written
-pub going-part : {bs : List ℕ} {all : List Line} {from : ℕ} {old : List ℤ} (some more : List Line) (j at : ℕ) (buffer : List ℤ)
+going-part : {bs : List ℕ} {all : List Line} {from : ℕ} {old : List ℤ} (some more : List Line) (j at : ℕ) (buffer : List ℤ)
     → Going bs all from old (some ++ more) j at buffer
     → Going bs all from old more (j + length (numbersAt some bs at)) (at + bodyWidth some) (take j buffer ++ over (numbersAt some bs at) (drop j buffer))
 going-part {bs} some more j at buffer g =
@@ -89,6 +90,7 @@ going-part {bs} some more j at buffer g =
       place = omega (arith, g .place, width-append some more);
       few = g .few;
       near = g .near;
+      whole = g .whole;
       same = over-length j buffer new rest room ∙ g .same;
     }
 
@@ -108,6 +110,10 @@ module _ {bs : List ℕ} {all : List Line} {from : ℕ} {old : List ℤ} (n : Li
   pub row-near : at + shapeWidth (n .shape) < 2 ^ 32
   unfolding bodyWidth
   row-near = omega (arith, g .place, g .near)
+
+  pub row-whole : at + shapeWidth (n .shape) + 120 ≤ 8 * length bs
+  unfolding bodyWidth
+  row-whole = omega (arith, g .place, g .whole)
 
   pub row-part : length (take (j + 8 - j) (drop j buffer)) ≡ 8
   row-part = simp length-take (omega (arith, row-room, length-drop j buffer))
@@ -144,6 +150,7 @@ module _ {bs : List ℕ} {all : List Line} {from : ℕ} {old : List ℤ} (some m
         room = omega (arith, long, g .room, length-drop j buffer);
         few = omega (arith, long, g .count, g .few);
         near = omega (arith, width-append some more, g .place, g .near);
+        whole = omega (arith, width-append some more, g .place, g .whole);
       })
 
   pub part-written : (new : List ℤ) (end : End) → Wrote some bs at (take (length buffer - j) (drop j buffer)) new end

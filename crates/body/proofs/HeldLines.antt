@@ -153,3 +153,16 @@ module _ (held : Held) where
   pub packet-size : (n : ℕ) → Counts (linesOf held (Packet n)) (record { bits = n * 40; rows = n })
   unfolding linesOf
   packet-size n = record { bits = sym (packet-width 1 n); rows = sym (packet-count 1 n) }
+
+-- ---- no body is wider than 64 rows of 71 bits
+
+pub few-bits : (held : Held) (lines : Lines) → length (satellitesHeld held) ≤ 64 → length (cellsHeld held) ≤ 256 → partsOf lines ≤ 4 → bodyWidth (linesOf held lines) ≤ 4544
+unfolding linesOf partsOf shapeFor codeShape phaseShape shapeWidth widthOf
+few-bits held Orbits sats cells parts = omega (arith, width-few (shapeFor Orbits) (satellitesHeld held) (λ system. fine-width (fine Orbits system)))
+few-bits held Clocks sats cells parts = omega (arith, width-few (shapeFor Clocks) (satellitesHeld held) (λ system. fine-width (fine Clocks system)))
+few-bits held Codes sats cells parts = omega (arith, cell-width codeShape (cellsHeld held))
+few-bits held Phases sats cells parts = omega (arith, cell-width phaseShape (cellsHeld held))
+few-bits held (Combined orbit clock chosen) sats cells parts =
+    let some : List Satellite = pick (spell 64 chosen) (satellitesHeld held) in
+    omega (arith, width-few (combinedShape orbit clock) some (λ system. fine-width (fine (Combined orbit clock chosen) system)), pick-few (spell 64 chosen) (satellitesHeld held))
+few-bits held (Packet n) sats cells parts = omega (arith, packet-width 1 n)

@@ -5,6 +5,7 @@ pub mod Picks
 pub mod Slots
 pub mod SlotCells
 pub mod Sizes
+pub mod Tails
 pub mod Held
 pub mod HeldLines
 pub mod HeldBodies

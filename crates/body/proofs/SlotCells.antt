@@ -8,11 +8,13 @@ use lib.ListN.{length, getD, drop}
 use lib.Seq.{drop-cons, drop-nil, drop-drop}
 use Rattle.format.specs.Masks.{Satellite, Cell}
 use Rattle.format.specs.Messages.{cellLines}
-use Rattle.format.specs.Rows.{Column}
+use Rattle.format.specs.Rows.{Column, shapeWidth, widthOf}
+use Rattle.rows.proofs.Columns.{width-of}
+use Rattle.rows.specs.declared.shape.Column.{Column as CodeColumn}
 use Rattle.holding.proofs.Kths.{spots-up}
 use Rattle.holding.proofs.PicturedCells.{rowCells}
 use Rattle.holding.proofs.Places.{no-place, next-place}
-use Rattle.body.specs.Slots.{satellitesIn, slotSatellites, cellsIn}
+use Rattle.body.specs.Slots.{satellitesIn, slotSatellites, cellsIn, slimOf}
 use Rattle.body.proofs.Slots.{next-in, up-in, count-in, next-slot}
 
 -- ---- the cells of one satellite
@@ -28,9 +30,14 @@ unfolding cellsIn
 next-of sat x rest some small e = rw (next-place x some small .2, e)
 
 -- a row of 16 bits moved up
-pub up-of : (sat : Satellite) (row : ℕ) → row < 2 ^ 16 → cellsIn 64 sat (row * 2 ^ 48 % 2 ^ 64) ≡ cellsIn 16 sat row
+up-of : (sat : Satellite) (row : ℕ) → row < 2 ^ 16 → cellsIn 64 sat (row * 2 ^ 48 % 2 ^ 64) ≡ cellsIn 16 sat row
 unfolding cellsIn
 up-of sat row small = rw (spots-up 16 48 row small (omega arith))
+
+-- how wide a row of two columns is
+pub slim-width : (v1 v2 : CodeColumn) → v1 .width + v2 .width ≡ shapeWidth (slimOf v1 v2)
+unfolding slimOf shapeWidth widthOf
+slim-width v1 v2 = omega (arith, width-of v1, width-of v2)
 
 -- ---- of several
 

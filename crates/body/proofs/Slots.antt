@@ -67,7 +67,7 @@ module _ (shape : ℕ → List Column) where
   chosen-nil c = rw (pick-nil (spell 64 c))
 
   -- the selection moved up chooses among the later ones
-  pub chosen-append : (c n : ℕ) (xs ys : List Satellite) → length xs ≡ n → n ≤ 64
+  chosen-append : (c n : ℕ) (xs ys : List Satellite) → length xs ≡ n → n ≤ 64
       → chosenLines shape c (xs ++ ys) ≡ chosenLines shape c xs ++ chosenLines shape (c * 2 ^ n % 2 ^ 64) ys
   unfolding chosenLines satelliteLines
   chosen-append c n xs ys e few = rw (pick-append (spell 64 c) xs ys, e, ← (pick-up c n ys few), map-append)
@@ -85,7 +85,7 @@ module _ (shape : ℕ → List Column) where
   chosen-none c x ys clear = chosen-append c 1 (x ∷ []) ys refl (omega arith) ∙ rw (pick-none c x clear)
 
   -- one slot's satellites are of one system
-  pub chosen-slot : (c w id m : ℕ) → chosenLines shape c (satellitesIn w id m) ≡ chosenLines (λ _. shape id) c (satellitesIn w id m)
+  chosen-slot : (c w id m : ℕ) → chosenLines shape c (satellitesIn w id m) ≡ chosenLines (λ _. shape id) c (satellitesIn w id m)
   unfolding chosenLines satelliteLines satellitesIn
   chosen-slot c w id m = rw pick-map (simp map-map)
 

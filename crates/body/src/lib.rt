@@ -3,6 +3,8 @@ pub mod cells;
 pub mod columns;
 pub mod packet;
 pub mod satellites;
+pub mod tail;
+pub mod whole;
 
 ghost use mathlib.Core.Path.{_≡_};
 ghost use mathlib.Core.Bool.{true};
@@ -17,7 +19,6 @@ ghost use Rattle.holding.specs.Pictures.{maskOf, sound};
 ghost use Rattle.rows.specs.At.{rowsAt};
 use heads::lines::Lines;
 use holding::Holding;
-use rows::shapes;
 
 // How long a body is, in bits and in rows.
 pub struct Extent {
@@ -61,63 +62,16 @@ pub fn size(h: Holding, lines: Lines) -> Extent
     }
 }
 
-// The rows of the body whose bits begin at a place, into the row buffer.
-pub fn write(h: Holding, lines: Lines, bytes: &[u8], at: usize, rows: &mut [i32])
-    requires { ⌜ (sound h ≡ true) × (partsOf lines ≤ 4) × (at + bodyWidth (linesOf (maskOf h) lines) < 2 ^ 32) × (2048 ≤ length (now rows)) ⌝ }
+// The rows of the body whose bits begin at a place, into the row buffer. Where the string ends too soon behind the
+// body for windows, the rows are read from a copy with zeros behind it.
+pub fn write(h: Holding, lines: Lines, bits: usize, bytes: &[u8], at: usize, rows: &mut [i32])
+    requires { ⌜ (sound h ≡ true) × (partsOf lines ≤ 4) × (bits ≡ bodyWidth (linesOf (maskOf h) lines)) × (at + bits < 2 ^ 32) × (2048 ≤ length (now rows)) ⌝ }
     ensures { λ _. ⌜ now (rows .exit) ≡ over (flatten (rowsAt (linesOf (maskOf h) lines) (now (bytes .entry)) at)) (now (rows .entry)) ⌝ }
 {
-    let ids = h.ids;
-    let masks = h.satellites;
-    let count = h.count;
-    let cells = h.cells;
-    match lines {
-        Lines::Orbits => {
-            satellites::write(
-                &ids[..count],
-                &masks,
-                lines,
-                0xFFFF_FFFF_FFFF_FFFF,
-                bytes,
-                at,
-                rows,
-            )
-        }
-        Lines::Clocks => {
-            satellites::write(
-                &ids[..count],
-                &masks,
-                lines,
-                0xFFFF_FFFF_FFFF_FFFF,
-                bytes,
-                at,
-                rows,
-            )
-        }
-        Lines::Codes => {
-            cells::write(
-                &ids[..count],
-                &masks,
-                &cells,
-                shapes::code(),
-                bytes,
-                at,
-                rows,
-            )
-        }
-        Lines::Phases => {
-            cells::write(
-                &ids[..count],
-                &masks,
-                &cells,
-                shapes::phase(),
-                bytes,
-                at,
-                rows,
-            )
-        }
-        Lines::Combined(_, _, chosen) => {
-            satellites::write(&ids[..count], &masks, lines, chosen, bytes, at, rows)
-        }
-        Lines::Packet(parts) => packet::write(parts, bytes, at, rows),
+    if (at + bits + 127) / 8 <= bytes.len() {
+        whole::write(h, lines, bytes, at, rows);
+        return;
     }
+    let rest = tail::tail(bytes, at / 8);
+    whole::write(h, lines, &rest, at % 8, rows)
 }

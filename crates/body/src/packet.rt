@@ -17,7 +17,7 @@ pub fn write(parts: usize, bytes: &[u8], at: usize, rows: &mut [i32])
     while i < parts {
         i += 1;
         let e = k + 8;
-        row::put(
+        row::wide(
             &mut rows[k..e],
             -32768,
             -32768,

@@ -34,7 +34,7 @@ fn body_of(holding: Holding, heading: Heading, bytes: &[u8], end: usize, rows: &
             if end - at < size.bits {
                 return Answer::Refused(Refusal::Short);
             }
-            body::write(holding, lines, bytes, at, rows);
+            body::write(holding, lines, size.bits, bytes, at, rows);
             Answer::Message(head, at + size.bits, size.rows)
         }
     }

@@ -1,7 +1,8 @@
-// One row, written: its three keys, and the values that its columns have at a place.
+// One row, written: its three keys, and the values that its columns have at a place. Windows are read without a
+// test, so eight bytes have to be there from the byte of the row's last bit on.
 ghost use mathlib.Core.Path.{_≡_};
 ghost use mathlib.Core.List.{[], _∷_};
-ghost use Prim.Native.Nat.{_^_, _<_};
+ghost use Prim.Native.Nat.{_+_, _*_, _^_, _≤_, _<_};
 ghost use lib.ListN.{length};
 ghost use Rattle.bits.specs.Places.{field};
 ghost use Rattle.format.specs.Rows.{gap};
@@ -10,7 +11,7 @@ ghost use Rattle.rows.specs.Shapes.{columnOf, columnsOf, Formed, FormedS
 use crate::shape;
 use crate::shape::Column;
 use crate::shape::Shape;
-use bits::read;
+use bits::window;
 
 // What a gap holds (document 01, "What is handed out").
 const ABSENT: i32 = -32768;
@@ -32,16 +33,16 @@ fn store(row: &mut [i32], a: i32, b: i32, c: i32, d: i32, e: i32, f: i32, g: i32
 
 // The value of one column, from a window of its own.
 fn alone(bytes: &[u8], at: usize, c: Column) -> i32
-    requires { ⌜ Formed c ⌝ }
+    requires { ⌜ Formed c × (at + 64 ≤ 8 * length (now bytes)) ⌝ }
     ensures { λ r. ⌜ r ≡ valueBy (columnOf c) (field (now (bytes .entry)) at (c .width)) ⌝ }
 {
-    let half = read::window_at(bytes, at / 8) >> 1;
+    let half = window::eight(bytes, at / 8) >> 1;
     shape::value(half >> (63 - at % 8 - c.width), c)
 }
 
 // A row of two columns and three gaps: both values are cut from one window. The window is halved first, so
 // that a shift by all of it, for a column of no bits at its front, stays below 64.
-fn slim(
+pub fn slim(
     row: &mut [i32],
     system: i32,
     satellite: i32,
@@ -51,10 +52,10 @@ fn slim(
     v1: Column,
     v2: Column,
 )
-    requires { ⌜ (length (now row) ≡ 8) × Formed v1 × Formed v2 ⌝ }
+    requires { ⌜ (length (now row) ≡ 8) × Formed v1 × Formed v2 × (at + 64 ≤ 8 * length (now bytes)) ⌝ }
     ensures { λ _. ⌜ now (row .exit) ≡ system ∷ satellite ∷ signal ∷ valuesAt (columnOf v1 ∷ columnOf v2 ∷ gap ∷ gap ∷ gap ∷ []) (now (bytes .entry)) at ⌝ }
 {
-    let half = read::window_at(bytes, at / 8) >> 1;
+    let half = window::eight(bytes, at / 8) >> 1;
     let first = 63 - at % 8 - v1.width;
     let second = first - v2.width;
     store(
@@ -71,7 +72,7 @@ fn slim(
 }
 
 // A row of five columns: four values are cut from one window, the last from the one behind them.
-fn wide(
+pub fn wide(
     row: &mut [i32],
     system: i32,
     satellite: i32,
@@ -80,11 +81,11 @@ fn wide(
     at: usize,
     shape: Shape,
 )
-    requires { ⌜ (length (now row) ≡ 8) × (at < 2 ^ 32) × FormedShape shape ⌝ }
+    requires { ⌜ (length (now row) ≡ 8) × (at < 2 ^ 32) × FormedShape shape × (at + 120 ≤ 8 * length (now bytes)) ⌝ }
     ensures { λ _. ⌜ now (row .exit) ≡ system ∷ satellite ∷ signal ∷ valuesAt (columnsOf shape) (now (bytes .entry)) at ⌝ }
 {
     let behind = at + shape.v1.width + shape.v2.width + shape.v3.width + shape.v4.width;
-    let half = read::window_at(bytes, at / 8) >> 1;
+    let half = window::eight(bytes, at / 8) >> 1;
     let first = 63 - at % 8 - shape.v1.width;
     let second = first - shape.v2.width;
     let third = second - shape.v3.width;
@@ -112,7 +113,7 @@ pub fn put(
     at: usize,
     shape: Shape,
 )
-    requires { ⌜ (length (now row) ≡ 8) × (at < 2 ^ 32) × FormedShape shape ⌝ }
+    requires { ⌜ (length (now row) ≡ 8) × (at < 2 ^ 32) × FormedShape shape × (at + 120 ≤ 8 * length (now bytes)) ⌝ }
     ensures { λ _. ⌜ now (row .exit) ≡ system ∷ satellite ∷ signal ∷ valuesAt (columnsOf shape) (now (bytes .entry)) at ⌝ }
 {
     if shape.wide {

@@ -15,8 +15,7 @@ use Rattle.format.specs.Messages.{cellLines}
 use Rattle.format.specs.Rows.{Column, Line}
 use Rattle.holding.proofs.PicturedCells.{rowCells}
 use Rattle.holding.proofs.Places.{next-place}
-use Rattle.rows.specs.Shapes.{columnsOf}
-use Rattle.body.specs.Slots.{satellitesIn, cellsIn}
+use Rattle.body.specs.Slots.{satellitesIn, cellsIn, slimOf}
 use Rattle.body.proofs.Going.{Going, going-start, part-start, part-room, part-written, going-end}
 use Rattle.body.proofs.Slots.{none-in, next-in}
 use Rattle.body.proofs.SlotCells.{cells-next}
@@ -24,15 +23,15 @@ use Rattle.body.proofs.cells.slot.Statement.{statement}
 use Rattle.body.proofs.cells.slot.Tie as tie
 
 abbrev Inv-loop : tie.InvT-loop
-Inv-loop id word cells shape bytes at rows₀ left₀ n₀ k₀ place₀ rows left n k place =
+Inv-loop id word cells v1 v2 bytes at rows₀ left₀ n₀ k₀ place₀ rows left n k place =
     (left < 2 ^ 64) × (n + length (satellitesIn 64 id left) ≤ length cells)
-    × Going bytes (cellLines (columnsOf shape) (rowCells (satellitesIn 64 id word) cells)) at rows₀ (cellLines (columnsOf shape) (rowCells (satellitesIn 64 id left) (drop n cells))) k place rows
+    × Going bytes (cellLines (slimOf v1 v2) (rowCells (satellitesIn 64 id word) cells)) at rows₀ (cellLines (slimOf v1 v2) (rowCells (satellitesIn 64 id left) (drop n cells))) k place rows
 
 abbrev μ-loop : tie.MeasureT-loop
-μ-loop id word cells shape bytes at rows₀ left₀ n₀ k₀ place₀ rows left n k place = left
+μ-loop id word cells v1 v2 bytes at rows₀ left₀ n₀ k₀ place₀ rows left n k place = left
 
 loop-holds : tie.Need-loop-holds Inv-loop μ-loop
-loop-holds c = (omega arith, omega (arith, c .before .before .pre .0), going-start (c .before .before .pre .2))
+loop-holds c = (omega arith, omega (arith, c .before .before .pre .0), going-start (c .before .before .pre .3))
 
 module _ (c : tie.After-first Inv-loop μ-loop) where
   abbrev id : ℕ
@@ -62,7 +61,7 @@ module _ (c : tie.After-first Inv-loop μ-loop) where
 
 module _ (c : tie.After-shared-slice-known3 Inv-loop μ-loop) where
   abbrev columns : List Column
-  columns = columnsOf (c .before .before .before .before .before .before .args .shape)
+  columns = let x = c .before .before .before .before .before .before .args in slimOf (x .v1) (x .v2)
 
   -- the lines of this satellite, and those of the satellites behind it
   abbrev here : List Line
@@ -87,7 +86,8 @@ module _ (c : tie.After-shared-slice-known3 Inv-loop μ-loop) where
 satellite-requires : tie.Need-satellite-requires Inv-loop μ-loop
 satellite-requires c κs =
     let p = c .before in
-    (omega (arith, next (p .before) .0, p .before .first .ensures), p .before .before .before .before .before .before .pre .1, part-room (here p) (behind p _) _ _ _ (going p _ refl))
+    let s = p .before .before .before .before .before .before in
+    (omega (arith, next (p .before) .0, p .before .first .ensures), s .pre .1, s .pre .2, part-room (here p) (behind p _) _ _ _ (going p _ refl))
 
 add-k : tie.Need-add-k Inv-loop μ-loop
 add-k c =
@@ -108,8 +108,8 @@ returns c =
     let x = c .before .before .before .before .args in
     let s = c .before .loop in
     let none : s .left ≡ 0 = omega arith in
-    let e = ap (λ (m : ℕ). cellLines (columnsOf (x .shape)) (rowCells (satellitesIn 64 (x .id) m) (drop (s .n) (x .cells .now)))) none
-    ∙ ap (λ (l : List Satellite). cellLines (columnsOf (x .shape)) (rowCells l (drop (s .n) (x .cells .now)))) (none-in 64 (x .id)) in
+    let e = ap (λ (m : ℕ). cellLines (slimOf (x .v1) (x .v2)) (rowCells (satellitesIn 64 (x .id) m) (drop (s .n) (x .cells .now)))) none
+    ∙ ap (λ (l : List Satellite). cellLines (slimOf (x .v1) (x .v2)) (rowCells l (drop (s .n) (x .cells .now)))) (none-in 64 (x .id)) in
     going-end _ (s .k) (s .place) (s .rows) e (s .inv .2)
 
 pub slot-spec : {M : Type 1} → statement M

@@ -14,8 +14,7 @@ use Rattle.format.specs.Messages.{cellLines}
 use Rattle.format.specs.Rows.{Column, Line}
 use Rattle.holding.proofs.Highest.{below-at}
 use Rattle.holding.proofs.PicturedCells.{rowCells}
-use Rattle.rows.specs.Shapes.{columnsOf}
-use Rattle.body.specs.Slots.{satellitesIn, slotSatellites}
+use Rattle.body.specs.Slots.{satellitesIn, slotSatellites, slimOf}
 use Rattle.body.proofs.Going.{lent, Going, going-start, part-start, part-room, part-written, going-end}
 use Rattle.body.proofs.Slots.{slot-count, no-slot}
 use Rattle.body.proofs.SlotCells.{cells-slot}
@@ -23,15 +22,15 @@ use Rattle.body.proofs.cells.write.Statement.{statement}
 use Rattle.body.proofs.cells.write.Tie as tie
 
 abbrev Inv-loop : tie.InvT-loop
-Inv-loop ids masks cells shape bytes at rows₀ n₀ k₀ place₀ i₀ rows n k place i =
+Inv-loop ids masks cells v1 v2 bytes at rows₀ n₀ k₀ place₀ i₀ rows n k place i =
     (n + length (slotSatellites (drop i ids) (drop i masks)) ≤ length cells)
-    × Going bytes (cellLines (columnsOf shape) (rowCells (slotSatellites ids masks) cells)) at rows₀ (cellLines (columnsOf shape) (rowCells (slotSatellites (drop i ids) (drop i masks)) (drop n cells))) k place rows
+    × Going bytes (cellLines (slimOf v1 v2) (rowCells (slotSatellites ids masks) cells)) at rows₀ (cellLines (slimOf v1 v2) (rowCells (slotSatellites (drop i ids) (drop i masks)) (drop n cells))) k place rows
 
 abbrev μ-loop : tie.MeasureT-loop
-μ-loop ids masks cells shape bytes at rows₀ n₀ k₀ place₀ i₀ rows n k place i = length ids - i
+μ-loop ids masks cells v1 v2 bytes at rows₀ n₀ k₀ place₀ i₀ rows n k place i = length ids - i
 
 loop-holds : tie.Need-loop-holds Inv-loop μ-loop
-loop-holds c = (omega (arith, c .before .before .before .before .pre .2), going-start (c .before .before .before .before .pre .4))
+loop-holds c = (omega (arith, c .before .before .before .before .pre .2), going-start (c .before .before .before .before .pre .5))
 
 module _ (c : tie.In-loop Inv-loop μ-loop) where
   abbrev ids : List ℕ
@@ -44,7 +43,7 @@ module _ (c : tie.In-loop Inv-loop μ-loop) where
   cells = c .before .before .before .before .before .before .args .cells .now
 
   abbrev columns : List Column
-  columns = columnsOf (c .before .before .before .before .before .before .args .shape)
+  columns = let x = c .before .before .before .before .before .before .args in slimOf (x .v1) (x .v2)
 
   abbrev i : ℕ
   i = c .before .loop .i
@@ -96,7 +95,8 @@ module _ (c : tie.In-loop Inv-loop μ-loop) where
 slot-requires : tie.Need-slot-requires Inv-loop μ-loop
 slot-requires c κs =
     let p = c .before .before .before .before in
-    (counts p _ refl .0, p .before .before .before .before .before .before .pre .3, part-room (here p) (behind p _) _ _ _ (going p _ refl))
+    let s = p .before .before .before .before .before .before in
+    (counts p _ refl .0, s .pre .3, s .pre .4, part-room (here p) (behind p _) _ _ _ (going p _ refl))
 
 add-n : tie.Need-add-n Inv-loop μ-loop
 add-n c = let p = c .before .before .before .before .before .before .before in omega (arith, counts p (c .count .result) (c .count .ensures) .1)
@@ -119,7 +119,7 @@ unfolding cellLines rowCells
 returns c =
     let x = c .before .before .before .before .before .before .args in
     let s = c .before .loop in
-    let e = ap (λ (l : List Satellite). cellLines (columnsOf (x .shape)) (rowCells l (drop (s .n) (x .cells .now)))) (no-slot (x .ids .now) (x .masks .now) (s .i) (omega arith)) in
+    let e = ap (λ (l : List Satellite). cellLines (slimOf (x .v1) (x .v2)) (rowCells l (drop (s .n) (x .cells .now)))) (no-slot (x .ids .now) (x .masks .now) (s .i) (omega arith)) in
     going-end _ (s .k) (s .place) (s .rows) e (s .inv .1) .numbers
 
 pub write-spec : {M : Type 1} → statement M

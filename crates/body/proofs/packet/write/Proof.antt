@@ -15,7 +15,7 @@ use Rattle.rows.proofs.Shaped.{columns-of, formed-shape, packet-fine}
 use Rattle.rows.specs.At.{valuesAt}
 use Rattle.rows.specs.Shapes.{columnsOf, FormedShape}
 use Rattle.rows.specs.declared.shape.Shape.{Shape}
-use Rattle.body.proofs.Going.{Going, going-start, row-room, row-near, row-part, row-written, going-end}
+use Rattle.body.proofs.Going.{Going, going-start, row-room, row-near, row-whole, row-part, row-written, going-end}
 use Rattle.body.proofs.Keys.{key, keyed}
 use Rattle.body.proofs.packet.write.Statement.{statement}
 use Rattle.body.proofs.packet.write.Tie as tie
@@ -74,12 +74,13 @@ module _ (c : tie.In-loop Inv-loop μ-loop) where
   columns : columnsOf (c .before .before .packet .result) ≡ packetShape
   columns = ap columnsOf (c .before .before .packet .ensures) ∙ columns-of packet-fine
 
-put-requires : tie.Need-put-requires Inv-loop μ-loop
-put-requires c κs =
+wide-requires : tie.Need-wide-requires Inv-loop μ-loop
+wide-requires c κs =
     let p = c .before in (
       row-part (line p) (behind p) _ _ _ refl (five p) (going p),
       omega (arith, near p),
       subst (λ (s : Shape). FormedShape s) (sym (p .before .before .packet .ensures)) (formed-shape packet-fine),
+      omega (arith, row-whole (line p) (behind p) _ _ _ refl (five p) (going p)),
     )
 
 loop-again : tie.Need-loop-again Inv-loop μ-loop
@@ -88,7 +89,7 @@ loop-again c =
     let p = c .before .before .before in
     let x = p .before .before .before .before .args in
     let number = key (i p + 1) (suc (i p)) (omega (arith, few p)) (add-one (i p)) in
-    let row = c .before .put .ensures ∙ keyed _ refl refl number ∙ ap (λ (cs : List Column). absent ∷ absent ∷ pos (suc (i p)) ∷ valuesAt cs (x .bytes .now) (p .before .loop .place)) (columns p) in
+    let row = c .before .wide .ensures ∙ keyed _ refl refl number ∙ ap (λ (cs : List Column). absent ∷ absent ∷ pos (suc (i p)) ∷ valuesAt cs (x .bytes .now) (p .before .loop .place)) (columns p) in
     (omega (arith, p .loop-test .taken), omega (arith, p .before .loop .inv .1), rw (add-one (i p)) (row-written (line p) (behind p) _ _ _ refl (five p) (going p) 40 _ refl row))
 
 returns : tie.Need-returns Inv-loop μ-loop
@@ -114,7 +115,7 @@ write-spec =
     (λ c. search needs)
     (λ c. room c)
     (λ c. record { sfits = omega (arith, few (c .before)) })
-    put-requires
+    wide-requires
     (λ c. omega (arith, near (c .before .before .before)))
     (λ c. omega (arith, c .before .before .before .loop-test .taken))
     loop-again

@@ -14,7 +14,7 @@ use lib.Pow.{pow-pos}
 use Rattle.format.specs.Rows.{Column, Line, absent}
 use Rattle.rows.specs.Shapes.{columnsOf}
 use Rattle.body.specs.Slots.{satellitesIn, chosenLines}
-use Rattle.body.proofs.Going.{Going, going-start, row-room, row-near, row-part, row-written, going-end}
+use Rattle.body.proofs.Going.{Going, going-start, row-room, row-near, row-whole, row-part, row-written, going-end}
 use Rattle.body.proofs.Keys.{key, keyed}
 use Rattle.body.proofs.Slots.{none-in, next-in, chosen-nil, chosen-one, chosen-none}
 use Rattle.holding.proofs.Places.{next-place}
@@ -114,6 +114,7 @@ put-requires c κs =
       row-part (line r) (behind r) (k r) (place r) _ refl (five r) g,
       omega (arith, row-near (line r) (behind r) (k r) (place r) _ refl (five r) g),
       r .before .before .before .before .before .before .pre .0,
+      omega (arith, row-whole (line r) (behind r) (k r) (place r) _ refl (five r) g),
     )
 
 add-place : tie.Need-add-place Inv-loop μ-loop

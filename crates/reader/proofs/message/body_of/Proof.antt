@@ -42,7 +42,7 @@ unfolding Begins
 write-requires c κs =
     let s = c .before .before .before .before .before .before .before .before in
     let begins = rw (c .before .before .before .before .before .heading2 .given .1) at (s .pre .1) in
-    (s .pre .0, begins .1, omega (arith, begins .0, c .before .before .before .size .ensures .bits, s .pre .3), s .pre .4)
+    (s .pre .0, begins .1, c .before .before .before .size .ensures .bits, omega (arith, begins .0, s .pre .3), s .pre .4)
 
 returns-2 : tie.Need-returns-2
 unfolding answerOf rowsAfter headedBy

@@ -12,14 +12,14 @@ value-requires : tie.Need-value-requires
 value-requires c κs =
     let s = c .before .before .before in
     let x = s .args in
-    (half-lt (x .bytes .now) (x .at) (c .before .window-at .ensures) _, s .pre)
+    (half-lt (x .bytes .now) (x .at) (c .before .eight .ensures) _, s .pre .0)
 
 returns : tie.Need-returns
 returns c =
     let w = c .before .before in
     let x = w .before .before .args in
     toZ-ofZ (record { sfits = c .value .ok }) ∙ c .value .ensures
-    ∙ column-cut (x .bytes .now) (x .at) (w .window-at .ensures) (x .c) (x .at) (63 - x .at % 8 - x .c .width) (omega arith) (omega arith)
+    ∙ column-cut (x .bytes .now) (x .at) (w .eight .ensures) (x .c) (x .at) (63 - x .at % 8 - x .c .width) (omega arith) (omega arith)
 
 pub alone-spec : {M : Type 1} → statement M
 alone-spec = tie.close (tie.spec (λ c κs. search needs) (λ c. search needs) (λ c. search needs) (λ c. search needs) value-requires returns)

@@ -19,13 +19,13 @@ value-requires : tie.Need-value-requires
 value-requires c κs =
     let w = c .before .before .before in
     let s = w .before .before in
-    (half-lt (s .args .bytes .now) (s .args .at) (w .window-at .ensures) _, s .pre .1)
+    (half-lt (s .args .bytes .now) (s .args .at) (w .eight .ensures) _, s .pre .1)
 
 value-requires-2 : tie.Need-value-requires-2
 value-requires-2 c κs =
     let w = c .before .before .before .before in
     let s = w .before .before in
-    (half-lt (s .args .bytes .now) (s .args .at) (w .window-at .ensures) _, s .pre .2)
+    (half-lt (s .args .bytes .now) (s .args .at) (w .eight .ensures) _, s .pre .2)
 
 returns : tie.Need-returns
 returns c =
@@ -38,7 +38,7 @@ returns c =
     c .before .store .ensures
     ∙ rw (toZ-ofZ (s .fits .system), toZ-ofZ (s .fits .satellite), toZ-ofZ (s .fits .signal), toZ-ofZ {w = w32} (record { sfits = v .before .value .ok }), toZ-ofZ {w = w32} (record { sfits = v .value2 .ok }))
     (ap (λ (l : List ℤ). x .system ∷ x .satellite ∷ x .signal ∷ l)
-    (values-slim (x .bytes .now) (x .at) (w .window-at .ensures) (x .v1) (x .v2) (below s) refl (omega arith) (v .before .value .ensures) (v .value2 .ensures)))
+    (values-slim (x .bytes .now) (x .at) (w .eight .ensures) (x .v1) (x .v2) (below s) refl (omega arith) (v .before .value .ensures) (v .value2 .ensures)))
 
 pub slim-spec : {M : Type 1} → statement M
 slim-spec =

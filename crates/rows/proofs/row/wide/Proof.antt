@@ -11,7 +11,7 @@ use Rattle.rows.proofs.Cuts.{half-lt, values-wide}
 use Rattle.rows.proofs.row.wide.Statement.{statement}
 use Rattle.rows.proofs.row.wide.Tie as tie
 
-abbrev start : tie.After-window-at → tie.Start
+abbrev start : tie.After-eight → tie.Start
 start w = w .before .before .before .before .before .before
 
 -- how many bits lie below the first column in the half window
@@ -35,28 +35,30 @@ value-requires : tie.Need-value-requires
 value-requires c κs =
     let w = c .before .before .before .before .before in
     let s = start w in
-    (half-lt (s .args .bytes .now) (s .args .at) (w .window-at .ensures) _, s .pre .2 .first)
+    (half-lt (s .args .bytes .now) (s .args .at) (w .eight .ensures) _, s .pre .2 .first)
 
 value-requires-2 : tie.Need-value-requires-2
 value-requires-2 c κs =
     let w = c .before .before .before .before .before .before in
     let s = start w in
-    (half-lt (s .args .bytes .now) (s .args .at) (w .window-at .ensures) _, s .pre .2 .second)
+    (half-lt (s .args .bytes .now) (s .args .at) (w .eight .ensures) _, s .pre .2 .second)
 
 value-requires-3 : tie.Need-value-requires-3
 value-requires-3 c κs =
     let w = c .before .before .before .before .before .before .before in
     let s = start w in
-    (half-lt (s .args .bytes .now) (s .args .at) (w .window-at .ensures) _, s .pre .2 .third)
+    (half-lt (s .args .bytes .now) (s .args .at) (w .eight .ensures) _, s .pre .2 .third)
 
 value-requires-4 : tie.Need-value-requires-4
 value-requires-4 c κs =
     let w = c .before .before .before .before .before .before .before .before in
     let s = start w in
-    (half-lt (s .args .bytes .now) (s .args .at) (w .window-at .ensures) _, s .pre .2 .fourth)
+    (half-lt (s .args .bytes .now) (s .args .at) (w .eight .ensures) _, s .pre .2 .fourth)
 
 alone-requires : tie.Need-alone-requires
-alone-requires c κs = start (c .before .before .before .before .before .before .before .before .before) .pre .2 .fifth
+alone-requires c κs =
+    let s = start (c .before .before .before .before .before .before .before .before .before) in
+    (s .pre .2 .fifth, omega (arith, s .pre .2 .window, s .pre .3))
 
 store-requires : tie.Need-store-requires
 store-requires c κs = start (c .before .before .before .before .before .before .before .before .before .before) .pre .0
@@ -74,7 +76,7 @@ returns c =
     c .before .store .ensures
     ∙ rw (toZ-ofZ (s .fits .system), toZ-ofZ (s .fits .satellite), toZ-ofZ (s .fits .signal), toZ-ofZ {w = w32} (record { sfits = v1 .value .ok }), toZ-ofZ {w = w32} (record { sfits = v2 .value2 .ok }), toZ-ofZ {w = w32} (record { sfits = v3 .value3 .ok }), toZ-ofZ {w = w32} (record { sfits = v4 .value4 .ok }), toZ-ofZ {w = w32} (record { sfits = v5 .alone .ok }))
     (ap (λ (l : List ℤ). x .system ∷ x .satellite ∷ x .signal ∷ l)
-    (values-wide (x .bytes .now) (x .at) (w .window-at .ensures) (x .shape) (below s) refl (s .pre .2 .window) (v1 .value .ensures) (v2 .value2 .ensures) (v3 .value3 .ensures) (v4 .value4 .ensures) (v5 .alone .ensures)))
+    (values-wide (x .bytes .now) (x .at) (w .eight .ensures) (x .shape) (below s) refl (s .pre .2 .window) (v1 .value .ensures) (v2 .value2 .ensures) (v3 .value3 .ensures) (v4 .value4 .ensures) (v5 .alone .ensures)))
 
 pub wide-spec : {M : Type 1} → statement M
 wide-spec =
