@@ -8,6 +8,7 @@ pub mod Pictured
 pub mod PicturedCells
 pub mod Built
 pub mod Kths
+pub mod Noughts
 pub mod Fitting
 pub mod SoundTested
 pub mod OneSlot

@@ -68,19 +68,18 @@ fn masks_fit(n: usize, id: usize, satellites: u64, signals: u16) -> bool
     assigned::signals_assigned(id, signals as u64)
 }
 
-// Whether no row from one on is used.
+// Whether no row from one on is used: all are gathered, without an exit, which makes it a few vectors' work.
 fn rows_empty(rows: &[u16], from: usize) -> bool
     requires { ⌜ from ≤ length (now rows) ⌝ }
     ensures { λ r. ⌜ r ≡ emptyRows (drop from (now (rows .entry))) ⌝ }
 {
+    let mut any = 0u16;
     let mut i = from;
     while i < rows.len() {
-        if rows[i] != 0 {
-            return false;
-        }
+        any |= rows[i];
         i += 1;
     }
-    true
+    any == 0
 }
 
 // Whether a slot is as it is where it is not used.

@@ -1,42 +1,40 @@
--- `holding::testing::rows_empty` meets its contract. The loop's invariant: the rows are empty from the first on just if they are from the i-th on.
+-- `holding::testing::rows_empty` meets its contract. The loop's invariant: the rows are empty from the first on just if nothing is gathered and they
+-- are from the i-th on.
 -- Assumes nothing.
 use mathlib.Core.Path.{_≡_, refl, sym, ap, _∙_}
-use Prim.Native.Nat.{ℕ, _-_, _≤_}
+use mathlib.Core.Bool.{Bool, _&&_}
+use Prim.Native.Nat.{_+_, _-_, _≤_}
 use native.Mathlib.Omega.{arith}
 use native.Mathlib.Numerals.{add-one}
 use borrow.Author.Needs.{needs}
-use borrow.Author.Tests.{eq-eqb, ne-eqb}
+use lib.Dec.{eqb}
 use lib.ListN.{length, getD, drop, drop-of-length-le}
 use Rattle.holding.specs.Testing.{emptyRows}
 use Rattle.holding.proofs.Fitting.{empty-row}
+use Rattle.holding.proofs.Noughts.{gather, and-end}
 use Rattle.holding.proofs.testing.rows_empty.Statement.{statement}
 use Rattle.holding.proofs.testing.rows_empty.Tie as tie
 
 abbrev Inv-loop : tie.InvT-loop
-Inv-loop rows from i₀ i = (i ≤ length rows) × (emptyRows (drop from rows) ≡ emptyRows (drop i rows))
+Inv-loop rows from any₀ i₀ any i = (i ≤ length rows) × (emptyRows (drop from rows) ≡ (eqb any 0 && emptyRows (drop i rows)))
 
 abbrev μ-loop : tie.MeasureT-loop
-μ-loop rows from i₀ i = length rows - i
-
-returns : tie.Need-returns Inv-loop μ-loop
-returns c =
-    let x = c .before .before .before .before .args in
-    let i : ℕ = c .before .before .before .loop .i in
-    sym (c .before .before .before .loop .inv .1 ∙ empty-row (x .rows .now) i (omega arith) ∙ rw (ne-eqb (getD (x .rows .now) i 0) 0 (c .if1 .taken)))
+μ-loop rows from any₀ i₀ any i = length rows - i
 
 loop-again : tie.Need-loop-again Inv-loop μ-loop
 loop-again c =
-    let x = c .before .before .before .before .args in
-    let i : ℕ = c .before .before .before .loop .i in
-    let here = empty-row (x .rows .now) i (omega arith) in
-    (omega arith, c .before .before .before .loop .inv .1 ∙ here ∙ rw (eq-eqb (getD (x .rows .now) i 0) 0 (c .if1 .left), add-one i))
+    let x = c .before .before .before .args in
+    let s = c .before .before .loop in
+    let here = empty-row (x .rows .now) (s .i) (omega arith) in
+    let more = gather (s .any) (getD (x .rows .now) (s .i) 0) (emptyRows (drop (s .i + 1) (x .rows .now))) in
+    (omega arith, s .inv .1 ∙ ap (λ (t : Bool). eqb (s .any) 0 && t) (here ∙ rw (← (add-one (s .i)))) ∙ more)
 
-returns-2 : tie.Need-returns-2 Inv-loop μ-loop
+returns : tie.Need-returns Inv-loop μ-loop
 unfolding emptyRows
-returns-2 c =
+returns c =
     let x = c .before .before .args in
     let all : length (x .rows .now) ≤ c .before .loop .i = omega arith in
-    sym (c .before .loop .inv .1 ∙ ap emptyRows (drop-of-length-le (x .rows .now) all))
+    sym (c .before .loop .inv .1 ∙ rw (drop-of-length-le (x .rows .now) all) (and-end _))
 
 pub rows-empty-spec : {M : Type 1} → statement M
 rows-empty-spec =
@@ -47,8 +45,7 @@ rows-empty-spec =
     (λ c. (omega arith, refl))
     (λ c. search needs)
     (λ c. omega arith)
-    returns
     (λ c. omega arith)
     (λ c. omega arith)
     loop-again
-    returns-2)
+    returns)

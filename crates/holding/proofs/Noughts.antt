@@ -1,0 +1,28 @@
+-- Numbers gathered by OR, which is 0 just where each of them is; XOR is 0 just where two are the same.
+-- Assumes nothing.
+use mathlib.Core.Path.{_≡_, refl, sym, ap, _∙_}
+use mathlib.Core.Bool.{Bool, true, false, _&&_}
+use Prim.Native.Nat.{ℕ, zero, suc, _<_}
+use native.Mathlib.Omega.{arith}
+use borrow.Author.Tests.{ne-eqb}
+use lib.Bits.{bitAnd, bitOr, or-zero-l, or-add-and, and-le-r}
+use lib.Dec.{eqb}
+
+and-assoc : (a b c : Bool) → (a && (b && c)) ≡ ((a && b) && c)
+and-assoc false b c = refl
+and-assoc true b c = refl
+
+pub and-end : (a : Bool) → (a && true) ≡ a
+and-end false = refl
+and-end true = refl
+
+-- one more is gathered
+pub or-nought : (a b : ℕ) → eqb (bitOr a b) 0 ≡ (eqb a 0 && eqb b 0)
+or-nought zero b = rw (or-zero-l b)
+or-nought (suc a) b =
+    let some : 0 < bitOr (suc a) b = omega (arith, or-add-and (suc a) b, and-le-r (suc a) b) in
+    rw (ne-eqb (bitOr (suc a) b) 0 (λ e. omega arith), ne-eqb (suc a) 0 (λ e. omega arith))
+
+-- with a test of the others behind
+pub gather : (a b : ℕ) (rest : Bool) → (eqb a 0 && (eqb b 0 && rest)) ≡ (eqb (bitOr a b) 0 && rest)
+gather a b rest = and-assoc (eqb a 0) (eqb b 0) rest ∙ ap (λ (t : Bool). t && rest) (sym (or-nought a b))
