@@ -14,6 +14,7 @@ use Rattle.format.specs.Masks.{System, Mask, mask, Satellite, placesFrom, satel
 use Rattle.holding.specs.Building.{withRow, withSystem, onesIn, begun}
 use Rattle.holding.specs.Pictures.{filled, rowsFrom, rowsOf, pictureOf}
 use Rattle.holding.specs.Spread.{spread}
+use Rattle.holding.proofs.Counts.{ones-append}
 use Rattle.holding.proofs.Places.{ones-number}
 use Rattle.holding.proofs.PicturedRows.{length-rows, length-satellites, picture-rows, spell-bits, spell-row}
 use Rattle.holding.proofs.PicturedCells.{rowCells, row-cells}
@@ -34,11 +35,6 @@ set-filled n d x l k e h =
     let here : n - length l ≡ suc (n - suc k) = omega arith in
     let after : n - length (l ++ (x ∷ [])) ≡ n - suc k = simp length-append (omega arith) in
     rw (here, after, append-snoc) (set-at l d (replicate (n - suc k) d) x k e)
-
-ones-append : (rows more : List ℕ) → onesIn (rows ++ more) ≡ onesIn rows + onesIn more
-unfolding onesIn
-ones-append [] more = omega arith
-ones-append (row ∷ rows) more = omega (arith, ones-append rows more)
 
 -- a row is stored behind the others
 pub row-built : (m : Mask) (rows : List ℕ) (row : ℕ) → length (flatMap rowsOf (m .systems) ++ rows) < 64

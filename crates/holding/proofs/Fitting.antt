@@ -1,14 +1,13 @@
 -- The tests of specs/Testing.antt, one row or slot at a time.
 -- Assumes nothing.
-use mathlib.Core.Path.{_≡_, refl, sym, ap, _∙_}
+use mathlib.Core.Path.{_≡_, refl, ap, _∙_}
 use mathlib.Core.Bool.{Bool, true, false, _&&_, not}
 use mathlib.Core.List.{List}
 use Prim.Native.Nat.{ℕ, suc, _+_, _-_, _^_, _≤_, _<_}
 use native.Mathlib.Nat.{add-zero, sub-self}
 use native.Mathlib.Numerals.{add-one}
-use native.Mathlib.Decide.{decLe}
 use native.Mathlib.Omega.{arith}
-use borrow.Author.Tests.{leb-true, le-leb, lt-leb}
+use borrow.Author.Tests.{leb-true}
 use lib.Count.{ones}
 use lib.Dec.{eqb, leb, ltb}
 use lib.ListN.{length, getD, take, drop, length-drop}
@@ -19,6 +18,7 @@ use Rattle.format.specs.Assigned.{satellitePlaces, assigned}
 use Rattle.holding.specs.Building.{onesIn}
 use Rattle.holding.specs.Named.{namedIn}
 use Rattle.holding.specs.Testing.{rowFits, rowsFit, masksFit, slotFits, emptyRows, emptySlots, slotsFit}
+use Rattle.holding.proofs.Counts.{ones-part}
 
 pub empty-row : (rows : List ℕ) (i : ℕ) → i < length rows → emptyRows (drop i rows) ≡ (eqb (getD rows i 0) 0 && emptyRows (drop (suc i) rows))
 unfolding emptyRows
@@ -58,47 +58,32 @@ few-with n id sats signals e =
     let placed = and-true (assigned satellitePlaces id (spell 40 sats)) _ (wide .1) in
     leb-true (n + ones sats) 64 (and-true (leb (n + ones sats) 64) _ (placed .1) .0)
 
--- room for some more, told from what is left
-pub room-left : (c more : ℕ) → c ≤ 256 → leb (c + more) 256 ≡ leb more (256 - c)
-room-left c more h = go (decLe (c + more) 256)
-  where
-    go : Dec (c + more ≤ 256) → leb (c + more) 256 ≡ leb more (256 - c)
-    go (yes few) =
-        let left : more ≤ 256 - c = omega arith in
-        le-leb (c + more) 256 few ∙ sym (le-leb more (256 - c) left)
-    go (no many) =
-        let over : 256 < c + more = omega arith in
-        let past : 256 - c < more = omega arith in
-        lt-leb (c + more) 256 over ∙ sym (lt-leb more (256 - c) past)
-
 -- ---- one slot after the other
 
--- a slot that fits leaves room for itself
-pub fits-few : (before : List ℕ) (n c id sats signals : ℕ) (flag : Bool) (rows : List ℕ) → slotFits before n c id sats signals flag rows ≡ true
-    → (n + ones sats ≤ 64) × (c + onesIn (take (ones sats) rows) ≤ 256)
+-- a slot that fits leaves room for its satellites
+pub fits-few : (before : List ℕ) (n id sats signals : ℕ) (flag : Bool) (rows : List ℕ) → slotFits before n id sats signals flag rows ≡ true → n + ones sats ≤ 64
 unfolding slotFits
-fits-few before n c id sats signals flag rows e =
-    let mine = take (ones sats) rows in
+fits-few before n id sats signals flag rows e =
     let known = and-true (ltb id 5) _ e in
     let new = and-true (not (namedIn id before)) _ (known .1) in
-    let fit = and-true (masksFit n id sats signals) _ (new .1) in
-    let fill = and-true (rowsFit flag signals mine) _ (fit .1) in
-    (few-with n id sats signals (fit .0), leb-true (c + onesIn mine) 256 (fill .1))
+    few-with n id sats signals (and-true (masksFit n id sats signals) _ (new .1) .0)
 
-pub next-slot : (nsat ncell count n c i : ℕ) (ids sats signals : List ℕ) (flags : List Bool) (rows : List ℕ) → i < count → i < length ids
+-- the next slot, after the cells of the rows passed
+pub next-slot : (nsat ncell count n i : ℕ) (ids sats signals : List ℕ) (flags : List Bool) (rows : List ℕ) → i < count → i < length ids
     → let k = ones (getD sats i 0) in
-    slotsFit nsat ncell (count - i) (take i ids) n c (drop i ids) (drop i sats) (drop i signals) (drop i flags) (drop n rows)
-    ≡ (slotFits (take i ids) n c (getD ids i 0) (getD sats i 0) (getD signals i 0) (getD flags i false) (drop n rows)
-    && slotsFit nsat ncell (count - suc i) (take (suc i) ids) (n + k) (c + onesIn (take k (drop n rows))) (drop (suc i) ids) (drop (suc i) sats) (drop (suc i) signals)
+    slotsFit nsat ncell (count - i) (take i ids) n (onesIn (take n rows)) (drop i ids) (drop i sats) (drop i signals) (drop i flags) (drop n rows)
+    ≡ (slotFits (take i ids) n (getD ids i 0) (getD sats i 0) (getD signals i 0) (getD flags i false) (drop n rows)
+    && slotsFit nsat ncell (count - suc i) (take (suc i) ids) (n + k) (onesIn (take (n + k) rows)) (drop (suc i) ids) (drop (suc i) sats) (drop (suc i) signals)
     (drop (suc i) flags) (drop (n + k) rows))
 unfolding slotsFit
-next-slot nsat ncell count n c i ids sats signals flags rows more inside =
+next-slot nsat ncell count n i ids sats signals flags rows more inside =
     let next : count - i ≡ suc (count - suc i) = omega arith in
-    rw (next, take-suc ids i 0 inside) (simp (getD-drop, drop-drop, add-zero, add-one))
+    rw (next, take-suc ids i 0 inside, ones-part rows n (ones (getD sats i 0))) (simp (getD-drop, drop-drop, add-zero, add-one))
 
 -- past the last slot
 pub no-slot : (nsat ncell count i n c : ℕ) (before ids sats signals : List ℕ) (flags : List Bool) (rows : List ℕ) → i ≡ count
     → slotsFit nsat ncell (count - i) before n c (drop i ids) (drop i sats) (drop i signals) (drop i flags) rows
-    ≡ (eqb n nsat && (eqb c ncell && (emptySlots (length ids - count) (drop count ids) (drop count sats) (drop count signals) (drop count flags) && emptyRows rows)))
+    ≡ (eqb n nsat && (emptySlots (length ids - count) (drop count ids) (drop count sats) (drop count signals) (drop count flags)
+    && (emptyRows rows && (leb c 256 && eqb c ncell))))
 unfolding slotsFit
 no-slot nsat ncell count i n c before ids sats signals flags rows end = rw (end, sub-self count, length-drop count ids)

@@ -9,9 +9,9 @@ use native.Mathlib.Numerals.{add-one}
 use native.Mathlib.Omega.{arith}
 use lib.Count.{ones, ones-cat}
 use lib.Dec.{ltb}
-use lib.ListN.{length, getD, take, drop, replicate, length-append, length-drop, length-map, drop-of-length-le, List·getD-append}
+use lib.ListN.{length, getD, drop, replicate, length-append, length-map, drop-of-length-le, List·getD-append}
 use lib.Pow.{pow-pos}
-use lib.Seq.{take-suc, drop-cons, getD-drop, drop-drop, getD-append-add}
+use lib.Seq.{drop-cons, getD-drop, drop-drop, getD-append-add}
 use borrow.Author.Tests.{ltb-true, lt-ltb}
 use Rattle.bits.proofs.BitLists.{number-lt}
 use Rattle.bits.specs.BitLists.{number, spell}
@@ -23,30 +23,11 @@ use Rattle.holding.specs.Building.{onesIn}
 use Rattle.holding.specs.Kth.{spotsAt, spots, nowhere, narrow, below}
 use Rattle.holding.specs.Pictures.{rowsFrom, rowsOf}
 use Rattle.holding.specs.Spread.{spread}
+use Rattle.holding.proofs.Counts.{ones-append}
 use Rattle.holding.proofs.Places.{ones-places, places-up, no-place}
 use Rattle.holding.proofs.Spreads.{length-spread}
 use Rattle.holding.proofs.PicturedRows.{sized, picture-rows, spell-bits}
 use Rattle.holding.proofs.PicturedCells.{rowCells, picture-cells}
-
--- ---- how many cells some rows have
-
-ones-append : (xs ys : List ℕ) → onesIn (xs ++ ys) ≡ onesIn xs + onesIn ys
-unfolding onesIn
-ones-append [] ys = omega arith
-ones-append (x ∷ xs) ys = omega (arith, ones-append xs ys)
-
--- one more row adds its own
-pub ones-more : (rows : List ℕ) (from i : ℕ) → from ≤ i → i < length rows
-    → onesIn (take (suc i - from) (drop from rows)) ≡ onesIn (take (i - from) (drop from rows)) + ones (getD rows i 0)
-unfolding onesIn
-ones-more rows from i past inside =
-    let next : suc i - from ≡ suc (i - from) = omega arith in
-    let place : from + (i - from) ≡ i = omega arith in
-    let row : getD (drop from rows) (i - from) 0 ≡ getD rows i 0 = getD-drop from rows (i - from) 0 ∙ ap (λ (j : ℕ). getD rows j 0) place in
-    ap (λ (j : ℕ). onesIn (take j (drop from rows))) next
-    ∙ ap onesIn (take-suc (drop from rows) (i - from) 0 (omega (arith, length-drop from rows)))
-    ∙ ones-append (take (i - from) (drop from rows)) (getD (drop from rows) (i - from) 0 ∷ [])
-    ∙ rw (row, add-zero)
 
 -- ---- the k-th place set
 

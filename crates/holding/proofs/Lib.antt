@@ -6,6 +6,7 @@ pub mod PicturedSame
 pub mod PicturedRows
 pub mod Pictured
 pub mod PicturedCells
+pub mod Counts
 pub mod Built
 pub mod Kths
 pub mod Noughts

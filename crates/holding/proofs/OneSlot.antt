@@ -152,17 +152,16 @@ pub record Fits (before : List System) (ids : List ℕ) (n c id sats signals : �
 
 -- the system in it is good after those before it, and the test keeps what it asks of them with it
 pub fits : (before : List System) (ids : List ℕ) (n c id sats signals : ℕ) (flag : Bool) (rows : List ℕ) → After before ids n c → n + length rows ≡ 64
-    → signals < 2 ^ 16 → narrow 16 rows ≡ true → slotFits ids n c id sats signals flag rows ≡ true
+    → signals < 2 ^ 16 → narrow 16 rows ≡ true → slotFits ids n id sats signals flag rows ≡ true → c + onesIn (take (ones sats) rows) ≤ 256
     → Fits before ids n c id sats signals flag rows
 unfolding slotFits masksFit goodSystem known systemOf
-fits before ids n c id sats signals flag rows a whole small thin e =
+fits before ids n c id sats signals flag rows a whole small thin e limit =
     let k = ones sats in
     let own = take k rows in
     let s = systemOf id sats signals flag rows in
     let low-id = and-true (ltb id 5) _ e in
     let fresh = and-true (not (namedIn id ids)) _ (low-id .1) in
     let masks = and-true (masksFit n id sats signals) _ (fresh .1) in
-    let ends = and-true (rowsFit flag signals own) _ (masks .1) in
     let wide = and-true (ltb sats (2 ^ 40)) _ (masks .0) in
     let placed = and-true (assigned satellitePlaces id (spell 40 sats)) _ (wide .1) in
     let few = and-true (leb (n + k) 64) _ (placed .1) in
@@ -170,7 +169,7 @@ fits before ids n c id sats signals flag rows a whole small thin e =
     let count : k ≡ length (placesFrom 0 (spell 40 sats)) = ones-places 40 sats 0 low in
     let most : n + k ≤ 64 = leb-true (n + k) 64 (few .0) in
     let room : k ≤ length rows = omega arith in
-    let mine : rowsOf s ≡ own = rows-slot id sats signals flag rows low small thin room (ends .0) in
+    let mine : rowsOf s ≡ own = rows-slot id sats signals flag rows low small thin room (masks .1) in
     let total : c + onesIn own ≡ length (cells (before ++ (s ∷ []))) =
     ap₂ _+_ (a .held) (ap onesIn (sym mine) ∙ rows-ones s (length-spell 16 signals)) ∙ sym (cells-snoc before s) in
     let known-id : leb id 4 ≡ true = le-leb id 4 (omega (arith, ltb-true id 5 (low-id .0))) in
@@ -178,7 +177,7 @@ fits before ids n c id sats signals flag rows a whole small thin e =
     let satellites-few : leb (length (satellites before) + length (placesFrom 0 (spell 40 sats))) 64 ≡ true = le-leb (length (satellites before) + length (placesFrom 0 (spell 40 sats))) 64 (omega (arith, a .sats)) in
     let width : length (s .cells) ≡ cond flag (length (placesFrom 0 (spell 40 sats)) * length (placesFrom 0 (spell 16 signals))) 0 =
     rw (← count) (rw (length-take-le k rows room) at (cells-width flag (spell 16 signals) own (length-spell 16 signals))) in
-    let held : leb (length (cells (before ++ (s ∷ [])))) 256 ≡ true = le-leb (length (cells (before ++ (s ∷ [])))) 256 (omega (arith, total, leb-true (c + onesIn own) 256 (ends .1))) in
+    let held : leb (length (cells (before ++ (s ∷ [])))) 256 ≡ true = le-leb (length (cells (before ++ (s ∷ [])))) 256 (omega (arith, total)) in
     record {
       low = low;
       room = room;

@@ -3,7 +3,7 @@
 use mathlib.Core.Path.{_≡_, refl, sym, _∙_}
 use mathlib.Core.Bool.{Bool, true, false, cond, not}
 use mathlib.Core.List.{List, [], _∷_, _++_, append-assoc, append-nil, map, map-append, flatMap}
-use Prim.Native.Nat.{ℕ, zero, suc, _+_, _-_, _^_, _<_}
+use Prim.Native.Nat.{ℕ, zero, suc, _+_, _-_, _^_, _≤_, _<_}
 use native.Mathlib.Omega.{arith}
 use lib.Count.{ones}
 use lib.Dec.{eqb, leb, ltb}
@@ -102,15 +102,12 @@ ones-rows s = length-rows s ∙ sym (ones-number (s .satellites) 0)
 
 -- a good system fits its slot, whatever stands behind its rows
 slot-fits : (before : List System) (s : System) (more : List ℕ) → goodSystem before s ≡ true
-    → slotFits (map (λ s. s .id) before) (length (satellites before)) (length (cells before)) (s .id) (number (s .satellites)) (number (s .signals)) (s .flag)
-    (rowsOf s ++ more)
-    ≡ true
+    → slotFits (map (λ s. s .id) before) (length (satellites before)) (s .id) (number (s .satellites)) (number (s .signals)) (s .flag) (rowsOf s ++ more) ≡ true
 unfolding slotFits
 slot-fits before s more e =
     let z = sized before s e in
     let p = placed before s e in
-    rw (take-at (rowsOf s) more _ (ones-rows s), cells-more before s e)
-    (true-and (p .id) (true-and (p .fresh) (true-and (masks-fit before s z p) (true-and (rows-fit s) (le-leb _ _ (z .held))))))
+    rw (take-at (rowsOf s) more _ (ones-rows s)) (true-and (p .id) (true-and (p .fresh) (true-and (masks-fit before s z p) (rows-fit s))))
 
 -- ---- all slots
 
@@ -131,17 +128,19 @@ unfolding satellites
 satellites-more before s = rw flatMap-snoc (simp length-append (rw (length-satellites s, ones-number (s .satellites) 0)))
 
 -- good systems fit their slots, with zeros behind
-slots-fit : (before ss : List System) (j r : ℕ) → goodSystems before ss ≡ true
+slots-fit : (before ss : List System) (j r : ℕ) → length (cells before) ≤ 256 → goodSystems before ss ≡ true
     → slotsFit (length (satellites (before ++ ss))) (length (cells (before ++ ss))) (length ss) (map (λ s. s .id) before) (length (satellites before))
     (length (cells before)) (map (λ s. s .id) ss ++ replicate j 0) (map (λ s. number (s .satellites)) ss ++ replicate j 0)
     (map (λ s. number (s .signals)) ss ++ replicate j 0) (map (λ s. s .flag) ss ++ replicate j false) (flatMap rowsOf ss ++ replicate r 0)
     ≡ true
 unfolding goodSystems slotsFit flatMap
-slots-fit before [] j r e = rw (append-nil, length-replicate, eqb-refl (length (satellites before)), eqb-refl (length (cells before))) (true-and (empty-slots j) (empty-rows r))
-slots-fit before (s ∷ ss) j r e =
+slots-fit before [] j r few e =
+    rw (append-nil, length-replicate, eqb-refl (length (satellites before)), eqb-refl (length (cells before)), le-leb (length (cells before)) 256 few)
+    (true-and (empty-slots j) (true-and (empty-rows r) refl))
+slots-fit before (s ∷ ss) j r few e =
     let parts = and-true (goodSystem before s) _ e in
     let more = flatMap rowsOf ss ++ replicate r 0 in
-    let rest = slots-fit (before ++ (s ∷ [])) ss j r (parts .1) in
+    let rest = slots-fit (before ++ (s ∷ [])) ss j r (sized before s (parts .0) .held) (parts .1) in
     rw (
       append-assoc (rowsOf s) (flatMap rowsOf ss) (replicate r 0),
       take-at (rowsOf s) more _ (ones-rows s),
@@ -158,7 +157,7 @@ filled-fit : (ss : List System) → goodSystems [] ss ≡ true
     (filled 64 0 (flatMap rowsOf ss))
     ≡ true
 unfolding filled satellites cells flatMap
-filled-fit ss e = simp length-map (slots-fit [] ss (5 - length ss) (64 - length (flatMap rowsOf ss)) e)
+filled-fit ss e = simp length-map (slots-fit [] ss (5 - length ss) (64 - length (flatMap rowsOf ss)) (omega arith) e)
 
 -- ---- the whole test
 

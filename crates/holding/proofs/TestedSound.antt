@@ -141,6 +141,19 @@ unfolding systemsOf
 length-systems zero ids sats signals flags rows = refl
 length-systems (suc m) ids sats signals flags rows = ap suc (length-systems m _ _ _ _ _)
 
+-- no more than 256 cells come before slots that fit
+few-cells : (nsat ncell m : ℕ) (named : List ℕ) (a c : ℕ) (ids sats signals : List ℕ) (flags : List Bool) (rows : List ℕ)
+    → slotsFit nsat ncell m named a c ids sats signals flags rows ≡ true → c ≤ 256
+unfolding slotsFit
+few-cells nsat ncell zero named a c ids sats signals flags rows e =
+    let slots = and-true (eqb a nsat) _ e in
+    let empty = and-true (emptySlots (length ids) ids sats signals flags) _ (slots .1) in
+    let limit = and-true (emptyRows rows) _ (empty .1) in
+    leb-true c 256 (and-true (leb c 256) _ (limit .1) .0)
+few-cells nsat ncell (suc m) named a c ids sats signals flags rows e =
+    let parts = and-true (slotFits named a (getD ids 0 0) (getD sats 0 0) (getD signals 0 0) (getD flags 0 false) rows) _ e in
+    omega (arith, few-cells nsat ncell m _ _ _ _ _ _ _ _ (parts .1))
+
 -- by induction on the slots that are used, the systems before them growing
 says : (nsat ncell m n : ℕ) (before : List System) (named : List ℕ) (a c : ℕ) (ids sats signals : List ℕ) (flags : List Bool) (rows : List ℕ)
     → m ≤ n → Long n ids sats signals flags → After before named a c → a + length rows ≡ 64 → narrow 16 signals ≡ true → narrow 16 rows ≡ true
@@ -149,14 +162,15 @@ says : (nsat ncell m n : ℕ) (before : List System) (named : List ℕ) (a c : �
 unfolding slotsFit systemsOf goodSystems flatMap satellites cells
 says nsat ncell zero n before named a c ids sats signals flags rows room l after whole small thin e =
     let nsats = and-true (eqb a nsat) _ e in
-    let ncells = and-true (eqb c ncell) _ (nsats .1) in
-    let empty = and-true (emptySlots (length ids) ids sats signals flags) _ (ncells .1) in
+    let empty = and-true (emptySlots (length ids) ids sats signals flags) _ (nsats .1) in
+    let unused = and-true (emptyRows rows) _ (empty .1) in
+    let ncells = and-true (leb c 256) _ (unused .1) in
     record {
       good = refl;
       slots = empty-slots n ids sats signals flags l (rw (l .ids) at (empty .0));
-      rows = empty-rows rows (empty .1);
+      rows = empty-rows rows (unused .0);
       nsat = omega (arith, eqb-true a nsat (nsats .0), after .sats);
-      ncell = omega (arith, eqb-true c ncell (ncells .0), after .held);
+      ncell = omega (arith, eqb-true c ncell (ncells .1), after .held);
     }
 says nsat ncell (suc m) zero before named a c ids sats signals flags rows room l after whole small thin e = absurd (omega arith)
 says nsat ncell (suc m) (suc n) before named a c ids sats signals flags rows room l after whole small thin e =
@@ -166,9 +180,10 @@ says nsat ncell (suc m) (suc n) before named a c ids sats signals flags rows roo
     let flag = getD flags 0 false in
     let k = ones sat in
     let s = systemOf id sat signal flag rows in
-    let parts = and-true (slotFits named a c id sat signal flag rows) _ e in
+    let parts = and-true (slotFits named a id sat signal flag rows) _ e in
+    let limit = few-cells nsat ncell m _ _ _ _ _ _ _ _ (parts .1) in
     let fine : signal < 2 ^ 16 = below-at (2 ^ 16) signals small 0 (omega (arith, l .signals)) in
-    let f = fits before named a c id sat signal flag rows after whole fine thin (parts .0) in
+    let f = fits before named a c id sat signal flag rows after whole fine thin (parts .0) limit in
     let count : k ≡ length (placesFrom 0 (spell 40 sat)) = ones-places 40 sat 0 (f .low) in
     let left : length (drop k rows) ≡ length rows - k = length-drop k rows in
     let more = says nsat ncell m n (before ++ (s ∷ [])) (named ++ (id ∷ [])) (a + k) (c + onesIn (take k rows)) (drop 1 ids) (drop 1 sats) (drop 1 signals) (drop 1 flags) (drop k rows)

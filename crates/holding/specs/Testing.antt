@@ -25,11 +25,10 @@ unfoldable pub masksFit : ℕ → ℕ → ℕ → ℕ → Bool
 masksFit n id sats signals =
     ltb sats (2 ^ 40) && (assigned satellitePlaces id (spell 40 sats) && (leb (n + ones sats) 64 && assigned signalPlaces id (spell 16 signals)))
 
--- a slot whose rows come first, after the IDs, the n satellites and the c cells of those before it
-unfoldable pub slotFits : List ℕ → ℕ → ℕ → ℕ → ℕ → ℕ → Bool → List ℕ → Bool
-slotFits before n c id sats signals flag rows =
-    let mine = take (ones sats) rows in
-    ltb id 5 && (not (namedIn id before) && (masksFit n id sats signals && (rowsFit flag signals mine && leb (c + onesIn mine) 256)))
+-- a slot whose rows come first, after the IDs and the n satellites of those before it
+unfoldable pub slotFits : List ℕ → ℕ → ℕ → ℕ → ℕ → Bool → List ℕ → Bool
+slotFits before n id sats signals flag rows =
+    ltb id 5 && (not (namedIn id before) && (masksFit n id sats signals && rowsFit flag signals (take (ones sats) rows)))
 
 -- slots and rows that are not used
 unfoldable pub emptySlots : ℕ → List ℕ → List ℕ → List ℕ → List Bool → Bool
@@ -42,14 +41,15 @@ unfoldable pub emptyRows : List ℕ → Bool
 emptyRows [] = true
 emptyRows (row ∷ rows) = eqb row 0 && emptyRows rows
 
--- m slots that are used, and then those that are not; the whole counts are nsat and ncell
+-- m slots that are used, after n satellites and c cells, and then those that are not; the whole counts are nsat and ncell. The limit of 256 cells is
+-- tested once, at the end: their number only grows.
 unfoldable pub slotsFit : ℕ → ℕ → ℕ → List ℕ → ℕ → ℕ → List ℕ → List ℕ → List ℕ → List Bool → List ℕ → Bool
 slotsFit nsat ncell zero before n c ids sats signals flags rows =
-    eqb n nsat && (eqb c ncell && (emptySlots (length ids) ids sats signals flags && emptyRows rows))
+    eqb n nsat && (emptySlots (length ids) ids sats signals flags && (emptyRows rows && (leb c 256 && eqb c ncell)))
 slotsFit nsat ncell (suc m) before n c ids sats signals flags rows =
     let id = getD ids 0 0 in
     let k = ones (getD sats 0 0) in
-    slotFits before n c id (getD sats 0 0) (getD signals 0 0) (getD flags 0 false) rows
+    slotFits before n id (getD sats 0 0) (getD signals 0 0) (getD flags 0 false) rows
     && slotsFit nsat ncell m (before ++ (id ∷ [])) (n + k) (c + onesIn (take k rows)) (drop 1 ids) (drop 1 sats) (drop 1 signals) (drop 1 flags) (drop k rows)
 
 unfoldable pub tested : Holding → Bool

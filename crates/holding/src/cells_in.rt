@@ -1,20 +1,37 @@
-// How many cells some satellites have, by their rows.
+// How many cells the satellites have, by their rows: four rows are counted at a time, as one number.
 ghost use mathlib.Core.Path.{_≡_};
-ghost use Prim.Native.Nat.{_-_, _≤_};
+ghost use mathlib.Core.Bool.{true};
+ghost use Prim.Native.Nat.{_+_, _*_, _^_, _≤_};
 ghost use lib.ListN.{length, take, drop};
 ghost use Rattle.holding.specs.Building.{onesIn};
+ghost use Rattle.holding.specs.Testing.{emptyRows};
 use crate::set_places;
 
-// The cells of the satellites from one on, up to another that is not among them.
-pub fn cells_in(rows: &[u16], from: usize, to: usize) -> usize
-    requires { ⌜ (from ≤ to) × (to ≤ length (now rows)) × (length (now rows) ≤ 64) ⌝ }
-    ensures { λ r. ⌜ r ≡ onesIn (take (to - from) (drop from (now (rows .entry)))) ⌝ }
+// Four rows as one number, the first one lowest: LLVM makes it one load where they are neighbours.
+fn joined(a: u16, b: u16, c: u16, d: u16) -> u64
+    ensures { λ r. ⌜ r ≡ ((d * 2 ^ 16 + c) * 2 ^ 16 + b) * 2 ^ 16 + a ⌝ }
 {
-    let mut n = 0;
-    let mut i = from;
-    while i < to {
-        n += set_places::count(rows[i] as u64);
-        i += 1;
+    (((d as u64) * 0x1_0000 + (c as u64)) * 0x1_0000 + (b as u64)) * 0x1_0000 + (a as u64)
+}
+
+// The cells of four satellites from one on.
+fn cells_of_four(rows: &[u16], i: usize) -> usize
+    requires { ⌜ i + 4 ≤ length (now rows) ⌝ }
+    ensures { λ r. ⌜ (r ≡ onesIn (take 4 (drop i (now (rows .entry))))) × (r ≤ 64) ⌝ }
+{
+    set_places::count(joined(rows[i], rows[i + 1], rows[i + 2], rows[i + 3]))
+}
+
+// The cells of the first n satellites, behind whose rows none is used.
+pub fn cells_in(rows: &[u16], n: usize) -> usize
+    requires { ⌜ (length (now rows) ≡ 64) × (n ≤ 64) × (emptyRows (drop n (now rows)) ≡ true) ⌝ }
+    ensures { λ r. ⌜ r ≡ onesIn (take n (now (rows .entry))) ⌝ }
+{
+    let mut cells = 0;
+    let mut k = 0;
+    while 4 * k < n {
+        cells += cells_of_four(rows, 4 * k);
+        k += 1;
     }
-    n
+    cells
 }

@@ -1,10 +1,11 @@
 // The test of a lent holding, slot by slot and row by row (specs/Testing.antt).
 ghost use mathlib.Core.Path.{_≡_};
-ghost use mathlib.Core.Bool.{cond, not, _&&_};
+ghost use mathlib.Core.Bool.{true, cond, not, _&&_};
 ghost use mathlib.Core.List.{[]};
 ghost use Prim.Native.Nat.{_-_, _≤_, _<_};
-ghost use lib.Dec.{eqb, ltb};
+ghost use lib.Dec.{eqb, leb, ltb};
 ghost use lib.ListN.{length, getD, take, drop};
+ghost use Rattle.holding.specs.Building.{onesIn};
 ghost use Rattle.holding.specs.Testing.{rowFits, rowsFit, masksFit, slotFits, emptySlots, emptyRows, slotsFit};
 use crate::Holding;
 use crate::assigned;
@@ -113,19 +114,18 @@ fn slots_empty(ids: &[u8], satellites: &[u64], signals: &[u16], flags: &[bool], 
     true
 }
 
-// Whether a slot fits after n satellites and c cells, its rows being those from the n-th on.
+// Whether a slot fits after n satellites, its rows being those from the n-th on.
 fn slot_fits(
     ids: &[u8],
     i: usize,
     n: usize,
-    c: usize,
     satellites: u64,
     signals: u16,
     flag: bool,
     rows: &[u16],
 ) -> bool
-    requires { ⌜ (i < length (now ids)) × (n ≤ 64) × (c ≤ 256) × (length (now rows) ≡ 64) ⌝ }
-    ensures { λ r. ⌜ r ≡ slotFits (take i (now (ids .entry))) n c (getD (now (ids .entry)) i 0) satellites signals flag (drop n (now (rows .entry))) ⌝ }
+    requires { ⌜ (i < length (now ids)) × (n ≤ 64) × (length (now rows) ≡ 64) ⌝ }
+    ensures { λ r. ⌜ r ≡ slotFits (take i (now (ids .entry))) n (getD (now (ids .entry)) i 0) satellites signals flag (drop n (now (rows .entry))) ⌝ }
 {
     let id = ids[i];
     if id >= 5 {
@@ -138,10 +138,19 @@ fn slot_fits(
         return false;
     }
     let to = n + set_places::count(satellites);
-    if !rows_fit(rows, n, to, signals, flag) {
+    rows_fit(rows, n, to, signals, flag)
+}
+
+// Whether the cells of n satellites, behind whose rows none is used, are that many and no more than 256.
+fn cells_fit(rows: &[u16], n: usize, ncell: usize) -> bool
+    requires { ⌜ (length (now rows) ≡ 64) × (n ≤ 64) × (emptyRows (drop n (now rows)) ≡ true) ⌝ }
+    ensures { λ r. ⌜ r ≡ (leb (onesIn (take n (now (rows .entry)))) 256 && eqb (onesIn (take n (now (rows .entry)))) ncell) ⌝ }
+{
+    let cells = cells_in::cells_in(rows, n);
+    if cells > Holding::CELLS {
         return false;
     }
-    cells_in::cells_in(rows, n, to) <= Holding::CELLS - c
+    cells == ncell
 }
 
 // Whether count slots are used, which fit one after the other, the counts of satellites and cells are theirs, and
@@ -161,24 +170,21 @@ pub fn slots_fit(
 {
     let mut i = 0;
     let mut n = 0;
-    let mut c = 0;
     while i < count {
-        if !slot_fits(ids, i, n, c, satellites[i], signals[i], flags[i], rows) {
+        if !slot_fits(ids, i, n, satellites[i], signals[i], flags[i], rows) {
             return false;
         }
-        let to = n + set_places::count(satellites[i]);
-        c += cells_in::cells_in(rows, n, to);
-        n = to;
+        n += set_places::count(satellites[i]);
         i += 1;
     }
     if n != nsat {
         return false;
     }
-    if c != ncell {
-        return false;
-    }
     if !slots_empty(ids, satellites, signals, flags, count) {
         return false;
     }
-    rows_empty(rows, n)
+    if !rows_empty(rows, n) {
+        return false;
+    }
+    cells_fit(rows, n, ncell)
 }

@@ -1,16 +1,14 @@
 -- `holding::testing::slot_fits` meets its contract: the tests of slotFits one after the other.
 -- Assumes nothing.
 use mathlib.Core.Path.{_≡_, sym, ap, _∙_}
-use mathlib.Core.List.{List}
 use Prim.Native.Nat.{ℕ, _+_, _-_}
 use native.Mathlib.Omega.{arith}
 use borrow.Author.Needs.{needs}
 use borrow.Author.Tests.{lt-ltb, le-ltb, not-true, not-false}
 use lib.Count.{ones, ones-le}
 use lib.ListN.{getD, take, drop}
-use Rattle.holding.specs.Building.{onesIn}
 use Rattle.holding.specs.Testing.{rowsFit, slotFits}
-use Rattle.holding.proofs.Fitting.{few-with, room-left}
+use Rattle.holding.proofs.Fitting.{few-with}
 use Rattle.holding.proofs.testing.slot_fits.Statement.{statement}
 use Rattle.holding.proofs.testing.slot_fits.Tie as tie
 
@@ -49,30 +47,12 @@ rows-fit-requires c κs =
 returns-4 : tie.Need-returns-4
 unfolding slotFits
 returns-4 c =
-    let x = c .before .before .before .before .before .before .before .before .before .before .before .args in
-    let new = sym (c .before .before .before .before .before .before .named-in .ensures) ∙ c .before .before .before .before .before .if2 .left in
-    let fit = sym (c .before .before .before .before .masks-fit .ensures) ∙ not-false _ (c .before .before .before .if3 .left) in
-    let width : x .n + c .before .before .count .result - x .n ≡ ones (x .satellites) = omega (arith, c .before .before .count .ensures) in
-    let over = ap (λ (k : ℕ). rowsFit (x .flag) (x .signals) (take k (drop (x .n) (x .rows .now)))) (sym width) ∙ sym (c .before .rows-fit .ensures) ∙ not-true _ (c .if4 .taken) in
-    rw (lt-ltb (getD (x .ids .now) (x .i) 0) 5 (omega arith), new, fit, over)
-
-cells-in-requires : tie.Need-cells-in-requires
-cells-in-requires c κs =
-    let x = c .before .before .before .before .before .before .before .before .before .before .before .args in
-    let few = few-with (x .n) (getD (x .ids .now) (x .i) 0) (x .satellites) (x .signals) (sym (c .before .before .before .before .masks-fit .ensures) ∙ not-false _ (c .before .before .before .if3 .left)) in
-    (omega arith, omega (arith, c .before .before .count .ensures), omega arith)
-
-returns-5 : tie.Need-returns-5
-unfolding slotFits
-returns-5 c =
-    let x = c .before .before .before .before .before .before .before .before .before .before .before .before .args in
-    let new = sym (c .before .before .before .before .before .before .before .named-in .ensures) ∙ c .before .before .before .before .before .before .if2 .left in
-    let fit = sym (c .before .before .before .before .before .masks-fit .ensures) ∙ not-false _ (c .before .before .before .before .if3 .left) in
-    let width : x .n + c .before .before .before .count .result - x .n ≡ ones (x .satellites) = omega (arith, c .before .before .before .count .ensures) in
-    let mine : ℕ → List ℕ = λ (k : ℕ). take k (drop (x .n) (x .rows .now)) in
-    let rows = ap (λ (k : ℕ). rowsFit (x .flag) (x .signals) (mine k)) (sym width) ∙ sym (c .before .before .rows-fit .ensures) ∙ not-false _ (c .before .if4 .left) in
-    let more = c .cells-in .ensures ∙ ap (λ (k : ℕ). onesIn (mine k)) width in
-    rw (lt-ltb (getD (x .ids .now) (x .i) 0) 5 (omega arith), new, fit, rows, ← more) (sym (room-left (x .c) (c .cells-in .result) (omega arith)))
+    let x = c .before .before .before .before .before .before .before .before .before .before .args in
+    let new = sym (c .before .before .before .before .before .named-in .ensures) ∙ c .before .before .before .before .if2 .left in
+    let fit = sym (c .before .before .before .masks-fit .ensures) ∙ not-false _ (c .before .before .if3 .left) in
+    let width : x .n + c .before .count .result - x .n ≡ ones (x .satellites) = omega (arith, c .before .count .ensures) in
+    rw (lt-ltb (getD (x .ids .now) (x .i) 0) 5 (omega arith), new, fit)
+    (c .rows-fit .ensures ∙ ap (λ (k : ℕ). rowsFit (x .flag) (x .signals) (take k (drop (x .n) (x .rows .now)))) width)
 
 pub slot-fits-spec : {M : Type 1} → statement M
 slot-fits-spec =
@@ -88,7 +68,4 @@ slot-fits-spec =
     (λ c κs. search needs)
     add-to
     rows-fit-requires
-    returns-4
-    cells-in-requires
-    (λ c. omega arith)
-    returns-5)
+    returns-4)
