@@ -4,16 +4,16 @@ use mathlib.Core.Path.{_≡_, refl, ap, _∙_}
 use mathlib.Core.Bool.{true}
 use mathlib.Core.List.{List, [], _∷_, _++_}
 use Prim.Native.Nat.{ℕ, zero, suc, _+_, _-_, _*_, _^_, _≤_, _<_}
-use native.Mathlib.Numerals.{add-one}
 use native.Mathlib.Omega.{arith}
 use borrow.Author.Tests.{eqb-true}
 use lib.Count.{ones, ones-cat, ones-le}
 use lib.Dec.{eqb}
 use lib.ListN.{length, getD, take, drop}
-use lib.Seq.{drop-cons, take-add}
+use lib.Seq.{take-add}
 use Rattle.format.proofs.Sames.{and-true}
 use Rattle.holding.specs.Building.{onesIn}
-use Rattle.holding.specs.Testing.{emptyRows}
+use Rattle.holding.specs.Testing.{four, emptyRows}
+use Rattle.holding.proofs.Fours.{four-rows}
 
 -- ---- in parts
 
@@ -43,23 +43,14 @@ ones-past rows n m past e =
 
 -- ---- four at a time
 
--- a row and those behind it
-row-at : (rows : List ℕ) (a b : ℕ) → a + 1 ≡ b → a < length rows → drop a rows ≡ getD rows a 0 ∷ drop b rows
-row-at rows a b e inside = rw (← e, add-one a) (drop-cons rows a 0 inside)
-
 -- four rows of 16 bits as one number have the cells of all
 pub ones-four : (rows : List ℕ) (i : ℕ) → i + 4 ≤ length rows → ((k : ℕ) → getD rows k 0 < 2 ^ 16)
-    → ones (((getD rows (i + 3) 0 * 2 ^ 16 + getD rows (i + 2) 0) * 2 ^ 16 + getD rows (i + 1) 0) * 2 ^ 16 + getD rows i 0) ≡ onesIn (take 4 (drop i rows))
+    → ones (four (getD rows i 0) (getD rows (i + 1) 0) (getD rows (i + 2) 0) (getD rows (i + 3) 0)) ≡ onesIn (take 4 (drop i rows))
 unfolding onesIn
 ones-four rows i room small =
     let a = getD rows i 0 in
     let b = getD rows (i + 1) 0 in
     let c = getD rows (i + 2) 0 in
     let d = getD rows (i + 3) 0 in
-    rw (
-      row-at rows i (i + 1) refl (omega arith),
-      row-at rows (i + 1) (i + 2) (omega arith) (omega arith),
-      row-at rows (i + 2) (i + 3) (omega arith) (omega arith),
-      row-at rows (i + 3) (i + 4) (omega arith) (omega arith),
-    )
+    rw (four-rows rows i room)
     (omega (arith, ones-cat 16 ((d * 2 ^ 16 + c) * 2 ^ 16 + b) a (small i), ones-cat 16 (d * 2 ^ 16 + c) b (small (i + 1)), ones-cat 16 d c (small (i + 2))))

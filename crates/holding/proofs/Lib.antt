@@ -9,8 +9,11 @@ pub mod PicturedCells
 pub mod Counts
 pub mod Built
 pub mod Kths
+pub mod Tests
 pub mod Noughts
+pub mod Fours
 pub mod Fitting
+pub mod FittingFours
 pub mod SoundTested
 pub mod OneSlot
 pub mod TestedSound

@@ -1,20 +1,13 @@
--- Numbers gathered by OR, which is 0 just where each of them is; XOR is 0 just where two are the same.
+-- Numbers gathered by OR, which is 0 just where each of them is.
 -- Assumes nothing.
-use mathlib.Core.Path.{_≡_, refl, sym, ap, _∙_}
-use mathlib.Core.Bool.{Bool, true, false, _&&_}
+use mathlib.Core.Path.{_≡_, sym, ap, _∙_}
+use mathlib.Core.Bool.{Bool, _&&_}
 use Prim.Native.Nat.{ℕ, zero, suc, _<_}
 use native.Mathlib.Omega.{arith}
 use borrow.Author.Tests.{ne-eqb}
-use lib.Bits.{bitAnd, bitOr, or-zero-l, or-add-and, and-le-r}
+use lib.Bits.{bitOr, or-zero-l, or-add-and, and-le-r}
 use lib.Dec.{eqb}
-
-and-assoc : (a b c : Bool) → (a && (b && c)) ≡ ((a && b) && c)
-and-assoc false b c = refl
-and-assoc true b c = refl
-
-pub and-end : (a : Bool) → (a && true) ≡ a
-and-end false = refl
-and-end true = refl
+use Rattle.holding.proofs.Tests.{and-assoc}
 
 -- one more is gathered
 pub or-nought : (a b : ℕ) → eqb (bitOr a b) 0 ≡ (eqb a 0 && eqb b 0)

@@ -14,6 +14,7 @@ use Rattle.holding.specs.Kth.{narrow, below}
 use Rattle.holding.specs.Pictures.{sound}
 use Rattle.holding.specs.Testing.{tested}
 use Rattle.holding.proofs.SoundTested.{sound-tested}
+use Rattle.holding.proofs.Tests.{same-test}
 use Rattle.holding.proofs.TestedSound.{Shaped, tested-sound}
 
 -- the struct's lists stand there as copies of themselves
@@ -25,13 +26,6 @@ pub narrow-typed : (xs : List ℕ) → WTs (ofList (map (u16-laws .val) (map (λ
 unfolding below
 narrow-typed [] w = refl
 narrow-typed (x ∷ xs) w = true-and (lt-ltb x (2 ^ 16) (w .0 .fits)) (narrow-typed xs (w .1))
-
--- two tests each of which holds where the other does
-same-test : (a b : Bool) → (a ≡ true → b ≡ true) → (b ≡ true → a ≡ true) → a ≡ b
-same-test false false f g = refl
-same-test false true f g = g refl
-same-test true false f g = cc (f refl)
-same-test true true f g = refl
 
 pub tested-is-sound : (h : Holding) → Shaped h → tested h ≡ sound h
 tested-is-sound h shaped = same-test (tested h) (sound h) (tested-sound h shaped) (sound-tested h)

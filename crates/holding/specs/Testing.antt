@@ -1,7 +1,8 @@
--- The test of a lent holding slot by slot, as the code goes about it. proofs/Tested.antt shows that it is the test `sound` of Pictures.antt.
+-- The test of a lent holding slot by slot, as the code goes about it. proofs/Shapes.antt shows that it is the test `sound` of
+-- Pictures.antt.
 use mathlib.Core.Bool.{Bool, true, false, cond, not, _&&_}
 use mathlib.Core.List.{List, [], _∷_, _++_}
-use Prim.Native.Nat.{ℕ, zero, suc, _+_, _^_}
+use Prim.Native.Nat.{ℕ, zero, suc, _+_, _*_, _^_}
 use lib.Bits.{bitAnd}
 use lib.Count.{ones}
 use lib.Dec.{eqb, leb, ltb}
@@ -15,6 +16,10 @@ use Rattle.holding.specs.Named.{namedIn}
 -- with the cell flag a row has no signal that its system has not, without it all of them
 unfoldable pub rowFits : Bool → ℕ → ℕ → Bool
 rowFits flag signals row = eqb (cond flag (bitAnd row signals) signals) row
+
+-- four rows of 16 bits as one number, the first one lowest
+abbrev pub four : ℕ → ℕ → ℕ → ℕ → ℕ
+four a b c d = ((d * 2 ^ 16 + c) * 2 ^ 16 + b) * 2 ^ 16 + a
 
 unfoldable pub rowsFit : Bool → ℕ → List ℕ → Bool
 rowsFit flag signals [] = true

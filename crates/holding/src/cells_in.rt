@@ -1,18 +1,12 @@
 // How many cells the satellites have, by their rows: four rows are counted at a time, as one number.
 ghost use mathlib.Core.Path.{_≡_};
 ghost use mathlib.Core.Bool.{true};
-ghost use Prim.Native.Nat.{_+_, _*_, _^_, _≤_};
+ghost use Prim.Native.Nat.{_+_, _≤_};
 ghost use lib.ListN.{length, take, drop};
 ghost use Rattle.holding.specs.Building.{onesIn};
 ghost use Rattle.holding.specs.Testing.{emptyRows};
+use crate::joined::joined;
 use crate::set_places;
-
-// Four rows as one number, the first one lowest: LLVM makes it one load where they are neighbours.
-fn joined(a: u16, b: u16, c: u16, d: u16) -> u64
-    ensures { λ r. ⌜ r ≡ ((d * 2 ^ 16 + c) * 2 ^ 16 + b) * 2 ^ 16 + a ⌝ }
-{
-    (((d as u64) * 0x1_0000 + (c as u64)) * 0x1_0000 + (b as u64)) * 0x1_0000 + (a as u64)
-}
 
 // The cells of four satellites from one on.
 fn cells_of_four(rows: &[u16], i: usize) -> usize

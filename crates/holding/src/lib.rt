@@ -1,8 +1,10 @@
 // The held mask, by value.
 pub mod assigned;
 pub mod cells_in;
+pub mod joined;
 pub mod kth;
 pub mod named;
+pub mod rows_fit;
 pub mod set_places;
 pub mod testing;
 

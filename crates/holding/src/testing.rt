@@ -6,11 +6,12 @@ ghost use Prim.Native.Nat.{_-_, _≤_, _<_};
 ghost use lib.Dec.{eqb, leb, ltb};
 ghost use lib.ListN.{length, getD, take, drop};
 ghost use Rattle.holding.specs.Building.{onesIn};
-ghost use Rattle.holding.specs.Testing.{rowFits, rowsFit, masksFit, slotFits, emptySlots, emptyRows, slotsFit};
+ghost use Rattle.holding.specs.Testing.{masksFit, slotFits, emptySlots, emptyRows, slotsFit};
 use crate::Holding;
 use crate::assigned;
 use crate::cells_in;
 use crate::named;
+use crate::rows_fit;
 use crate::set_places;
 
 // Whether the issue is one: of 4 bits where a mask is held, and none, without a system, where nothing is.
@@ -24,32 +25,6 @@ pub fn issue_fits(held: bool, iod: u8, count: usize) -> bool
         return false;
     }
     count == 0
-}
-
-// Whether a row has the signals that the system's flag lets it have.
-fn row_fits(flag: bool, signals: u16, row: u16) -> bool
-    ensures { λ r. ⌜ r ≡ rowFits flag signals row ⌝ }
-{
-    if flag {
-        row & signals == row
-    } else {
-        signals == row
-    }
-}
-
-// The same of the rows from one on, up to another that is not among them.
-fn rows_fit(rows: &[u16], from: usize, to: usize, signals: u16, flag: bool) -> bool
-    requires { ⌜ (from ≤ to) × (to ≤ length (now rows)) ⌝ }
-    ensures { λ r. ⌜ r ≡ rowsFit flag signals (take (to - from) (drop from (now (rows .entry)))) ⌝ }
-{
-    let mut i = from;
-    while i < to {
-        if !row_fits(flag, signals, rows[i]) {
-            return false;
-        }
-        i += 1;
-    }
-    true
 }
 
 // Whether a slot's masks fit after n satellites.
@@ -138,7 +113,7 @@ fn slot_fits(
         return false;
     }
     let to = n + set_places::count(satellites);
-    rows_fit(rows, n, to, signals, flag)
+    rows_fit::rows_fit(rows, n, to, signals, flag)
 }
 
 // Whether the cells of n satellites, behind whose rows none is used, are that many and no more than 256.

@@ -1,11 +1,9 @@
 -- `holding::cells_in::cells_in` meets its contract. The loop's invariant: the cells of the rows passed, four each time.
 -- Assumes nothing.
-use mathlib.Core.Path.{_≡_, refl, sym, ap, _∙_}
+use mathlib.Core.Path.{_≡_, refl, ap, _∙_}
 use Prim.Native.Nat.{ℕ, _+_, _-_, _*_, _≤_}
 use native.Mathlib.Omega.{arith}
-use borrow.Author.Needs.{needs}
-use lib.Count.{ones-le}
-use lib.ListN.{take, drop}
+use lib.ListN.{take}
 use Rattle.holding.specs.Building.{onesIn}
 use Rattle.holding.proofs.Counts.{ones-part, ones-past}
 use Rattle.holding.proofs.cells_in.cells_in.Statement.{statement}

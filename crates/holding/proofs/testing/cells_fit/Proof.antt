@@ -1,5 +1,4 @@
 -- `holding::testing::cells_fit` meets its contract. Assumes nothing.
-use mathlib.Core.Path.{sym, ap, _∙_}
 use borrow.Author.Needs.{needs}
 use borrow.Author.Tests.{le-leb, lt-leb}
 use Rattle.holding.proofs.testing.cells_fit.Statement.{statement}

@@ -11,7 +11,8 @@ use lib.Dec.{eqb}
 use lib.ListN.{length, getD, drop, drop-of-length-le}
 use Rattle.holding.specs.Testing.{emptyRows}
 use Rattle.holding.proofs.Fitting.{empty-row}
-use Rattle.holding.proofs.Noughts.{gather, and-end}
+use Rattle.holding.proofs.Noughts.{gather}
+use Rattle.holding.proofs.Tests.{and-end}
 use Rattle.holding.proofs.testing.rows_empty.Statement.{statement}
 use Rattle.holding.proofs.testing.rows_empty.Tie as tie
 

@@ -1,4 +1,4 @@
--- `holding::testing::rows_fit` meets its contract. The loop's invariant: the rows fit from the first on just if they do from the i-th on.
+-- `holding::rows_fit::each_fits` meets its contract. The loop's invariant: the rows fit from the first on just if they do from the i-th on.
 -- Assumes nothing.
 use mathlib.Core.Path.{_≡_, refl, sym, _∙_}
 use Prim.Native.Nat.{ℕ, _-_, _≤_}
@@ -10,8 +10,8 @@ use borrow.Author.Tests.{not-true, not-false}
 use lib.ListN.{take, drop}
 use Rattle.holding.specs.Testing.{rowsFit}
 use Rattle.holding.proofs.Fitting.{row-fit}
-use Rattle.holding.proofs.testing.rows_fit.Statement.{statement}
-use Rattle.holding.proofs.testing.rows_fit.Tie as tie
+use Rattle.holding.proofs.rows_fit.each_fits.Statement.{statement}
+use Rattle.holding.proofs.rows_fit.each_fits.Tie as tie
 
 abbrev Inv-loop : tie.InvT-loop
 Inv-loop rows from to signals flag i₀ i =
@@ -43,8 +43,8 @@ returns-2 c =
     let all : c .before .loop .i ≡ x .to = omega arith in
     sym (c .before .loop .inv .1 ∙ rw (all, sub-self))
 
-pub rows-fit-spec : {M : Type 1} → statement M
-rows-fit-spec =
+pub each-fits-spec : {M : Type 1} → statement M
+each-fits-spec =
     tie.close
     (tie.spec
     Inv-loop
@@ -52,6 +52,7 @@ rows-fit-spec =
     (λ c. (omega arith, refl))
     (λ c. search needs)
     (λ c. search needs)
+    (λ c. omega (arith, c .shared-slice-known2 .given (c .before .before .loop .i)))
     (λ c κs. search needs)
     returns
     (λ c. omega arith)

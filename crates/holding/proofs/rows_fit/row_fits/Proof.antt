@@ -1,8 +1,8 @@
--- `holding::testing::row_fits` meets its contract.
+-- `holding::rows_fit::row_fits` meets its contract.
 -- Assumes nothing.
 use Rattle.holding.specs.Testing.{rowFits}
-use Rattle.holding.proofs.testing.row_fits.Statement.{statement}
-use Rattle.holding.proofs.testing.row_fits.Tie as tie
+use Rattle.holding.proofs.rows_fit.row_fits.Statement.{statement}
+use Rattle.holding.proofs.rows_fit.row_fits.Tie as tie
 
 returns : tie.Need-returns
 unfolding rowFits
