@@ -101,29 +101,7 @@ returns-5 c =
 pub slots-fit-spec : {M : Type 1} → statement M
 slots-fit-spec =
     tie.close
-    (tie.spec
-    Inv-loop
-    μ-loop
-    (λ c. (omega arith, omega arith, omega arith, rw sub-zero))
-    (λ c. search needs)
-    (λ c. search needs)
-    (λ c. search needs)
-    (λ c. search needs)
-    (λ c. search needs)
-    (λ c κs. search needs)
-    returns
-    (λ c. search needs)
-    (λ c. search needs)
-    (λ c κs. search needs)
-    add-to
-    cells-in-requires
-    add-c
-    (λ c. omega arith)
-    (λ c. omega arith)
-    loop-again
-    returns-2
-    returns-3
-    (λ c κs. search needs)
-    returns-4
-    (λ c κs. search needs)
-    returns-5)
+    (tie.spec Inv-loop μ-loop (λ c. (omega arith, omega arith, omega arith, rw sub-zero)) (λ c. search needs) (λ c. search needs) (λ c. search needs)
+    (λ c. search needs) (λ c. search needs) (λ c κs. search needs) returns (λ c. search needs) (λ c. search needs) (λ c κs. search needs) add-to
+    cells-in-requires add-c (λ c. omega arith) (λ c. omega arith) loop-again returns-2 returns-3 (λ c κs. search needs) returns-4
+    (λ c κs. search needs) returns-5)
