@@ -3,9 +3,12 @@ use mathlib.Core.Bool.{Bool, true, false, cond, _&&_}
 use mathlib.Core.List.{List, [], _∷_, _++_, map}
 use Prim.Native.Nat.{ℕ}
 use lib.Dec.{eqb, leb}
-use lib.ListN.{length, getD, take, drop, replicate}
+use lib.ListN.{length, getD, take, drop}
 use Rattle.bits.specs.BitLists.{digit}
+use Rattle.format.specs.Masks.{nothing}
 use Rattle.holding.specs.declared.Holding.{Holding}
+use Rattle.holding.specs.Building.{withSystem}
+use Rattle.holding.specs.Pictures.{pictureOf}
 use Rattle.passing.specs.Bytes.{little, littles, parts, partsOf}
 
 abbrev pub size : ℕ
@@ -40,21 +43,9 @@ said bs =
       ncell = little 2 (drop 4 bs);
     }
 
--- a value of the struct that is no holding: nothing held, under an issue
+-- a value of the struct that is no holding: a system where no mask is held
 unfoldable pub stray : Holding
-stray =
-    record {
-      held = false;
-      iod = 1;
-      count = 0;
-      ids = replicate 5 0;
-      satellites = replicate 5 0;
-      signals = replicate 5 0;
-      flags = replicate 5 false;
-      cells = replicate 64 0;
-      nsat = 0;
-      ncell = 0;
-    }
+stray = withSystem (pictureOf nothing) 0 0 0 false
 
 -- what lent bytes say: other bytes say no holding
 unfoldable pub holdingIn : List ℕ → Holding

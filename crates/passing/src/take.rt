@@ -46,22 +46,11 @@ fn rows(bytes: &[u8]) -> [u16; 64]
     cells
 }
 
-// A value of the struct that is no holding.
+// A value of the struct that is no holding: a system where no mask is held.
 fn stray() -> Holding
     ensures { λ r. ⌜ r ≡ stray ⌝ }
 {
-    Holding {
-        held: false,
-        iod: 1,
-        count: 0,
-        ids: [0; 5],
-        satellites: [0; 5],
-        signals: [0; 5],
-        flags: [false; 5],
-        cells: [0; 64],
-        nsat: 0,
-        ncell: 0,
-    }
+    Holding::empty().with_system(0, 0, 0, false)
 }
 
 // Whether the bytes that stand for a truth are 0 or 1.

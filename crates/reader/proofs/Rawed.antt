@@ -1,17 +1,33 @@
--- The raw part of a stop: an empty part, which is the same at every place. Assumes nothing.
+-- The raw part of an answer: a stop's is empty, a message's reaches from its first bit to its last. Assumes nothing.
 use mathlib.Core.Path.{_≡_, refl}
+use mathlib.Core.Bool.{Bool, true, false, cond}
 use mathlib.Core.List.{List}
-use Prim.Native.Nat.{ℕ, suc}
+use Prim.Native.Nat.{ℕ, suc, _+_, _-_, _*_, _≤_}
 use native.Mathlib.Nat.{le-refl}
 use native.Mathlib.Omega.{arith}
-use borrow.Author.Tests.{le-ltb}
+use lib.Dec.{leb}
+use lib.IntN.{ℤ}
+use lib.ListN.{length}
+use borrow.Author.Tests.{le-ltb, le-leb}
 use denote.Enum.Declared.{tagOf}
 use denote.Ref.{RefT}
 use Rattle.bits.specs.Parts.{startOf, countOf, partOf, IsPart}
 use Rattle.format.specs.declared.Answer.{Answer}
 use Rattle.format.specs.declared.Answer.the-variants as Answers
+use Rattle.format.specs.declared.Refusal.the-variants.{Room, Place}
+use Rattle.format.specs.Masks.{Held}
+use Rattle.format.specs.Reading.{Outcome, refused, bitsFrom, placed, reading, rawEnd, answerOf}
+use Rattle.format.specs.Table.{message}
 use Rattle.format.proofs.Answer.{the-type}
-use Rattle.reader.specs.Readings.{rawTo}
+use Rattle.format.proofs.Placed.{length-from}
+use Rattle.format.proofs.Runs.{taken-le}
+use Rattle.format.proofs.Stops.{reading-ends}
+use Rattle.holding.specs.declared.Holding.{Holding}
+use Rattle.holding.specs.Pictures.{maskOf, sound}
+use Rattle.reader.specs.Readings.{outcomeAt, rawTo}
+use Rattle.reader.proofs.Outcomes.{Inside, inside}
+
+-- ---- an empty part is the same at every place
 
 pub empty-part : (whole part : RefT (List ℕ)) (n : ℕ) → IsPart whole part 0 0 → IsPart whole part n n
 unfolding partOf startOf countOf
@@ -28,3 +44,43 @@ unfolding rawTo
 not-message bs start (Answers.Message h next rows) k e = absurd (omega arith)
 not-message bs start Answers.Idle k e = refl
 not-message bs start (Answers.Refused r) k e = refl
+
+-- ---- an answer of the reader's own
+
+-- a message that was read lies in its stretch
+in-stretch : (bs : List ℕ) (end start taken : ℕ) → Inside bs end start → taken ≤ end - start → placed bs (start + taken) start ≡ true
+unfolding placed
+in-stretch bs end start taken known few =
+    rw (
+      le-leb (start + taken) 50850 (omega (arith, known .limit, known .there)),
+      le-leb (start + taken) (8 * length bs) (omega (arith, known .lent, known .there)),
+      le-leb start (start + taken) (omega arith),
+    )
+
+-- so its raw part is from its first bit to its last, and a stop's is empty
+abbrev Raw : List ℕ → ℕ → Outcome → Type 0
+Raw bs start o = rawTo bs start (answerOf o) ≡ rawEnd o start
+
+outside : (sound : Bool) (held : Held) (bs : List ℕ) (end start : ℕ) (rows : List ℤ) → placed bs end start ≡ false → Raw bs start (reading sound held bs end start rows)
+unfolding reading rawTo answerOf rawEnd
+outside sound held bs end start rows e = rw e (go (leb 2048 (length rows)))
+  where
+    go : (b : Bool) → Raw bs start (cond b (refused Place 0 held) (refused Room 0 held))
+    go true = refl
+    go false = refl
+
+within : (sound : Bool) (held : Held) (bs : List ℕ) (end start : ℕ) (rows : List ℤ) → Inside bs end start → Raw bs start (reading sound held bs end start rows)
+unfolding rawTo answerOf rawEnd
+within sound held bs end start rows known =
+    reading-ends (Raw bs start) held (λ r missing. refl) sound bs end start rows refl
+    (λ m taken e.
+    let few = taken-le (message held) (bitsFrom bs end start) m taken e in
+    rw (in-stretch bs end start taken known (omega (arith, few, length-from bs end (known .lent) start))))
+
+pub raw-read : (h : Holding) (bs : List ℕ) (end start : ℕ) (rows : List ℤ) → Raw bs start (outcomeAt h bs end start rows)
+unfolding outcomeAt
+raw-read h bs end start rows = go (placed bs end start) refl
+  where
+    go : (b : Bool) → placed bs end start ≡ b → Raw bs start (reading (sound h) (maskOf h) bs end start rows)
+    go true e = within (sound h) (maskOf h) bs end start rows (inside bs end start e)
+    go false e = outside (sound h) (maskOf h) bs end start rows e

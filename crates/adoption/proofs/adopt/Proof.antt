@@ -31,11 +31,4 @@ returns-2 c =
 pub adopt-spec : {M : Type 1} → statement M
 adopt-spec =
     tie.close
-    (tie.spec
-    (λ c κs. search needs)
-    (λ c. search needs)
-    (λ c. search needs)
-    (λ c. search needs)
-    after-head-requires
-    returns
-    returns-2)
+    (tie.spec (λ c κs. search needs) (λ c. search needs) (λ c. search needs) (λ c. search needs) after-head-requires returns returns-2)

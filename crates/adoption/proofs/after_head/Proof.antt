@@ -92,18 +92,5 @@ returns-3 c =
 pub after-head-spec : {M : Type 1} → statement M
 after-head-spec =
     tie.close
-    (tie.spec
-    (λ c. search needs)
-    (λ c. search needs)
-    returns
-    (λ c κs. search needs)
-    (λ c. search needs)
-    (λ c κs. search needs)
-    (λ c. search needs)
-    all-systems-requires
-    (λ c. search needs)
-    (λ c. search needs)
-    cast-head
-    (λ c κs. search needs)
-    returns-2
-    returns-3)
+    (tie.spec (λ c. search needs) (λ c. search needs) returns (λ c κs. search needs) (λ c. search needs) (λ c κs. search needs) (λ c. search needs)
+    all-systems-requires (λ c. search needs) (λ c. search needs) cast-head (λ c κs. search needs) returns-2 returns-3)

@@ -67,28 +67,13 @@ returns-6 c =
 pub size-spec : {M : Type 1} → statement M
 size-spec =
     tie.close
-    (tie.spec
-    (λ c. search needs)
-    (λ c. let s = c .before .before .before .before in counted (s .args .h) (s .pre .0))
-    (λ c. let s = c .before .before .before .before .before in prefix (s .args .h) (s .pre .0))
-    (λ c. search needs)
-    size-requires
-    (λ c. search needs)
-    (λ c. let s = c .before .before .before .before .before in omega (arith, few-held (s .args .h) (s .pre .0)))
-    (λ c. search needs)
-    (λ c. let s = c .before .before .before .before .before in omega (arith, few-held (s .args .h) (s .pre .0)))
-    (λ c. search needs)
-    (λ c. let s = c .before .before .before .before .before in omega (arith, few-held (s .args .h) (s .pre .0)))
-    (λ c. search needs)
+    (tie.spec (λ c. search needs) (λ c. let s = c .before .before .before .before in counted (s .args .h) (s .pre .0))
+    (λ c. let s = c .before .before .before .before .before in prefix (s .args .h) (s .pre .0)) (λ c. search needs) size-requires (λ c. search needs)
+    (λ c. let s = c .before .before .before .before .before in omega (arith, few-held (s .args .h) (s .pre .0))) (λ c. search needs)
+    (λ c. let s = c .before .before .before .before .before in omega (arith, few-held (s .args .h) (s .pre .0))) (λ c. search needs)
+    (λ c. let s = c .before .before .before .before .before in omega (arith, few-held (s .args .h) (s .pre .0))) (λ c. search needs)
     (λ c. let s = c .before .before .before .before .before in counted (s .args .h) (s .pre .0))
-    (λ c. let s = c .before .before .before .before .before .before in prefix (s .args .h) (s .pre .0))
+    (λ c. let s = c .before .before .before .before .before .before in prefix (s .args .h) (s .pre .0)) (λ c. search needs) size-requires-2
     (λ c. search needs)
-    size-requires-2
-    (λ c. search needs)
-    (λ c. let s = c .before .before .before .before .before in omega (arith, few-parts _ _ (c .before .lines2 .given .1) (s .pre .1)))
-    returns
-    returns-2
-    returns-3
-    returns-4
-    returns-5
-    returns-6)
+    (λ c. let s = c .before .before .before .before .before in omega (arith, few-parts _ _ (c .before .lines2 .given .1) (s .pre .1))) returns
+    returns-2 returns-3 returns-4 returns-5 returns-6)

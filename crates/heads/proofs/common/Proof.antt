@@ -34,11 +34,4 @@ returns-2 c =
 pub common-spec : {M : Type 1} → statement M
 common-spec =
     tie.close
-    (tie.spec
-    (λ c. search needs)
-    (λ c. search needs)
-    (λ c κs. search needs)
-    returns
-    (λ c. search needs)
-    (λ c κs. search needs)
-    returns-2)
+    (tie.spec (λ c. search needs) (λ c. search needs) (λ c κs. search needs) returns (λ c. search needs) (λ c κs. search needs) returns-2)

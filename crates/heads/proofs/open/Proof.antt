@@ -41,14 +41,5 @@ returns-4 c =
 pub open-spec : {M : Type 1} → statement M
 open-spec =
     tie.close
-    (tie.spec
-    (λ c. search needs)
-    (λ c. search needs)
-    returns
-    (λ c κs. search needs)
-    returns-2
-    (λ c. search needs)
-    returns-3
-    (λ c. search needs)
-    (λ c κs. search needs)
-    returns-4)
+    (tie.spec (λ c. search needs) (λ c. search needs) returns (λ c κs. search needs) returns-2 (λ c. search needs) returns-3 (λ c. search needs)
+    (λ c κs. search needs) returns-4)

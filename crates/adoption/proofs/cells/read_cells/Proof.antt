@@ -119,20 +119,6 @@ returns-4 c =
 pub read-cells-spec : {M : Type 1} → statement M
 read-cells-spec =
     tie.close
-    (tie.spec
-    returns
-    (λ c κs. search needs)
-    (λ c. search needs)
-    (λ c κs. search needs)
-    all-rows-requires
-    settle-requires
-    returns-2
-    (λ c κs. search needs)
-    mul-width
-    (λ c. search needs)
-    (λ c. search needs)
-    returns-3
-    cell-rows-requires
-    (λ c. search needs)
-    settle-requires-2
+    (tie.spec returns (λ c κs. search needs) (λ c. search needs) (λ c κs. search needs) all-rows-requires settle-requires returns-2
+    (λ c κs. search needs) mul-width (λ c. search needs) (λ c. search needs) returns-3 cell-rows-requires (λ c. search needs) settle-requires-2
     returns-4)

@@ -65,14 +65,5 @@ returns-4 c =
 pub read-id-spec : {M : Type 1} → statement M
 read-id-spec =
     tie.close
-    (tie.spec
-    (λ c. search needs)
-    (λ c. search needs)
-    returns
-    (λ c κs. search needs)
-    cast-id
-    returns-2
-    (λ c κs. search needs)
-    returns-3
-    (λ c. search needs)
-    returns-4)
+    (tie.spec (λ c. search needs) (λ c. search needs) returns (λ c κs. search needs) cast-id returns-2 (λ c κs. search needs) returns-3
+    (λ c. search needs) returns-4)

@@ -119,22 +119,6 @@ returns-6 c =
 pub read-masks-spec : {M : Type 1} → statement M
 read-masks-spec =
     tie.close
-    (tie.spec
-    (λ c. search needs)
-    (λ c. search needs)
-    returns
-    (λ c κs. search needs)
-    satellites-assigned-requires
-    returns-2
-    (λ c κs. search needs)
-    (λ c. omega (arith, few c))
-    returns-3
-    (λ c. search needs)
-    returns-4
-    (λ c. search needs)
-    (λ c κs. search needs)
-    signals-assigned-requires
-    returns-5
-    cast-t20
-    (λ c. search needs)
-    returns-6)
+    (tie.spec (λ c. search needs) (λ c. search needs) returns (λ c κs. search needs) satellites-assigned-requires returns-2 (λ c κs. search needs)
+    (λ c. omega (arith, few c)) returns-3 (λ c. search needs) returns-4 (λ c. search needs) (λ c κs. search needs) signals-assigned-requires returns-5
+    cast-t20 (λ c. search needs) returns-6)

@@ -119,15 +119,5 @@ returns-3 c = c .read-cells .ensures ∙ sym (fine (after (c .before) .before) .
 pub one-system-spec : {M : Type 1} → statement M
 one-system-spec =
     tie.close
-    (tie.spec
-    (λ c. search needs)
-    read-id-requires
-    (λ c. search needs)
-    (λ c. search needs)
-    read-masks-requires
-    (λ c. search needs)
-    (λ c. search needs)
-    read-cells-requires
-    returns
-    returns-2
-    returns-3)
+    (tie.spec (λ c. search needs) read-id-requires (λ c. search needs) (λ c. search needs) read-masks-requires (λ c. search needs) (λ c. search needs)
+    read-cells-requires returns returns-2 returns-3)

@@ -137,24 +137,6 @@ returns c =
 pub satellite-spec : {M : Type 1} → statement M
 satellite-spec =
     tie.close
-    (tie.spec
-    Inv-loop
-    μ-loop
-    (λ c. search needs)
-    cast-satellite
-    add-width
-    loop-holds
-    (λ c κs. search needs)
-    (λ c. record { sfits = omega (arith, next c .0, c .first .ensures) })
-    add-e
-    (λ c. omega (arith, room c))
-    (λ c. omega arith)
-    (λ c. search needs)
-    (λ c. room c)
-    slim-requires
-    (λ c κs. search needs)
-    add-place
-    loop-less
-    loop-again
-    (λ c. c .before .loop .inv .1 .same)
-    returns)
+    (tie.spec Inv-loop μ-loop (λ c. search needs) cast-satellite add-width loop-holds (λ c κs. search needs)
+    (λ c. record { sfits = omega (arith, next c .0, c .first .ensures) }) add-e (λ c. omega (arith, room c)) (λ c. omega arith) (λ c. search needs)
+    (λ c. room c) slim-requires (λ c κs. search needs) add-place loop-less loop-again (λ c. c .before .loop .inv .1 .same) returns)

@@ -125,27 +125,8 @@ returns c =
 pub write-spec : {M : Type 1} → statement M
 write-spec =
     tie.close
-    (tie.spec
-    Inv-loop
-    μ-loop
-    loop-holds
-    (λ c. search needs)
-    (λ c. omega (arith, inside (c .before)))
-    (λ c. inside (c .before .before))
-    (λ c. omega (arith, counts (c .before .before) _ refl .1))
-    (λ c. omega (arith, counts (c .before .before) _ refl .1))
-    (λ c. omega (arith, counts (c .before .before) _ refl .1))
-    (λ c. search needs)
-    (λ c. omega (arith, start (c .before .before .before)))
-    (λ c. start (c .before .before .before))
-    (λ c. start (c .before .before .before))
-    (λ c. search needs)
-    slot-requires
-    (λ c κs. search needs)
-    add-n
-    add-k
-    (λ c. omega arith)
-    (λ c. omega arith)
-    loop-again
-    (λ c. c .before .loop .inv .1 .same)
-    returns)
+    (tie.spec Inv-loop μ-loop loop-holds (λ c. search needs) (λ c. omega (arith, inside (c .before))) (λ c. inside (c .before .before))
+    (λ c. omega (arith, counts (c .before .before) _ refl .1)) (λ c. omega (arith, counts (c .before .before) _ refl .1))
+    (λ c. omega (arith, counts (c .before .before) _ refl .1)) (λ c. search needs) (λ c. omega (arith, start (c .before .before .before)))
+    (λ c. start (c .before .before .before)) (λ c. start (c .before .before .before)) (λ c. search needs) slot-requires (λ c κs. search needs) add-n
+    add-k (λ c. omega arith) (λ c. omega arith) loop-again (λ c. c .before .loop .inv .1 .same) returns)

@@ -13,11 +13,6 @@ write-requires c κs =
 pub by-cells-spec : {M : Type 1} → statement M
 by-cells-spec =
     tie.close
-    (tie.spec
-    (λ c. let s = c .before .before .before .before in counted (s .args .h) (s .pre .0))
-    (λ c. let s = c .before .before .before .before .before in prefix (s .args .h) (s .pre .0))
-    (λ c. search needs)
-    (λ c. search needs)
-    write-requires
-    (λ c. search needs)
-    (λ c. search needs))
+    (tie.spec (λ c. let s = c .before .before .before .before in counted (s .args .h) (s .pre .0))
+    (λ c. let s = c .before .before .before .before .before in prefix (s .args .h) (s .pre .0)) (λ c. search needs) (λ c. search needs) write-requires
+    (λ c. search needs) (λ c. search needs))

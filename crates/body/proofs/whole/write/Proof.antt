@@ -71,30 +71,7 @@ returns-6 c =
 pub write-spec : {M : Type 1} → statement M
 write-spec =
     tie.close
-    (tie.spec
-    (λ c. search needs)
-    by-satellites-requires
-    (λ c. search needs)
-    by-satellites-requires-2
-    (λ c. search needs)
-    (λ c κs. search needs)
-    by-cells-requires
-    (λ c. search needs)
-    (λ c κs. search needs)
-    by-cells-requires-2
-    (λ c. search needs)
-    by-satellites-requires-3
-    (λ c. search needs)
-    write-requires
-    (λ c. search needs)
-    returns
-    (λ c. search needs)
-    returns-2
-    (λ c. search needs)
-    returns-3
-    (λ c. search needs)
-    returns-4
-    (λ c. search needs)
-    returns-5
-    (λ c. search needs)
-    returns-6)
+    (tie.spec (λ c. search needs) by-satellites-requires (λ c. search needs) by-satellites-requires-2 (λ c. search needs) (λ c κs. search needs)
+    by-cells-requires (λ c. search needs) (λ c κs. search needs) by-cells-requires-2 (λ c. search needs) by-satellites-requires-3 (λ c. search needs)
+    write-requires (λ c. search needs) returns (λ c. search needs) returns-2 (λ c. search needs) returns-3 (λ c. search needs) returns-4
+    (λ c. search needs) returns-5 (λ c. search needs) returns-6)

@@ -70,19 +70,5 @@ returns-3 c =
 pub combined-spec : {M : Type 1} → statement M
 combined-spec =
     tie.close
-    (tie.spec
-    (λ c. search needs)
-    returns
-    (λ c κs. search needs)
-    (λ c. search needs)
-    (λ c κs. search needs)
-    (λ c. search needs)
-    (λ c κs. search needs)
-    (λ c. search needs)
-    selection-requires
-    returns-2
-    cast-head
-    cast-head-2
-    (λ c κs. search needs)
-    (λ c. search needs)
-    returns-3)
+    (tie.spec (λ c. search needs) returns (λ c κs. search needs) (λ c. search needs) (λ c κs. search needs) (λ c. search needs) (λ c κs. search needs)
+    (λ c. search needs) selection-requires returns-2 cast-head cast-head-2 (λ c κs. search needs) (λ c. search needs) returns-3)

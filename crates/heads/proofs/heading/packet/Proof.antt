@@ -61,18 +61,5 @@ returns-2 c =
 pub packet-spec : {M : Type 1} → statement M
 packet-spec =
     tie.close
-    (tie.spec
-    (λ c. search needs)
-    (λ c κs. search needs)
-    returns
-    (λ c κs. search needs)
-    (λ c. search needs)
-    (λ c κs. search needs)
-    (λ c. search needs)
-    (λ c κs. search needs)
-    cast-t13
-    cast-t14
-    cast-t15
-    add-t16
-    (λ c. search needs)
-    returns-2)
+    (tie.spec (λ c. search needs) (λ c κs. search needs) returns (λ c κs. search needs) (λ c. search needs) (λ c κs. search needs) (λ c. search needs)
+    (λ c κs. search needs) cast-t13 cast-t14 cast-t15 add-t16 (λ c. search needs) returns-2)

@@ -55,18 +55,5 @@ returns-3 c =
 pub rows-fit-spec : {M : Type 1} → statement M
 rows-fit-spec =
     tie.close
-    (tie.spec
-    Inv-loop
-    μ-loop
-    (λ c. omega arith)
-    (λ c κs. search needs)
-    (λ c. c .each-fits .ensures)
-    (λ c. omega arith)
-    loop-holds
-    (λ c κs. omega arith)
-    returns-2
-    (λ c. omega arith)
-    (λ c. omega arith)
-    loop-again
-    (λ c κs. omega arith)
-    returns-3)
+    (tie.spec Inv-loop μ-loop (λ c. omega arith) (λ c κs. search needs) (λ c. c .each-fits .ensures) (λ c. omega arith) loop-holds
+    (λ c κs. omega arith) returns-2 (λ c. omega arith) (λ c. omega arith) loop-again (λ c κs. omega arith) returns-3)

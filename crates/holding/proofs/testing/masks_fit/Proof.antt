@@ -45,12 +45,4 @@ returns-4 c =
 pub masks-fit-spec : {M : Type 1} → statement M
 masks-fit-spec =
     tie.close
-    (tie.spec
-    returns
-    (λ c κs. search needs)
-    returns-2
-    (λ c κs. search needs)
-    add-if3
-    returns-3
-    (λ c κs. search needs)
-    returns-4)
+    (tie.spec returns (λ c κs. search needs) returns-2 (λ c κs. search needs) add-if3 returns-3 (λ c κs. search needs) returns-4)

@@ -40,13 +40,5 @@ returns c =
 pub rows-empty-spec : {M : Type 1} → statement M
 rows-empty-spec =
     tie.close
-    (tie.spec
-    Inv-loop
-    μ-loop
-    (λ c. (omega arith, refl))
-    (λ c. search needs)
-    (λ c. omega arith)
-    (λ c. omega arith)
-    (λ c. omega arith)
-    loop-again
+    (tie.spec Inv-loop μ-loop (λ c. (omega arith, refl)) (λ c. search needs) (λ c. omega arith) (λ c. omega arith) (λ c. omega arith) loop-again
     returns)

@@ -57,15 +57,5 @@ returns-4 c =
 pub slot-fits-spec : {M : Type 1} → statement M
 slot-fits-spec =
     tie.close
-    (tie.spec
-    (λ c. search needs)
-    returns
-    (λ c κs. search needs)
-    returns-2
-    (λ c. search needs)
-    (λ c κs. search needs)
-    returns-3
-    (λ c κs. search needs)
-    add-to
-    rows-fit-requires
-    returns-4)
+    (tie.spec (λ c. search needs) returns (λ c κs. search needs) returns-2 (λ c. search needs) (λ c κs. search needs) returns-3 (λ c κs. search needs)
+    add-to rows-fit-requires returns-4)

@@ -108,28 +108,7 @@ cells-fit-requires c κs = (omega arith, omega arith, sym (c .before .rows-empty
 pub slots-fit-spec : {M : Type 1} → statement M
 slots-fit-spec =
     tie.close
-    (tie.spec
-    Inv-loop
-    μ-loop
-    loop-holds
-    (λ c. search needs)
-    (λ c. search needs)
-    (λ c. search needs)
-    (λ c. search needs)
-    (λ c. search needs)
-    (λ c κs. search needs)
-    returns
-    (λ c. search needs)
-    (λ c. search needs)
-    (λ c κs. search needs)
-    (λ c. omega (arith, few (c .before .before), c .count .ensures))
-    (λ c. omega arith)
-    (λ c. omega arith)
-    loop-again
-    returns-2
-    (λ c κs. search needs)
-    returns-3
-    (λ c κs. search needs)
-    returns-4
-    cells-fit-requires
-    returns-5)
+    (tie.spec Inv-loop μ-loop loop-holds (λ c. search needs) (λ c. search needs) (λ c. search needs) (λ c. search needs) (λ c. search needs)
+    (λ c κs. search needs) returns (λ c. search needs) (λ c. search needs) (λ c κs. search needs)
+    (λ c. omega (arith, few (c .before .before), c .count .ensures)) (λ c. omega arith) (λ c. omega arith) loop-again returns-2 (λ c κs. search needs)
+    returns-3 (λ c κs. search needs) returns-4 cells-fit-requires returns-5)

@@ -17,10 +17,4 @@ returns c = ap (λ (l : List ℕ). map truth l) (sym (five 0 (c .before .before 
 pub flags-spec : {M : Type 1} → statement M
 flags-spec =
     tie.close
-    (tie.spec
-    (λ c. search needs)
-    (λ c. search needs)
-    (λ c. search needs)
-    (λ c. search needs)
-    (λ c. search needs)
-    returns)
+    (tie.spec (λ c. search needs) (λ c. search needs) (λ c. search needs) (λ c. search needs) (λ c. search needs) returns)

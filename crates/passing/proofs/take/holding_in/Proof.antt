@@ -38,14 +38,5 @@ returns-4 c =
 pub holding-in-spec : {M : Type 1} → statement M
 holding-in-spec =
     tie.close
-    (tie.spec
-    (λ c κs. search needs)
-    returns
-    (λ c. search needs)
-    (λ c κs. search needs)
-    returns-2
-    (λ c κs. search needs)
-    (λ c κs. search needs)
-    returns-3
-    (λ c κs. search needs)
-    returns-4)
+    (tie.spec (λ c κs. search needs) returns (λ c. search needs) (λ c κs. search needs) returns-2 (λ c κs. search needs) (λ c κs. search needs)
+    returns-3 (λ c κs. search needs) returns-4)

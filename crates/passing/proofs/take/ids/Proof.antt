@@ -13,10 +13,4 @@ returns c = sym (five 0 (c .before .before .before .before .before .args .bytes 
 pub ids-spec : {M : Type 1} → statement M
 ids-spec =
     tie.close
-    (tie.spec
-    (λ c. search needs)
-    (λ c. search needs)
-    (λ c. search needs)
-    (λ c. search needs)
-    (λ c. search needs)
-    returns)
+    (tie.spec (λ c. search needs) (λ c. search needs) (λ c. search needs) (λ c. search needs) (λ c. search needs) returns)

@@ -1,14 +1,26 @@
 -- `passing::take::stray` meets its contract.
 -- Assumes nothing.
-use mathlib.Core.Path.{refl}
+use mathlib.Core.Path.{_∙_, ap}
+use borrow.Author.Needs.{needs}
+use mathlib.Core.Bool.{false}
+use native.Mathlib.Omega.{arith}
+use Rattle.holding.specs.declared.Holding.{Holding}
+use Rattle.holding.specs.Building.{withSystem}
+use Rattle.holding.specs.Pictures.{pictureOf}
 use Rattle.passing.specs.Passing.{stray}
 use Rattle.passing.proofs.take.stray.Statement.{statement}
 use Rattle.passing.proofs.take.stray.Tie as tie
 
+with-system-requires : tie.Need-with-system-requires
+unfolding pictureOf
+with-system-requires c κs = rw (c .empty .ensures) (omega arith)
+
 returns : tie.Need-returns
 unfolding stray
-returns c = refl
+returns c = c .with-system .ensures ∙ ap (λ (h : Holding). withSystem h 0 0 0 false) (c .before .empty .ensures)
 
 pub stray-spec : {M : Type 1} → statement M
 stray-spec = tie.close (tie.spec
+    (λ c κs. search needs)
+    with-system-requires
     returns)

@@ -68,14 +68,5 @@ returns-3 c =
 pub body-of-spec : {M : Type 1} → statement M
 body-of-spec =
     tie.close
-    (tie.spec
-    (λ c. search needs)
-    (λ c. search needs)
-    size-requires
-    sub-if1
-    returns
-    write-requires
-    (λ c. search needs)
-    returns-2
-    (λ c. search needs)
+    (tie.spec (λ c. search needs) (λ c. search needs) size-requires sub-if1 returns write-requires (λ c. search needs) returns-2 (λ c. search needs)
     returns-3)

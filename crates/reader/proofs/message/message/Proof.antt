@@ -32,13 +32,5 @@ returns-2 c =
 pub message-spec : {M : Type 1} → statement M
 message-spec =
     tie.close
-    (tie.spec
-    (λ c κs. search needs)
-    (λ c. search needs)
-    (λ c. search needs)
-    sorted-requires
-    (λ c. search needs)
-    (λ c κs. search needs)
-    (λ c. search needs)
-    returns
-    returns-2)
+    (tie.spec (λ c κs. search needs) (λ c. search needs) (λ c. search needs) sorted-requires (λ c. search needs) (λ c κs. search needs)
+    (λ c. search needs) returns returns-2)

@@ -73,17 +73,5 @@ returns-4 c =
 pub sorted-spec : {M : Type 1} → statement M
 sorted-spec =
     tie.close
-    (tie.spec
-    (λ c κs. search needs)
-    returns
-    (λ c κs. search needs)
-    body-of-requires
-    (λ c. search needs)
-    returns-2
-    (λ c κs. search needs)
-    (λ c κs. search needs)
-    returns-3
-    masked-requires
-    body-of-requires-2
-    (λ c. search needs)
-    returns-4)
+    (tie.spec (λ c κs. search needs) returns (λ c κs. search needs) body-of-requires (λ c. search needs) returns-2 (λ c κs. search needs)
+    (λ c κs. search needs) returns-3 masked-requires body-of-requires-2 (λ c. search needs) returns-4)

@@ -43,15 +43,5 @@ returns c =
 pub slim-spec : {M : Type 1} → statement M
 slim-spec =
     tie.close
-    (tie.spec
-    (λ c κs. search needs)
-    (λ c. search needs)
-    (λ c. search needs)
-    (λ c. search needs)
-    (λ c. search needs)
-    value-requires
-    (λ c. search needs)
-    value-requires-2
-    (λ c κs. search needs)
-    (λ c. search needs)
-    returns)
+    (tie.spec (λ c κs. search needs) (λ c. search needs) (λ c. search needs) (λ c. search needs) (λ c. search needs) value-requires
+    (λ c. search needs) value-requires-2 (λ c κs. search needs) (λ c. search needs) returns)

@@ -81,26 +81,6 @@ returns c =
 pub wide-spec : {M : Type 1} → statement M
 wide-spec =
     tie.close
-    (tie.spec
-    (λ c. search needs)
-    (λ c. search needs)
-    (λ c. search needs)
-    (λ c. search needs)
-    (λ c κs. search needs)
-    (λ c. search needs)
-    (λ c. search needs)
-    sub-second
-    sub-third
-    sub-fourth
-    (λ c. search needs)
-    value-requires
-    (λ c. search needs)
-    value-requires-2
-    (λ c. search needs)
-    value-requires-3
-    (λ c. search needs)
-    value-requires-4
-    alone-requires
-    store-requires
-    (λ c. search needs)
-    returns)
+    (tie.spec (λ c. search needs) (λ c. search needs) (λ c. search needs) (λ c. search needs) (λ c κs. search needs) (λ c. search needs)
+    (λ c. search needs) sub-second sub-third sub-fourth (λ c. search needs) value-requires (λ c. search needs) value-requires-2 (λ c. search needs)
+    value-requires-3 (λ c. search needs) value-requires-4 alone-requires store-requires (λ c. search needs) returns)

@@ -43,13 +43,5 @@ returns-2 c =
 pub combined-spec : {M : Type 1} → statement M
 combined-spec =
     tie.close
-    (tie.spec
-    (λ c κs. search needs)
-    (λ c κs. search needs)
-    plain-requires
-    (λ c κs. search needs)
-    (λ c κs. search needs)
-    (λ c κs. search needs)
-    returns
-    (λ c κs. search needs)
-    returns-2)
+    (tie.spec (λ c κs. search needs) (λ c κs. search needs) plain-requires (λ c κs. search needs) (λ c κs. search needs) (λ c κs. search needs)
+    returns (λ c κs. search needs) returns-2)
