@@ -1,6 +1,7 @@
 pub mod Fine
 pub mod Going
 pub mod Keys
+pub mod Marks
 pub mod Picks
 pub mod Slots
 pub mod SlotCells

@@ -5,6 +5,7 @@ use Prim.Native.Nat.{ℕ, suc, _+_, _-_, _*_, _/_, _%_, _^_, _≤_, _<_}
 use native.Mathlib.Nat.{suc-mul, zero-mul}
 use native.Mathlib.Omega.{arith}
 use lib.Count.{ones, ones-le}
+use lib.Pow.{shr-le}
 use lib.ListN.{length, getD, drop, length-append, length-map}
 use Rattle.bits.specs.BitLists.{spell}
 use Rattle.format.specs.Masks.{Satellite, pick}
@@ -15,6 +16,10 @@ use Rattle.body.specs.Slots.{satellitesIn, slotSatellites, chosenLines}
 use Rattle.body.proofs.Picks.{picked}
 use Rattle.body.proofs.Slots.{slot-count, chosen-next}
 
+-- a selection of n satellites chooses at most 64
+pub few-ones : (c n : ℕ) → c < 2 ^ 64 → n ≤ 64 → ones (c / 2 ^ (64 - n)) ≤ 64
+few-ones c n small few = ones-le 64 (c / 2 ^ (64 - n)) (omega (arith, shr-le c (64 - n)))
+
 -- lines of one width
 pub same-width : (shape : ℕ → List Column) (width : ℕ) (sats : List Satellite) → ((system : ℕ) → shapeWidth (shape system) ≡ width)
     → bodyWidth (satelliteLines shape sats) ≡ length sats * width
@@ -24,12 +29,12 @@ same-width shape width (s ∷ sats) e = omega (arith, e (s .system), same-width 
 
 -- the satellites of one shape that a selection chooses
 module _ (columns : List Column) (c n some : ℕ) (sats : List Satellite) (small : c < 2 ^ 64) (many : length sats ≡ n) (few : n ≤ 64) (e : some ≡ ones (c / 2 ^ (64 - n))) where
-  chosen-rows : length (chosenLines (λ _. columns) c sats) ≡ some
+  pub chosen-rows : length (chosenLines (λ _. columns) c sats) ≡ some
   unfolding chosenLines satelliteLines
   chosen-rows =
       length-map (pick (spell 64 c) sats) _ ∙ picked c sats small (omega (arith, many, few)) ∙ ap (λ (k : ℕ). ones (c / 2 ^ (64 - k))) many ∙ sym e
 
-  chosen-bits : bodyWidth (chosenLines (λ _. columns) c sats) ≡ some * shapeWidth columns
+  pub chosen-bits : bodyWidth (chosenLines (λ _. columns) c sats) ≡ some * shapeWidth columns
   unfolding chosenLines satelliteLines
   chosen-bits = same-width (λ _. columns) (shapeWidth columns) (pick (spell 64 c) sats) (λ system. refl) ∙ ap (λ (k : ℕ). k * shapeWidth columns) (sym (length-map (pick (spell 64 c) sats) _) ∙ chosen-rows)
 

@@ -1,6 +1,5 @@
 // The body of a message: one reader of rows over their shapes, for all sub types.
 pub mod cells;
-pub mod columns;
 pub mod packet;
 pub mod satellites;
 pub mod tail;
@@ -11,6 +10,7 @@ ghost use mathlib.Core.Bool.{true};
 ghost use mathlib.Core.List.{flatten};
 ghost use Prim.Native.Nat.{_+_, _^_, _≤_, _<_};
 ghost use lib.ListN.{length};
+ghost use Rattle.heads.specs.declared.lines.Lines.the-variants.{Combined};
 ghost use Rattle.heads.specs.Lines.{linesOf, partsOf};
 ghost use Rattle.body.specs.Written.{Counts};
 ghost use Rattle.format.specs.Reading.{over};
@@ -19,6 +19,7 @@ ghost use Rattle.holding.specs.Pictures.{maskOf, sound};
 ghost use Rattle.rows.specs.At.{rowsAt};
 use heads::lines::Lines;
 use holding::Holding;
+use rows::plan;
 
 // How long a body is, in bits and in rows.
 pub struct Extent {
@@ -32,16 +33,28 @@ pub struct End {
     pub at: usize,
 }
 
-// How long the body is.
-pub fn size(h: Holding, lines: Lines) -> Extent
-    requires { ⌜ (sound h ≡ true) × (partsOf lines ≤ 4) ⌝ }
-    ensures { λ r. ⌜ Counts (linesOf (maskOf h) lines) r ⌝ }
+// How long a body of sub type 11 is: without orbits its rows are of one width.
+fn combined_size(h: Holding, orbit: bool, clock: bool, chosen: u64) -> Extent
+    requires { ⌜ sound h ≡ true ⌝ }
+    ensures { λ r. ⌜ Counts (linesOf (maskOf h) (Combined orbit clock chosen)) r ⌝ }
 {
     let ids = h.ids;
     let masks = h.satellites;
     let count = h.count;
+    let plan = plan::combined(orbit, clock);
+    if orbit {
+        return satellites::size(&ids[..count], &masks, plan, chosen);
+    }
+    satellites::size_alike(h.nsat, plan.column.width, chosen)
+}
+
+// How long the body is. Sub type 2 is sub type 11 with orbits alone and every satellite chosen.
+pub fn size(h: Holding, lines: Lines) -> Extent
+    requires { ⌜ (sound h ≡ true) × (partsOf lines ≤ 4) ⌝ }
+    ensures { λ r. ⌜ Counts (linesOf (maskOf h) lines) r ⌝ }
+{
     match lines {
-        Lines::Orbits => satellites::size(&ids[..count], &masks, lines, 0xFFFF_FFFF_FFFF_FFFF),
+        Lines::Orbits => combined_size(h, true, false, 0xFFFF_FFFF_FFFF_FFFF),
         Lines::Clocks => Extent {
             bits: h.nsat * 15,
             rows: h.nsat,
@@ -54,7 +67,7 @@ pub fn size(h: Holding, lines: Lines) -> Extent
             bits: h.ncell * 17,
             rows: h.ncell,
         },
-        Lines::Combined(_, _, chosen) => satellites::size(&ids[..count], &masks, lines, chosen),
+        Lines::Combined(orbit, clock, chosen) => combined_size(h, orbit, clock, chosen),
         Lines::Packet(parts) => Extent {
             bits: parts * 40,
             rows: parts,

@@ -3,7 +3,7 @@ ghost use mathlib.Core.Path.{_≡_};
 ghost use mathlib.Core.Bool.{true};
 ghost use Prim.Native.Nat.{_+_, _*_, _^_, _≤_, _<_};
 ghost use lib.ListN.{length};
-ghost use Rattle.heads.specs.Lines.{shapeFor, linesOf, partsOf};
+ghost use Rattle.heads.specs.Lines.{linesOf, partsOf};
 ghost use Rattle.body.specs.Slots.{slotsOf, chosenLines, slimOf};
 ghost use Rattle.body.specs.Written.{numbersAt, Room};
 ghost use Rattle.format.specs.Messages.{cellLines};
@@ -11,12 +11,15 @@ ghost use Rattle.format.specs.Reading.{over};
 ghost use Rattle.format.specs.Rows.{bodyWidth};
 ghost use Rattle.holding.proofs.PicturedCells.{rowCells};
 ghost use Rattle.holding.specs.Pictures.{maskOf, sound};
+ghost use Rattle.rows.specs.Plans.{planned};
 ghost use Rattle.rows.specs.Shapes.{Formed};
 use crate::cells;
 use crate::packet;
 use crate::satellites;
 use heads::lines::Lines;
 use holding::Holding;
+use rows::plan;
+use rows::plan::Plan;
 use rows::shape::Column;
 use rows::shapes;
 
@@ -24,14 +27,14 @@ use rows::shapes;
 const ALL: u64 = 0xFFFF_FFFF_FFFF_FFFF;
 
 // A row for each satellite that is chosen.
-fn by_satellites(h: Holding, lines: Lines, chosen: u64, bytes: &[u8], at: usize, rows: &mut [i32])
-    requires { ⌜ (sound h ≡ true) × Room (chosenLines (shapeFor lines) chosen (slotsOf h)) (now bytes) at (now rows) ⌝ }
-    ensures { λ _. ⌜ now (rows .exit) ≡ over (numbersAt (chosenLines (shapeFor lines) chosen (slotsOf h)) (now (bytes .entry)) at) (now (rows .entry)) ⌝ }
+fn by_satellites(h: Holding, plan: Plan, chosen: u64, bytes: &[u8], at: usize, rows: &mut [i32])
+    requires { ⌜ (sound h ≡ true) × Formed (plan .column) × Room (chosenLines (planned plan) chosen (slotsOf h)) (now bytes) at (now rows) ⌝ }
+    ensures { λ _. ⌜ now (rows .exit) ≡ over (numbersAt (chosenLines (planned plan) chosen (slotsOf h)) (now (bytes .entry)) at) (now (rows .entry)) ⌝ }
 {
     let ids = h.ids;
     let masks = h.satellites;
     let count = h.count;
-    satellites::write(&ids[..count], &masks, lines, chosen, bytes, at, rows)
+    satellites::write(&ids[..count], &masks, plan, chosen, bytes, at, rows)
 }
 
 // A row for each cell.
@@ -51,8 +54,8 @@ pub fn write(h: Holding, lines: Lines, bytes: &[u8], at: usize, rows: &mut [i32]
     ensures { λ _. ⌜ now (rows .exit) ≡ over (numbersAt (linesOf (maskOf h) lines) (now (bytes .entry)) at) (now (rows .entry)) ⌝ }
 {
     match lines {
-        Lines::Orbits => by_satellites(h, lines, ALL, bytes, at, rows),
-        Lines::Clocks => by_satellites(h, lines, ALL, bytes, at, rows),
+        Lines::Orbits => by_satellites(h, plan::combined(true, false), ALL, bytes, at, rows),
+        Lines::Clocks => by_satellites(h, plan::clock(), ALL, bytes, at, rows),
         Lines::Codes => {
             let shape = shapes::code();
             by_cells(h, shape.v1, shape.v2, bytes, at, rows)
@@ -61,7 +64,14 @@ pub fn write(h: Holding, lines: Lines, bytes: &[u8], at: usize, rows: &mut [i32]
             let shape = shapes::phase();
             by_cells(h, shape.v1, shape.v2, bytes, at, rows)
         }
-        Lines::Combined(_, _, chosen) => by_satellites(h, lines, chosen, bytes, at, rows),
+        Lines::Combined(orbit, clock, chosen) => by_satellites(
+            h,
+            plan::combined(orbit, clock),
+            chosen,
+            bytes,
+            at,
+            rows,
+        ),
         Lines::Packet(parts) => packet::write(parts, bytes, at, rows),
     }
 }

@@ -3,14 +3,14 @@
 use mathlib.Core.Path.{_≡_, refl, sym, ap, subst}
 use mathlib.Core.Bool.{Bool, true, false, cond}
 use Prim.Native.Nat.{ℕ, zero, suc, _+_, _-_, _*_, _%_, _^_, _≤_, _<_}
-use native.Mathlib.Nat.{add-zero, mod-lt, mod-eq-of-lt, mod-add-mod, mod-eq-sub-mod}
+use native.Mathlib.Nat.{add-zero, one-mul, mod-lt, mod-eq-of-lt, mod-add-mod, mod-eq-sub-mod}
 use native.Mathlib.Decide.{decLt}
 use native.Mathlib.Omega.{arith}
 use borrow.Author.Tests.{lt-ltb, le-ltb, ne-eqb, eqb-true, eqb-false}
 use lib.Bits.{bitAnd, and-mask, and-zero-r, and-le-r}
 use lib.Dec.{eqb}
 use lib.IntN.{ℤ, pos, negsuc, subℕ, _-ℤ_}
-use lib.Pow.{pow-pos, pow-mono}
+use lib.Pow.{pow-pos, pow-mono, pow-lt}
 use lib.Signed.{mag}
 use Rattle.bits.proofs.Complement.{even, signed-pos, signed-neg}
 use Rattle.bits.specs.Signed.{signed}
@@ -65,6 +65,10 @@ narrow-for (fine-counts w some few) = few
 
 pub formed-for : {k : Column} → Fine k → Formed (columnFor k)
 formed-for fine = record { numbers = ap columnFor (column-back fine); narrow = narrow-for fine }
+
+-- 2 ^ w as a shift of 32 bits makes it
+pub one-up : (w : ℕ) → w < 32 → 1 * 2 ^ w % 2 ^ 32 ≡ 2 ^ w
+one-up w narrow = rw (one-mul (2 ^ w)) (mod-eq-of-lt (pow-lt narrow))
 
 -- ---- bounds
 
@@ -123,6 +127,10 @@ pub value-computed : (c : CodeColumn) (x : ℕ) → Formed c → computed c x �
 value-computed c x formed =
     subst (λ (d : CodeColumn). computed d x ≡ valueBy (columnOf c) (x % 2 ^ (d .width))) (formed .numbers)
     (computed-for x (fine-of c (formed .narrow)))
+
+-- of a column that was made
+pub made-value : {k : Column} (x : ℕ) (c : CodeColumn) → Fine k → c ≡ columnFor k → valueBy (columnOf c) (x % 2 ^ (c .width)) ≡ valueBy k (x % 2 ^ widthOf k)
+made-value {k} x c fine made = rw (made, column-back fine, width-for k)
 
 -- ---- how large it is
 

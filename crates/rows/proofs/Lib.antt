@@ -1,4 +1,5 @@
 pub mod Columns
 pub mod Cuts
+pub mod Plans
 pub mod RowsAt
 pub mod Shaped

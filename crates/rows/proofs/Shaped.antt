@@ -1,16 +1,15 @@
 -- The shape of five columns is formed and has those columns; so it is with each message's.
 -- Assumes nothing.
 use mathlib.Core.Path.{_≡_, refl}
-use mathlib.Core.Bool.{Bool, true, false, cond, not, _&&_, and-eq-true-iff}
+use mathlib.Core.Bool.{Bool, true, false, cond}
 use mathlib.Core.List.{List, [], _∷_}
 use Prim.Native.Nat.{ℕ, _+_, _≤_}
 use native.Mathlib.Omega.{arith}
-use borrow.Author.Tests.{not-false}
 use lib.Dec.{eqb}
 use Rattle.format.specs.Messages.{iodeWidth, orbitShape, clockShape, codeShape, phaseShape, combinedShape, packetShape}
-use Rattle.format.specs.Rows.{Column, gap, plain, counts, widthOf}
+use Rattle.format.specs.Rows.{Column, gap, widthOf}
 use Rattle.rows.specs.declared.shape.Shape.{Shape}
-use Rattle.rows.specs.Shapes.{columnFor, columnOf, columnsOf, isGap, shapeWith, FormedShape}
+use Rattle.rows.specs.Shapes.{columnOf, columnsOf, shapeWith, FormedShape}
 use Rattle.rows.proofs.Columns.{Fine, fine-gap, fine-plain, fine-counts, column-back, width-for, formed-for}
 
 -- ---- five columns
@@ -25,22 +24,9 @@ unfolding columnsOf shapeWith
 columns-of (five fa fb fc fd fe room) =
     rw (column-back fa, column-back fb, column-back fc, column-back fd, column-back fe)
 
-gap-is : (k : Column) → isGap k ≡ true → columnFor k ≡ columnFor gap
-unfolding isGap
-gap-is gap e = refl
-gap-is (plain w) e = absurd (let z : _≡_ {A = ℕ} 0 1 = cc in omega arith)
-gap-is (counts w) e = absurd (let z : _≡_ {A = ℕ} 0 1 = cc in omega arith)
-
-gaps-are : (c d e : Column) → not (isGap c && (isGap d && isGap e)) ≡ false
-    → (columnFor c ≡ columnFor gap) × (columnFor d ≡ columnFor gap) × (columnFor e ≡ columnFor gap)
-gaps-are c d e none =
-    let all = and-eq-true-iff (isGap c) (isGap d && isGap e) .0 (not-false (isGap c && (isGap d && isGap e)) none) in
-    let both = and-eq-true-iff (isGap d) (isGap e) .0 (all .1) in
-    (gap-is c (all .0), gap-is d (both .0), gap-is e (both .1))
-
 pub formed-shape : {cs : List Column} → FineShape cs → FormedShape (shapeWith cs)
 unfolding shapeWith
-formed-shape (five {a} {b} {c} {d} {e} fa fb fc fd fe room) =
+formed-shape (five {a} {b} {c} {d} fa fb fc fd fe room) =
     record {
       first = formed-for fa;
       second = formed-for fb;
@@ -48,16 +34,14 @@ formed-shape (five {a} {b} {c} {d} {e} fa fb fc fd fe room) =
       fourth = formed-for fd;
       fifth = formed-for fe;
       window = omega (arith, width-for a, width-for b, width-for c, width-for d);
-      slim = gaps-are c d e;
     }
 
--- ---- the columns of a shape that is not wide
+-- two columns and three gaps
 
-pub slim-columns : (s : Shape) → FormedShape s → s .wide ≡ false → columnOf (s .v1) ∷ columnOf (s .v2) ∷ gap ∷ gap ∷ gap ∷ [] ≡ columnsOf s
-unfolding columnsOf columnOf columnFor
-slim-columns s formed narrow =
-    let gaps = formed .slim narrow in
-    rw (gaps .0, gaps .1, gaps .2)
+pub slim-columns : {a b : Column} (s : Shape) → Fine a → Fine b → s ≡ shapeWith (a ∷ b ∷ gap ∷ gap ∷ gap ∷ [])
+    → columnOf (s .v1) ∷ columnOf (s .v2) ∷ gap ∷ gap ∷ gap ∷ [] ≡ a ∷ b ∷ gap ∷ gap ∷ gap ∷ []
+unfolding shapeWith
+slim-columns s fa fb made = rw (made, column-back fa, column-back fb)
 
 -- ---- the messages' shapes
 

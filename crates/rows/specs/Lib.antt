@@ -1,2 +1,3 @@
 pub mod At
+pub mod Plans
 pub mod Shapes

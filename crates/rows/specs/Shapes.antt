@@ -1,6 +1,6 @@
 -- Columns and shapes as the code has them: a column as the numbers with which its bits are turned into its value without a branch.
 use mathlib.Core.Path.{_≡_}
-use mathlib.Core.Bool.{Bool, true, false, cond, not, _&&_}
+use mathlib.Core.Bool.{cond}
 use mathlib.Core.List.{List, [], _∷_}
 use Prim.Native.Nat.{_+_, _-_, _^_, _≤_}
 use lib.Dec.{eqb}
@@ -23,12 +23,7 @@ columnOf c = cond (eqb (c .width) 0) gap (cond (eqb (c .half) 0) (plain (c .widt
 unfoldable pub columnsOf : Shape → List Column
 columnsOf s = columnOf (s .v1) ∷ columnOf (s .v2) ∷ columnOf (s .v3) ∷ columnOf (s .v4) ∷ columnOf (s .v5) ∷ []
 
-unfoldable pub isGap : Column → Bool
-isGap gap = true
-isGap (plain w) = false
-isGap (counts w) = false
-
--- the shape of five columns: wide but where the last three are gaps
+-- the shape of five columns
 unfoldable pub shapeWith : List Column → Shape
 shapeWith cs =
     record {
@@ -37,7 +32,6 @@ shapeWith cs =
       v3 = columnFor (getD cs 2 gap);
       v4 = columnFor (getD cs 3 gap);
       v5 = columnFor (getD cs 4 gap);
-      wide = not (isGap (getD cs 2 gap) && (isGap (getD cs 3 gap) && isGap (getD cs 4 gap)));
     }
 
 -- numbers that are a column's, of at most 15 bits
@@ -45,7 +39,7 @@ pub record Formed (c : CodeColumn) : Type 0 where
   pub numbers : columnFor (columnOf c) ≡ c
   pub narrow : c .width ≤ 15
 
--- five such columns, the first four within one window; where the shape is not wide the last three are gaps
+-- five such columns, the first four within one window
 pub record FormedShape (s : Shape) : Type 0 where
   pub first : Formed (s .v1)
   pub second : Formed (s .v2)
@@ -53,4 +47,3 @@ pub record FormedShape (s : Shape) : Type 0 where
   pub fourth : Formed (s .v4)
   pub fifth : Formed (s .v5)
   pub window : s .v1 .width + s .v2 .width + s .v3 .width + s .v4 .width ≤ 56
-  pub slim : s .wide ≡ false → (s .v3 ≡ columnFor gap) × (s .v4 ≡ columnFor gap) × (s .v5 ≡ columnFor gap)

@@ -1,13 +1,16 @@
 // One row, written: its three keys, and the values that its columns have at a place. Windows are read without a
 // test, so eight bytes have to be there from the byte of the row's last bit on.
 ghost use mathlib.Core.Path.{_≡_};
+ghost use mathlib.Core.Bool.{cond};
 ghost use mathlib.Core.List.{[], _∷_};
 ghost use Prim.Native.Nat.{_+_, _*_, _^_, _≤_, _<_};
 ghost use lib.ListN.{length};
 ghost use Rattle.bits.specs.Places.{field};
 ghost use Rattle.format.specs.Rows.{gap};
 ghost use Rattle.rows.specs.At.{valueBy, valuesAt};
+ghost use Rattle.rows.specs.Plans.{oneColumn, orbitColumns, columnsBy};
 ghost use Rattle.rows.specs.Shapes.{columnOf, columnsOf, Formed, FormedShape};
+use crate::plan::Plan;
 use crate::shape;
 use crate::shape::Column;
 use crate::shape::Shape;
@@ -103,7 +106,74 @@ pub fn wide(
     );
 }
 
-// A row of a shape at a place, into a part of eight numbers.
+// A row of an orbit and one column more: an IODE of so many bits and three values are cut from one window, moved so
+// that the last of them is lowest.
+fn orbit(
+    row: &mut [i32],
+    system: i32,
+    satellite: i32,
+    signal: i32,
+    bytes: &[u8],
+    at: usize,
+    iode: usize,
+    v5: Column,
+)
+    requires { ⌜ (length (now row) ≡ 8) × (at < 2 ^ 32) × (1 ≤ iode) × (iode ≤ 10) × Formed v5 × (at + 120 ≤ 8 * length (now bytes)) ⌝ }
+    ensures { λ _. ⌜ now (row .exit) ≡ system ∷ satellite ∷ signal ∷ valuesAt (orbitColumns iode v5) (now (bytes .entry)) at ⌝ }
+{
+    let half = window::eight(bytes, at / 8) >> 1;
+    let four = half >> (22 - at % 8 - iode);
+    store(
+        row,
+        system,
+        satellite,
+        signal,
+        shape::number(four >> 41, iode),
+        shape::count(four >> 26, 15),
+        shape::count(four >> 13, 13),
+        shape::count(four, 13),
+        alone(bytes, at + iode + 41, v5),
+    );
+}
+
+// Where in a row its one column is.
+fn spot(first: bool) -> usize
+    ensures { λ r. ⌜ r ≡ cond first 3 7 ⌝ }
+{
+    if first { 3 } else { 7 }
+}
+
+// A row of one column, the first or the last.
+fn one(
+    row: &mut [i32],
+    system: i32,
+    satellite: i32,
+    signal: i32,
+    bytes: &[u8],
+    at: usize,
+    first: bool,
+    column: Column,
+)
+    requires { ⌜ (length (now row) ≡ 8) × Formed column × (at + 64 ≤ 8 * length (now bytes)) ⌝ }
+    ensures { λ _. ⌜ now (row .exit) ≡ system ∷ satellite ∷ signal ∷ valuesAt (oneColumn first column) (now (bytes .entry)) at ⌝ }
+{
+    let value = alone(bytes, at, column);
+    let i = spot(first);
+    store(
+        row,
+        system,
+        satellite,
+        signal,
+        ABSENT,
+        ABSENT,
+        ABSENT,
+        ABSENT,
+        ABSENT,
+    );
+    row[i] = value;
+}
+
+// A row laid out by a plan, its IODE of so many bits, into a part of eight numbers.
 pub fn put(
     row: &mut [i32],
     system: i32,
@@ -111,23 +181,24 @@ pub fn put(
     signal: i32,
     bytes: &[u8],
     at: usize,
-    shape: Shape,
+    plan: Plan,
+    iode: usize,
 )
-    requires { ⌜ (length (now row) ≡ 8) × (at < 2 ^ 32) × FormedShape shape × (at + 120 ≤ 8 * length (now bytes)) ⌝ }
-    ensures { λ _. ⌜ now (row .exit) ≡ system ∷ satellite ∷ signal ∷ valuesAt (columnsOf shape) (now (bytes .entry)) at ⌝ }
+    requires { ⌜ (length (now row) ≡ 8) × (at < 2 ^ 32) × (1 ≤ iode) × (iode ≤ 10) × Formed (plan .column) × (at + 120 ≤ 8 * length (now bytes)) ⌝ }
+    ensures { λ _. ⌜ now (row .exit) ≡ system ∷ satellite ∷ signal ∷ valuesAt (columnsBy plan iode) (now (bytes .entry)) at ⌝ }
 {
-    if shape.wide {
-        wide(row, system, satellite, signal, bytes, at, shape);
+    if plan.orbit {
+        orbit(row, system, satellite, signal, bytes, at, iode, plan.column);
         return;
     }
-    slim(
+    one(
         row,
         system,
         satellite,
         signal,
         bytes,
         at,
-        shape.v1,
-        shape.v2,
+        plan.first,
+        plan.column,
     );
 }

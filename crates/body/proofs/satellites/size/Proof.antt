@@ -11,23 +11,23 @@ use lib.Count.{ones, ones-le}
 use lib.ListN.{length, getD, drop}
 use Rattle.format.specs.Rows.{Column, Line, bodyWidth}
 use Rattle.holding.proofs.Highest.{below-at}
-use Rattle.rows.specs.Shapes.{columnsOf}
-use Rattle.heads.specs.Lines.{shapeFor}
+use Rattle.rows.proofs.Shaped.{fine-iode}
+use Rattle.rows.specs.declared.plan.Plan.{Plan}
+use Rattle.rows.specs.Plans.{columnsBy, planned}
 use Rattle.body.specs.Slots.{slotSatellites, chosenLines}
-use Rattle.body.proofs.Fine.{columns-for, formed-for}
 use Rattle.body.proofs.Sizes.{slot-bits, slot-rows}
 use Rattle.body.proofs.Slots.{chosen-nil, no-slot}
 use Rattle.body.proofs.satellites.size.Statement.{statement}
 use Rattle.body.proofs.satellites.size.Tie as tie
 
 abbrev Inv-loop : tie.InvT-loop
-Inv-loop ids masks lines chosen marks₀ bits₀ count₀ i₀ marks bits count i =
+Inv-loop ids masks plan chosen marks₀ bits₀ count₀ i₀ marks bits count i =
     (marks < 2 ^ 64)
-    × (bits + bodyWidth (chosenLines (shapeFor lines) marks (slotSatellites (drop i ids) (drop i masks))) ≡ bodyWidth (chosenLines (shapeFor lines) chosen (slotSatellites ids masks)))
-    × (count + length (chosenLines (shapeFor lines) marks (slotSatellites (drop i ids) (drop i masks))) ≡ length (chosenLines (shapeFor lines) chosen (slotSatellites ids masks)))
+    × (bits + bodyWidth (chosenLines (planned plan) marks (slotSatellites (drop i ids) (drop i masks))) ≡ bodyWidth (chosenLines (planned plan) chosen (slotSatellites ids masks)))
+    × (count + length (chosenLines (planned plan) marks (slotSatellites (drop i ids) (drop i masks))) ≡ length (chosenLines (planned plan) chosen (slotSatellites ids masks)))
 
 abbrev μ-loop : tie.MeasureT-loop
-μ-loop ids masks lines chosen marks₀ bits₀ count₀ i₀ marks bits count i = length ids - i
+μ-loop ids masks plan chosen marks₀ bits₀ count₀ i₀ marks bits count i = length ids - i
 
 module _ (c : tie.In-loop Inv-loop μ-loop) where
   abbrev masks : List ℕ
@@ -46,7 +46,7 @@ module _ (c : tie.In-loop Inv-loop μ-loop) where
   few n many = omega (arith, many, ones-le 40 (getD masks i 0) small)
 
 width-requires : tie.Need-width-requires Inv-loop μ-loop
-width-requires c κs = formed-for _ _ (c .shape-for .result) (c .shape-for .ensures)
+width-requires c κs = (c .before .before .before .before .before .before .before .before .before .pre .2, omega (arith, fine-iode (getD (c .before .before .before .before .before .before .before .before .before .args .ids .now) (i (c .before .before .before .before .before)) 0), c .iode .ensures))
 
 module _ (c : tie.After-width Inv-loop μ-loop) where
   abbrev p : tie.In-loop Inv-loop μ-loop
@@ -55,14 +55,17 @@ module _ (c : tie.After-width Inv-loop μ-loop) where
   abbrev ids : List ℕ
   ids = p .before .before .before .before .args .ids .now
 
+  abbrev plan : Plan
+  plan = p .before .before .before .before .args .plan
+
   abbrev shape : ℕ → List Column
-  shape = shapeFor (p .before .before .before .before .args .lines)
+  shape = planned plan
 
   abbrev marks : ℕ
   marks = p .before .loop .marks
 
   abbrev columns : List Column
-  columns = columnsOf (c .before .shape-for .result)
+  columns = columnsBy plan (c .before .iode .result)
 
   abbrev some : ℕ
   some = c .before .before .before .picked .result
@@ -71,7 +74,8 @@ module _ (c : tie.After-width Inv-loop μ-loop) where
   n = c .before .before .before .before .count .result
 
   same : columns ≡ shape (getD ids (i p) 0)
-  same = columns-for _ _ (c .before .shape-for .result) (c .before .shape-for .ensures)
+  unfolding planned
+  same = ap (columnsBy plan) (c .before .iode .ensures)
 
   abbrev behind : List Line
   behind = chosenLines shape (marks * 2 ^ n % 2 ^ 64) (slotSatellites (drop (suc (i p)) ids) (drop (suc (i p)) (masks p)))
@@ -96,7 +100,7 @@ module _ (c : tie.After-width Inv-loop μ-loop) where
       )
 
   room : (p .before .loop .bits + some * c .width .result < 2 ^ 32) × (p .before .loop .count + some < 2 ^ 32)
-  room = let all = p .before .before .before .before .pre .2 in (omega (arith, bits, all .bits), omega (arith, rows, all .rows))
+  room = let all = p .before .before .before .before .pre .3 in (omega (arith, bits, all .bits), omega (arith, rows, all .rows))
 
 loop-again : tie.Need-loop-again Inv-loop μ-loop
 loop-again c = rw (add-one (i (p c))) (mod-lt _ (omega arith), bits c, rows c)
@@ -106,7 +110,7 @@ unfolding bodyWidth
 returns c =
     let x = c .before .before .before .before .args in
     let s = c .before .loop in
-    let e = ap (chosenLines (shapeFor (x .lines)) (s .marks)) (no-slot (x .ids .now) (x .masks .now) (s .i) (omega arith)) ∙ chosen-nil (shapeFor (x .lines)) (s .marks) in
+    let e = ap (chosenLines (planned (x .plan)) (s .marks)) (no-slot (x .ids .now) (x .masks .now) (s .i) (omega arith)) ∙ chosen-nil (planned (x .plan)) (s .marks) in
     record { bits = omega (arith, s .inv .1, ap bodyWidth e); rows = omega (arith, s .inv .2, ap length e) }
 
 pub size-spec : {M : Type 1} → statement M

@@ -8,7 +8,7 @@ write-requires : tie.Need-write-requires
 write-requires c κs =
     let s = c .before .before .before .before .before .before in
     let fit = masked (s .args .h) (s .pre .0) in
-    (fit .0, fit .1, s .pre .1)
+    (fit .0, fit .1, s .pre .1, s .pre .2)
 
 pub by-satellites-spec : {M : Type 1} → statement M
 by-satellites-spec =

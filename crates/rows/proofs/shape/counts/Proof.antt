@@ -3,17 +3,17 @@ use Prim.Native.Nat.{_-_}
 use native.Mathlib.Omega.{arith}
 use borrow.Author.Needs.{needs}
 use lib.Pow.{pow-pos}
-use Rattle.bits.proofs.Windows.{one-shifted}
 use Rattle.rows.specs.Shapes.{columnFor}
+use Rattle.rows.proofs.Columns.{one-up}
 use Rattle.rows.proofs.shape.counts.Statement.{statement}
 use Rattle.rows.proofs.shape.counts.Tie as tie
 
 sub-mask : tie.Need-sub-t6
-sub-mask c = rw (one-shifted (c .args .w) (omega arith)) (pow-pos (c .args .w))
+sub-mask c = rw (one-up (c .args .w) (omega arith)) (pow-pos (c .args .w))
 
 returns : tie.Need-returns
 unfolding columnFor
-returns c = rw (one-shifted (c .args .w) (omega arith), one-shifted (c .args .w - 1) (omega arith))
+returns c = rw (one-up (c .args .w) (omega arith), one-up (c .args .w - 1) (omega arith))
 
 pub counts-spec : {M : Type 1} → statement M
-counts-spec = tie.close (tie.spec (λ c. search needs) (λ c. search needs) (λ c. search needs) sub-mask returns)
+counts-spec = tie.close (tie.spec (λ c. search needs) (λ c. search needs) (λ c. search needs) (λ c. search needs) (λ c. search needs) sub-mask returns)

@@ -2,6 +2,7 @@
 use mathlib.Core.Path.{_≡_}
 use Prim.Native.Nat.{_+_, _^_, _<_}
 use native.Mathlib.Omega.{arith}
+use borrow.Author.Needs.{needs}
 use lib.Bits.{bitAnd}
 use lib.IntN.{_-ℤ_}
 use mir.Facts.{toZ-ofZ, toZ-pos}
@@ -46,4 +47,4 @@ returns c =
     rw (difference s, toZ-ofZ (small s)) (value-computed (s .args .c) (s .args .x) (s .pre .1))
 
 pub value-spec : {M : Type 1} → statement M
-value-spec = tie.close (tie.spec add-y cast-result cast-result-2 sub-result returns)
+value-spec = tie.close (tie.spec (λ c. search needs) add-y (λ c. search needs) cast-result cast-result-2 sub-result returns)

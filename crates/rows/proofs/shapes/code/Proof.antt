@@ -2,12 +2,12 @@
 use mathlib.Core.Path.{_∙_}
 use borrow.Author.Needs.{needs}
 use Rattle.format.specs.Messages.{codeShape}
-use Rattle.rows.specs.Shapes.{isGap, shapeWith}
+use Rattle.rows.specs.Shapes.{shapeWith}
 use Rattle.rows.proofs.shapes.code.Statement.{statement}
 use Rattle.rows.proofs.shapes.code.Tie as tie
 
 returns : tie.Need-returns
-unfolding codeShape isGap shapeWith
+unfolding codeShape shapeWith
 returns c = c .slim .ensures ∙ rw (c .before .gap .ensures, c .before .before .counts .ensures)
 
 pub code-spec : {M : Type 1} → statement M

@@ -1,12 +1,12 @@
 -- `rows::shapes::packet` meets its contract. Assumes nothing.
 use borrow.Author.Needs.{needs}
 use Rattle.format.specs.Messages.{packetShape}
-use Rattle.rows.specs.Shapes.{isGap, shapeWith}
+use Rattle.rows.specs.Shapes.{shapeWith}
 use Rattle.rows.proofs.shapes.packet.Statement.{statement}
 use Rattle.rows.proofs.shapes.packet.Tie as tie
 
 returns : tie.Need-returns
-unfolding packetShape isGap shapeWith
+unfolding packetShape shapeWith
 returns c = rw (c .plain .ensures)
 
 pub packet-spec : {M : Type 1} → statement M

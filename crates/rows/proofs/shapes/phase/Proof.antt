@@ -2,12 +2,12 @@
 use mathlib.Core.Path.{_∙_}
 use borrow.Author.Needs.{needs}
 use Rattle.format.specs.Messages.{phaseShape}
-use Rattle.rows.specs.Shapes.{isGap, shapeWith}
+use Rattle.rows.specs.Shapes.{shapeWith}
 use Rattle.rows.proofs.shapes.phase.Statement.{statement}
 use Rattle.rows.proofs.shapes.phase.Tie as tie
 
 returns : tie.Need-returns
-unfolding phaseShape isGap shapeWith
+unfolding phaseShape shapeWith
 returns c = c .slim .ensures ∙ rw (c .before .plain .ensures, c .before .before .counts .ensures)
 
 pub phase-spec : {M : Type 1} → statement M

@@ -1,8 +1,8 @@
--- `rows::shapes::iode` meets its contract. Assumes nothing.
+-- `rows::plan::iode` meets its contract. Assumes nothing.
 use borrow.Author.Tests.{eq-eqb, ne-eqb}
 use Rattle.format.specs.Messages.{iodeWidth}
-use Rattle.rows.proofs.shapes.iode.Statement.{statement}
-use Rattle.rows.proofs.shapes.iode.Tie as tie
+use Rattle.rows.proofs.plan.iode.Statement.{statement}
+use Rattle.rows.proofs.plan.iode.Tie as tie
 
 returns : tie.Need-returns
 unfolding iodeWidth

@@ -1,8 +1,8 @@
--- `rows::shapes::flagged` meets its contract. Assumes nothing.
+-- `rows::plan::flagged` meets its contract. Assumes nothing.
 use mathlib.Core.Path.{_∙_}
 use borrow.Author.Needs.{needs}
-use Rattle.rows.proofs.shapes.flagged.Statement.{statement}
-use Rattle.rows.proofs.shapes.flagged.Tie as tie
+use Rattle.rows.proofs.plan.flagged.Statement.{statement}
+use Rattle.rows.proofs.plan.flagged.Tie as tie
 
 returns : tie.Need-returns
 returns c = c .counts .ensures ∙ rw (c .before .if1 .taken)
