@@ -6,7 +6,6 @@ use mathlib.Core.List.{List, [], _∷_, _++_, append-nil}
 use Prim.Native.Nat.{ℕ, zero, suc, _+_, _-_, _*_, _^_, _≤_, _<_}
 use native.Mathlib.Nat.{zero-add, add-zero, add-suc, suc-add, zero-sub, zero-mul, sub-zero, suc-sub-suc, zero-div, div-eq-of-lt, mod-eq-of-lt, le-of-suc-le-suc, pow-suc}
 use native.Mathlib.Omega.{arith}
-use lib.Bits.{bitAnd, and-mask}
 use lib.Count.{ones, leadingZeros, ones-cat, leading-top}
 use lib.Dec.{eqb}
 use lib.ListN.{length, getD, drop}
@@ -118,10 +117,6 @@ drop-spell (suc i) zero n = rw zero-sub
 drop-spell (suc i) (suc w) n = rw suc-sub-suc (drop-spell i w n)
 
 -- no place behind the highest assigned one is set where the bits below it are 0
-pub assigned-mask : (w top n : ℕ) → eqb (bitAnd n (2 ^ (w - top) - 1)) 0 ≡ blank (drop (suc top) (spell (suc w) n))
-assigned-mask w top n =
-    sym (ap blank (drop-spell (suc top) (suc w) n) ∙ rw suc-sub-suc (blank-number (spell (w - top) n) ∙ ap (λ (m : ℕ). eqb m 0) (number-spell (w - top) n ∙ sym (and-mask n (w - top)))))
-
--- the last of five IDs
-pub fifth : (id : ℕ) → id < 5 → (id ≡ 0 → ⊥) → (id ≡ 1 → ⊥) → (id ≡ 2 → ⊥) → (id ≡ 3 → ⊥) → id ≡ 4
-fifth id few a b c d = omega arith
+pub assigned-number : (w top n : ℕ) → top < w → n < 2 ^ w → blank (drop (suc top) (spell w n)) ≡ eqb (n % 2 ^ (w - suc top)) 0
+assigned-number w top n inside small =
+    ap blank (drop-spell (suc top) w n) ∙ blank-number (spell (w - suc top) n) ∙ ap (λ (m : ℕ). eqb m 0) (number-spell (w - suc top) n)

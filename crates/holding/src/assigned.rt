@@ -1,49 +1,37 @@
 // Assigned places (document 01, "Held mask and assigned places"): two tables by GNSS ID, and one rule over
 // them.
 ghost use mathlib.Core.Path.{_≡_};
-ghost use Prim.Native.Nat.{_-_, _^_, _<_};
-ghost use lib.ListN.{getD};
+ghost use Prim.Native.Nat.{suc, _^_, _≤_, _<_};
+ghost use lib.ListN.{drop};
 ghost use Rattle.bits.specs.BitLists.{spell};
-ghost use Rattle.format.specs.Assigned.{satellitePlaces, signalPlaces, assigned};
+ghost use Rattle.format.specs.Assigned.{satellitePlaces, signalPlaces, blank, assigned};
 
-// The bits past the highest assigned place: GPS, GLONASS, Galileo, BeiDou, QZSS. As a `match` it is a table that LLVM
-// reads; an array would be made anew at each call.
-fn past_satellites(id: usize) -> u64
-    requires { ⌜ id < 5 ⌝ }
-    ensures { λ r. ⌜ r ≡ 2 ^ (39 - getD satellitePlaces id 0) - 1 ⌝ }
-{
-    match id {
-        0 => 0,
-        1 => 0xffff,
-        2 => 0x7,
-        3 => 0,
-        _ => 0x3fff_ffff,
-    }
-}
+// The highest assigned place: GPS, GLONASS, Galileo, BeiDou, QZSS.
+const SATELLITE_PLACES: [usize; 5] = [39, 23, 36, 39, 9];
 
-fn past_signals(id: usize) -> u64
-    requires { ⌜ id < 5 ⌝ }
-    ensures { λ r. ⌜ r ≡ 2 ^ (15 - getD signalPlaces id 0) - 1 ⌝ }
+const SIGNAL_PLACES: [usize; 5] = [13, 12, 14, 8, 9];
+
+// Whether no bit of a mask of w bits is set past a place.
+fn ends_by(mask: u64, w: usize, highest: usize) -> bool
+    requires { ⌜ (highest < w) × (w ≤ 40) × (mask < 2 ^ w) ⌝ }
+    ensures { λ r. ⌜ r ≡ blank (drop (suc highest) (spell w mask)) ⌝ }
 {
-    match id {
-        0 => 0x3,
-        1 => 0x7,
-        2 => 0x1,
-        3 => 0x7f,
-        _ => 0x3f,
-    }
+    let free = w - 1 - highest;
+    mask % (1u64 << free) == 0
 }
 
 pub fn satellites_assigned(id: usize, mask: u64) -> bool
     requires { ⌜ (id < 5) × (mask < 2 ^ 40) ⌝ }
     ensures { λ r. ⌜ r ≡ assigned satellitePlaces id (spell 40 mask) ⌝ }
 {
-    mask & past_satellites(id) == 0
+    let highest = SATELLITE_PLACES[id];
+    ends_by(mask, 40, highest)
 }
 
 pub fn signals_assigned(id: usize, mask: u64) -> bool
     requires { ⌜ (id < 5) × (mask < 2 ^ 16) ⌝ }
     ensures { λ r. ⌜ r ≡ assigned signalPlaces id (spell 16 mask) ⌝ }
 {
-    mask & past_signals(id) == 0
+    let highest = SIGNAL_PLACES[id];
+    ends_by(mask, 16, highest)
 }

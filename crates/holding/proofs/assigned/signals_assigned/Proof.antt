@@ -1,20 +1,19 @@
 -- `holding::assigned::signals_assigned` meets its contract: the rule over the table. Assumes nothing.
-use mathlib.Core.Path.{ap, _∙_}
-use Prim.Native.Nat.{ℕ}
+use mathlib.Core.Path.{refl}
 use borrow.Author.Needs.{needs}
-use lib.Bits.{bitAnd}
-use lib.Dec.{eqb}
-use lib.ListN.{getD}
 use Rattle.format.specs.Assigned.{signalPlaces, assigned}
-use Rattle.holding.proofs.Places.{assigned-mask}
+use Rattle.holding.specs.Kth.{below}
+use Rattle.holding.proofs.Highest.{below-at}
 use Rattle.holding.proofs.assigned.signals_assigned.Statement.{statement}
 use Rattle.holding.proofs.assigned.signals_assigned.Tie as tie
 
+ends-by-requires : tie.Need-ends-by-requires
+unfolding below signalPlaces
+ends-by-requires c κs = (below-at 16 signalPlaces refl (c .args .id) (c .pre .0), search needs, c .pre .1)
+
 returns : tie.Need-returns
-unfolding assigned
-returns c =
-    let x = c .before .args in
-    ap (λ (past : ℕ). eqb (bitAnd (x .mask) past) 0) (c .past-signals .ensures) ∙ assigned-mask 15 (getD signalPlaces (x .id) 0) (x .mask)
+unfolding signalPlaces assigned
+returns c = c .ends-by .ensures
 
 pub signals-assigned-spec : {M : Type 1} → statement M
-signals-assigned-spec = tie.close (tie.spec (λ c κs. search needs) returns)
+signals-assigned-spec = tie.close (tie.spec (λ c. search needs) (λ c. search needs) ends-by-requires returns)

@@ -1,0 +1,32 @@
+-- `holding::assigned::ends_by` meets its contract. Assumes nothing.
+use mathlib.Core.Path.{_≡_, sym, ap, _∙_}
+use Prim.Native.Nat.{ℕ, suc, _-_, _*_, _%_, _^_}
+use native.Mathlib.Omega.{arith}
+use borrow.Author.Needs.{needs}
+use lib.Dec.{eqb}
+use lib.Pow.{pow-pos}
+use Rattle.bits.proofs.Windows.{one-shifted}
+use Rattle.holding.proofs.Places.{assigned-number}
+use Rattle.holding.proofs.assigned.ends_by.Statement.{statement}
+use Rattle.holding.proofs.assigned.ends_by.Tie as tie
+
+module _ (c : tie.Start) where
+  -- how many bits stand past the place
+  abbrev free : ℕ
+  free = c .args .w - 1 - c .args .highest
+
+  power : 1 * 2 ^ free % 2 ^ 64 ≡ 2 ^ free
+  power = one-shifted free (omega arith)
+
+rem-result : tie.Need-rem-result
+rem-result c = rw (power c) (pow-pos (free c))
+
+returns : tie.Need-returns
+returns c =
+    let x = c .args in
+    let same : free c ≡ x .w - suc (x .highest) = omega arith in
+    ap (λ (p : ℕ). eqb (x .mask % p) 0) (power c ∙ ap (λ (k : ℕ). 2 ^ k) same)
+    ∙ sym (assigned-number (x .w) (x .highest) (x .mask) (c .pre .0) (c .pre .2))
+
+pub ends-by-spec : {M : Type 1} → statement M
+ends-by-spec = tie.close (tie.spec (λ c. search needs) (λ c. search needs) (λ c. search needs) rem-result returns)
