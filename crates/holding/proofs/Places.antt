@@ -122,6 +122,6 @@ pub assigned-mask : (w top n : ℕ) → eqb (bitAnd n (2 ^ (w - top) - 1)) 0 ≡
 assigned-mask w top n =
     sym (ap blank (drop-spell (suc top) (suc w) n) ∙ rw suc-sub-suc (blank-number (spell (w - top) n) ∙ ap (λ (m : ℕ). eqb m 0) (number-spell (w - top) n ∙ sym (and-mask n (w - top)))))
 
--- the last of five IDs
-pub fifth : (id : ℕ) → id < 5 → (id ≡ 0 → ⊥) → (id ≡ 1 → ⊥) → (id ≡ 2 → ⊥) → (id ≡ 3 → ⊥) → id ≡ 4
-fifth id few a b c d = omega arith
+-- there is no ID but five
+pub no-sixth : (id : ℕ) → id < 5 → (id ≡ 0 → ⊥) → (id ≡ 1 → ⊥) → (id ≡ 2 → ⊥) → (id ≡ 3 → ⊥) → (id ≡ 4 → ⊥) → ⊥
+no-sixth id few a b c d e = omega arith

@@ -7,7 +7,7 @@ ghost use Rattle.bits.specs.BitLists.{spell};
 ghost use Rattle.format.specs.Assigned.{satellitePlaces, signalPlaces, assigned};
 
 // The bits past the highest assigned place: GPS, GLONASS, Galileo, BeiDou, QZSS. As a `match` it is a table that LLVM
-// reads; an array would be made anew at each call.
+// reads, without a test as there is no other ID; an array would be made anew at each call.
 fn past_satellites(id: usize) -> u64
     requires { ⌜ id < 5 ⌝ }
     ensures { λ r. ⌜ r ≡ 2 ^ (39 - getD satellitePlaces id 0) - 1 ⌝ }
@@ -17,7 +17,8 @@ fn past_satellites(id: usize) -> u64
         1 => 0xffff,
         2 => 0x7,
         3 => 0,
-        _ => 0x3fff_ffff,
+        4 => 0x3fff_ffff,
+        _ => 0,
     }
 }
 
@@ -30,7 +31,8 @@ fn past_signals(id: usize) -> u64
         1 => 0x7,
         2 => 0x1,
         3 => 0x7f,
-        _ => 0x3f,
+        4 => 0x3f,
+        _ => 0,
     }
 }
 

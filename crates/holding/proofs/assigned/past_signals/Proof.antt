@@ -1,6 +1,6 @@
 -- `holding::assigned::past_signals` meets its contract. Assumes nothing.
 use Rattle.format.specs.Assigned.{signalPlaces}
-use Rattle.holding.proofs.Places.{fifth}
+use Rattle.holding.proofs.Places.{no-sixth}
 use Rattle.holding.proofs.assigned.past_signals.Statement.{statement}
 use Rattle.holding.proofs.assigned.past_signals.Tie as tie
 
@@ -22,9 +22,12 @@ returns-4 c = rw (c .match .keys4)
 
 returns-5 : tie.Need-returns-5
 unfolding signalPlaces
-returns-5 c =
+returns-5 c = rw (c .match .keys5)
+
+returns-6 : tie.Need-returns-6
+returns-6 c =
     let other = c .match .rest in
-    rw (fifth (c .before .args .id) (c .before .pre) (other .0 .0 .0 .1) (other .0 .0 .1) (other .0 .1) (other .1))
+    absurd (no-sixth (c .before .args .id) (c .before .pre) (other .0 .0 .0 .0 .1) (other .0 .0 .0 .1) (other .0 .0 .1) (other .0 .1) (other .1))
 
 pub past-signals-spec : {M : Type 1} → statement M
-past-signals-spec = tie.close (tie.spec returns returns-2 returns-3 returns-4 returns-5)
+past-signals-spec = tie.close (tie.spec returns returns-2 returns-3 returns-4 returns-5 returns-6)
