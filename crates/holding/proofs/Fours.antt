@@ -40,7 +40,7 @@ eqb-parts x y r t hr ht =
     (λ e. let parts = and-true (eqb r t) (eqb x y) e in eq-eqb (x * 2 ^ 16 + r) (y * 2 ^ 16 + t) (omega (arith, eqb-true r t (parts .0), eqb-true x y (parts .1))))
 
 -- so are four rows
-eqb-four : (a b c d p q r s : ℕ) → a < 2 ^ 16 → b < 2 ^ 16 → c < 2 ^ 16 → p < 2 ^ 16 → q < 2 ^ 16 → r < 2 ^ 16
+pub eqb-four : (a b c d p q r s : ℕ) → a < 2 ^ 16 → b < 2 ^ 16 → c < 2 ^ 16 → p < 2 ^ 16 → q < 2 ^ 16 → r < 2 ^ 16
     → eqb (four a b c d) (four p q r s) ≡ (eqb a p && (eqb b q && (eqb c r && eqb d s)))
 eqb-four a b c d p q r s ha hb hc hp hq hr =
     eqb-parts ((d * 2 ^ 16 + c) * 2 ^ 16 + b) ((s * 2 ^ 16 + r) * 2 ^ 16 + q) a p ha hp

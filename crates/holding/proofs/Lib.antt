@@ -12,6 +12,7 @@ pub mod Kths
 pub mod Tests
 pub mod Noughts
 pub mod Fours
+pub mod EmptyFours
 pub mod Fitting
 pub mod FittingFours
 pub mod SoundTested

@@ -1,5 +1,5 @@
 -- Tests as Booleans. Assumes nothing.
-use mathlib.Core.Path.{_≡_, refl}
+use mathlib.Core.Path.{_≡_, refl, sym}
 use mathlib.Core.Bool.{Bool, true, false, _&&_}
 
 pub and-assoc : (a b c : Bool) → (a && (b && c)) ≡ ((a && b) && c)
@@ -9,6 +9,18 @@ and-assoc true b c = refl
 pub and-end : (a : Bool) → (a && true) ≡ a
 and-end false = refl
 and-end true = refl
+
+pub and-swap : (a b c : Bool) → ((a && b) && c) ≡ ((a && c) && b)
+and-swap false b c = refl
+and-swap true false false = refl
+and-swap true false true = refl
+and-swap true true c = sym (and-end c)
+
+-- a test that was made already
+pub and-again : (a b c : Bool) → ((a && b) && (b && c)) ≡ (a && (b && c))
+and-again false b c = refl
+and-again true false c = refl
+and-again true true c = refl
 
 -- two tests each of which holds where the other does
 pub same-test : (a b : Bool) → (a ≡ true → b ≡ true) → (b ≡ true → a ≡ true) → a ≡ b

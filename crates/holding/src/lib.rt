@@ -4,6 +4,7 @@ pub mod cells_in;
 pub mod joined;
 pub mod kth;
 pub mod named;
+pub mod rows_empty;
 pub mod rows_fit;
 pub mod set_places;
 pub mod testing;

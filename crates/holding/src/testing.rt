@@ -11,6 +11,7 @@ use crate::Holding;
 use crate::assigned;
 use crate::cells_in;
 use crate::named;
+use crate::rows_empty;
 use crate::rows_fit;
 use crate::set_places;
 
@@ -42,20 +43,6 @@ fn masks_fit(n: usize, id: usize, satellites: u64, signals: u16) -> bool
         return false;
     }
     assigned::signals_assigned(id, signals as u64)
-}
-
-// Whether no row from one on is used: all are gathered, without an exit, which makes it a few vectors' work.
-fn rows_empty(rows: &[u16], from: usize) -> bool
-    requires { ⌜ from ≤ length (now rows) ⌝ }
-    ensures { λ r. ⌜ r ≡ emptyRows (drop from (now (rows .entry))) ⌝ }
-{
-    let mut any = 0u16;
-    let mut i = from;
-    while i < rows.len() {
-        any |= rows[i];
-        i += 1;
-    }
-    any == 0
 }
 
 // Whether a slot is as it is where it is not used.
@@ -158,7 +145,7 @@ pub fn slots_fit(
     if !slots_empty(ids, satellites, signals, flags, count) {
         return false;
     }
-    if !rows_empty(rows, n) {
+    if !rows_empty::rows_empty(rows, n) {
         return false;
     }
     cells_fit(rows, n, ncell)

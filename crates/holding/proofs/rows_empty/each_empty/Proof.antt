@@ -1,4 +1,4 @@
--- `holding::testing::rows_empty` meets its contract. The loop's invariant: the rows are empty from the first on just if nothing is gathered and they
+-- `holding::rows_empty::each_empty` meets its contract. The loop's invariant: the rows are empty from the first on just if nothing is gathered and they
 -- are from the i-th on.
 -- Assumes nothing.
 use mathlib.Core.Path.{_≡_, refl, sym, ap, _∙_}
@@ -13,8 +13,8 @@ use Rattle.holding.specs.Testing.{emptyRows}
 use Rattle.holding.proofs.Fitting.{empty-row}
 use Rattle.holding.proofs.Noughts.{gather}
 use Rattle.holding.proofs.Tests.{and-end}
-use Rattle.holding.proofs.testing.rows_empty.Statement.{statement}
-use Rattle.holding.proofs.testing.rows_empty.Tie as tie
+use Rattle.holding.proofs.rows_empty.each_empty.Statement.{statement}
+use Rattle.holding.proofs.rows_empty.each_empty.Tie as tie
 
 abbrev Inv-loop : tie.InvT-loop
 Inv-loop rows from any₀ i₀ any i = (i ≤ length rows) × (emptyRows (drop from rows) ≡ (eqb any 0 && emptyRows (drop i rows)))
@@ -37,8 +37,8 @@ returns c =
     let all : length (x .rows .now) ≤ c .before .loop .i = omega arith in
     sym (c .before .loop .inv .1 ∙ rw (drop-of-length-le (x .rows .now) all) (and-end _))
 
-pub rows-empty-spec : {M : Type 1} → statement M
-rows-empty-spec =
+pub each-empty-spec : {M : Type 1} → statement M
+each-empty-spec =
     tie.close
     (tie.spec Inv-loop μ-loop (λ c. (omega arith, refl)) (λ c. search needs) (λ c. omega arith) (λ c. omega arith) (λ c. omega arith) loop-again
     returns)
