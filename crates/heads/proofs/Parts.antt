@@ -1,4 +1,5 @@
--- The fields of the common head: cut from one number, and within their ranges. Assumes nothing.
+-- Fields cut from one number: number and sub type, the common head's, which are within their ranges, and the flags of sub type 11.
+-- Assumes nothing.
 use mathlib.Core.Path.{_≡_}
 use mathlib.Core.List.{List}
 use Prim.Native.Nat.{ℕ, _+_, _-_, _*_, _/_, _%_, _≤_, _<_}
@@ -12,6 +13,35 @@ use Rattle.bits.proofs.Fields.{field-add, field-lt}
 use Rattle.heads.specs.declared.CommonHead.{CommonHead}
 use Rattle.heads.specs.declared.Opened.the-variants.{Common}
 use Rattle.heads.specs.Openings.{Small, commonAt}
+
+-- ---- number and sub type
+
+module _ (bs : List ℕ) (place : ℕ) where
+  pub number-part : field bs place 16 / 16 ≡ field bs place 12
+  number-part = omega (arith, field-add bs place 12 4, field-lt bs (place + 12) 4)
+
+  pub type-part : field bs place 16 % 16 ≡ field bs (place + 12) 4
+  type-part = omega (arith, field-add bs place 12 4, field-lt bs (place + 12) 4)
+
+-- ---- the flags
+
+module _ (bs : List ℕ) (place : ℕ) where
+  flags : field bs place 3 ≡ field bs place 1 * 4 + (field bs (place + 1) 1 * 2 + field bs (place + 2) 1)
+  flags =
+      let last : place + 1 + 1 ≡ place + 2 = omega arith in
+      let second = rw last at (field-add bs (place + 1) 1 1) in
+      omega (arith, field-add bs place 1 2, second)
+
+  pub orbit-part : field bs place 3 / 4 ≡ field bs place 1
+  orbit-part = omega (arith, flags, field-lt bs (place + 1) 1, field-lt bs (place + 2) 1)
+
+  pub clock-part : field bs place 3 / 2 % 2 ≡ field bs (place + 1) 1
+  clock-part = omega (arith, flags, field-lt bs (place + 1) 1, field-lt bs (place + 2) 1)
+
+  pub network-part : field bs place 3 % 2 ≡ field bs (place + 2) 1
+  network-part = omega (arith, flags, field-lt bs (place + 1) 1, field-lt bs (place + 2) 1)
+
+-- ---- the common head
 
 module _ (bs : List ℕ) (place w : ℕ) where
   -- all of it: the epoch, then 4, 1 and 4 bits

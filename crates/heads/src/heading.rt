@@ -95,7 +95,8 @@ fn selection(
     Heading::Rows(numbers, lines, place + 5 + n)
 }
 
-// The three flags of sub type 11, each short by one bit where it is; then the network that the third may say.
+// The three flags of sub type 11, each short by one bit where it is, read at once; then the network that the third
+// may say.
 fn combined(n: usize, bytes: &[u8], end: usize, place: usize, h: CommonHead) -> Heading
     requires { ⌜ (n ≤ 64) × (place ≤ end) × (end < 2 ^ 32) × Small h ⌝ }
     ensures { λ r. ⌜ r ≡ combinedAt n (now (bytes .entry)) end place h ⌝ }
@@ -103,9 +104,10 @@ fn combined(n: usize, bytes: &[u8], end: usize, place: usize, h: CommonHead) -> 
     if end - place < 3 {
         return Heading::Refused(Refusal::Short, 1);
     }
-    let orbit = read_field(bytes, place, 1);
-    let clock = read_field(bytes, place + 1, 1);
-    if read_field(bytes, place + 2, 1) != 0 {
+    let flags = read_field(bytes, place, 3);
+    let orbit = flags / 4;
+    let clock = flags / 2 % 2;
+    if flags % 2 != 0 {
         return selection(n, bytes, end, place + 3, h, orbit, clock);
     }
     let numbers = head(11, h, orbit as i32, clock as i32, ABSENT);

@@ -15,6 +15,7 @@ pub enum Opening {
     Refused(Refusal, usize),
 }
 
+// Both fields are read at once, whether or not the second is there, and then parted.
 pub fn open(bytes: &[u8], end: usize, place: usize) -> Opening
     requires { ⌜ (place ≤ end) × (end < 2 ^ 32) ⌝ }
     ensures { λ r. ⌜ r ≡ openingAt (now (bytes .entry)) end place ⌝ }
@@ -23,13 +24,14 @@ pub fn open(bytes: &[u8], end: usize, place: usize) -> Opening
     if left < 12 {
         return Opening::Refused(Refusal::Short, 12 - left);
     }
-    if read_field(bytes, place, 12) != 4073 {
+    let both = read_field(bytes, place, 16);
+    if both / 16 != 4073 {
         return Opening::Refused(Refusal::Number, 0);
     }
     if left < 16 {
         return Opening::Refused(Refusal::Short, 16 - left);
     }
-    Opening::SubType(read_field(bytes, place + 12, 4) as usize)
+    Opening::SubType((both % 16) as usize)
 }
 
 // Epoch, interval, indicator and IOD SSR.

@@ -5,10 +5,8 @@ use mathlib.Core.List.{List}
 use Prim.Native.Nat.{ℕ, zero, suc, _+_, _-_, _≤_}
 use native.Mathlib.Omega.{arith}
 use lib.ListN.{length}
-use Rattle.format.specs.declared.Answer.{Answer}
 use Rattle.format.specs.Good.{good}
 use Rattle.format.specs.Masks.{Held, nothing, mask}
-use Rattle.format.specs.Reading.{answerOf}
 use Rattle.format.specs.Rows.{bodyWidth}
 use Rattle.format.specs.Table.{Message}
 use Rattle.heads.specs.declared.heading.Heading.{Heading}
@@ -21,7 +19,7 @@ use Rattle.holding.specs.Pictures.{pictureOf, maskOf, sound}
 use Rattle.holding.proofs.HeldKths.{held-counts}
 use Rattle.holding.proofs.Pictured.{picture-sound}
 use Rattle.holding.proofs.PicturedRows.{few-satellites}
-use Rattle.reader.specs.Readings.{holdingAfter, readingOf}
+use Rattle.reader.specs.Readings.{holdingAfter}
 
 -- ---- whether a mask is held, its issue, its satellites
 
@@ -69,8 +67,3 @@ headed-keeps h e bs end (Rows head lines at) =
     let w = bodyWidth (linesOf (maskOf h) lines) in
     bodied-keeps h e _ refl (at + w) (w - (end - at))
 headed-keeps h e bs end (Refused r missing) = refl
-
-pub headed-reading : (h : Holding) → sound h ≡ true → (bs : List ℕ) (end : ℕ) (d : Heading) (a : Answer) → a ≡ answerOf (headedBy (maskOf h) bs end d)
-    → record { answer = a; holding = h } ≡ readingOf h (headedBy (maskOf h) bs end d)
-unfolding readingOf
-headed-reading h e bs end d a same = rw (same, headed-keeps h e bs end d)

@@ -3,3 +3,4 @@ pub mod Bodied
 pub mod Adopted
 pub mod Rawed
 pub mod Outcomes
+pub mod Rowed

@@ -1,7 +1,7 @@
 // One message, by its number and sub type.
 ghost use mathlib.Core.Path.{_≡_};
 ghost use mathlib.Core.Bool.{true};
-ghost use Prim.Native.Nat.{_*_, _≤_, _<_};
+ghost use Prim.Native.Nat.{_*_, _^_, _≤_, _<_};
 ghost use lib.ListN.{length};
 ghost use Rattle.format.specs.Reading.{answerOf, rowsAfter, bitsFrom};
 ghost use Rattle.heads.specs.Headings.{isMasked, headedBy, Begins};
@@ -10,6 +10,7 @@ ghost use Rattle.format.specs.Messages.{maskMessage};
 ghost use Rattle.format.specs.Programs.{run};
 ghost use Rattle.heads.specs.Sorting.{adoptedBy, sortedAt, openedBy};
 ghost use Rattle.holding.specs.Pictures.{maskOf, sound};
+ghost use Rattle.reader.specs.Rowed.{hasRows, headingAt};
 ghost use Rattle.reader.specs.Readings.{readingOf};
 use crate::Reading;
 use crate::refused;
@@ -73,6 +74,64 @@ fn is_masked(n: usize) -> bool
     n <= 5
 }
 
+// Whether a sub type's messages have a body of rows: sub type 10's too, which is read under no mask.
+fn has_rows(n: usize) -> bool
+    ensures { λ r. ⌜ r ≡ hasRows n ⌝ }
+{
+    if n == 10 {
+        return true;
+    }
+    is_masked(n)
+}
+
+// What such a message says before its body, where a mask of so many satellites is held under an issue, or nothing.
+fn heading_of(
+    held: bool,
+    iod: u8,
+    count: usize,
+    n: usize,
+    bytes: &[u8],
+    end: usize,
+    place: usize,
+) -> Heading
+    requires { ⌜ (n < 16) × (count ≤ 64) × (place ≤ end) × (end < 2 ^ 32) ⌝ }
+    ensures { λ r. ⌜ r ≡ headingAt held iod count n (now (bytes .entry)) end place ⌝ }
+{
+    if n == 10 {
+        return heading::packet(bytes, end, place);
+    }
+    heading::masked(held, iod, count, n, bytes, end, place)
+}
+
+// Any sub type but 1. What was held is held after it, so that it is not handed on from here: each such step would
+// be a copy.
+fn rowed(
+    holding: Holding,
+    bytes: &[u8],
+    end: usize,
+    place: usize,
+    n: usize,
+    rows: &mut [i32],
+) -> Answer
+    requires { ⌜ (sound holding ≡ true) × (end ≤ 8 * length (now bytes)) × (end ≤ 50850) × (place ≤ end) × (n < 16) × (2048 ≤ length (now rows)) × ¬ (n ≡ 1) ⌝ }
+    ensures { λ r. ⌜ r ≡ answerOf (sortedAt (maskOf holding) (now (bytes .entry)) end place n) ⌝ }
+    ensures { λ _. ⌜ now (rows .exit) ≡ rowsAfter (sortedAt (maskOf holding) (now (bytes .entry)) end place n) (now (rows .entry)) ⌝ }
+{
+    if !has_rows(n) {
+        return Answer::Refused(Refusal::SubType);
+    }
+    let heading = heading_of(
+        holding.held,
+        holding.iod,
+        holding.nsat,
+        n,
+        bytes,
+        end,
+        place,
+    );
+    body_of(holding, heading, bytes, end, rows)
+}
+
 // Behind number and sub type.
 fn sorted(
     holding: Holding,
@@ -89,27 +148,8 @@ fn sorted(
     if n == 1 {
         return adopted(holding, bytes, end, place);
     }
-    if n == 10 {
-        let heading = heading::packet(bytes, end, place);
-        return Reading {
-            answer: body_of(holding, heading, bytes, end, rows),
-            holding,
-        };
-    }
-    if !is_masked(n) {
-        return refused(holding, Refusal::SubType);
-    }
-    let heading = heading::masked(
-        holding.held,
-        holding.iod,
-        holding.nsat,
-        n,
-        bytes,
-        end,
-        place,
-    );
     Reading {
-        answer: body_of(holding, heading, bytes, end, rows),
+        answer: rowed(holding, bytes, end, place, n, rows),
         holding,
     }
 }
