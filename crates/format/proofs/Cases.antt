@@ -165,5 +165,5 @@ cases =
     ∷ []
 
 cases-hold : map (λ c. report (c .over)) cases ≡ map (λ c. c .says) cases
-unfolding report spellAll stopNumber said opening maskHead head system exampleMask clock saidMask saidHead n ∅ _∶_ _stops_at_with_ cases walk spell bits bytes number signed flatMap flatten numberOf Walking.walkFrom Walking.goOn Walking.hand Reading.reading Reading.placed Reading.readFrom Reading.bitsFrom Reading.endedAt Reading.rowsAfter Reading.over Programs.run Programs._>>=_ Programs._>>_ Programs.later Programs.unlessShort Programs.numbered Programs.taking Programs.require Table.message Table.messageBy Table.table Table.kinds Table.alone Table.byKind Table.gate Table.orbitLines Table.clockLines Table.codeLines Table.phaseLines Messages.common Messages.headOf Messages.rowsAlone Messages.body Messages.satelliteLines Messages.cellLines Messages.iodeWidth Messages.orbitShape Messages.clockShape Messages.codeShape Messages.phaseShape Messages.combinedShape Messages.packetShape Messages.selection Messages.combined Messages.packetLines Messages.packet Messages.maskMessage Messages.systems Messages.system Messages.named Assigned.known Assigned.blank Assigned.assigned Assigned.satellitePlaces Assigned.signalPlaces Masks.placesFrom Masks.pick Masks.satellitesOf Masks.pairsOf Masks.cellsOf Masks.satellites Masks.cells Rows.widthOf Rows.valueOf Rows.shapeWidth Rows.valuesOf Rows.bodyWidth Rows.rowsOf Good.good Good.goodSystems Good.goodSystem
+unfolding report spellAll stopNumber said opening maskHead head system exampleMask clock saidMask saidHead n ∅ _∶_ _stops_at_with_ cases spell bits bytes number signed flatMap flatten numberOf Walking.walkBy Walking.walkFrom Walking.goOn Walking.hand Reading.readingBy Reading.placed Reading.readFrom Reading.bitsFrom Reading.endedAt Reading.rowsAfter Reading.over Programs.run Programs._>>=_ Programs._>>_ Programs.later Programs.unlessShort Programs.numbered Programs.taking Programs.require Table.messageBy Table.table Table.kinds Table.alone Table.byKind Table.gate Table.orbitLines Table.clockLines Table.codeLines Table.phaseLines Messages.common Messages.headOf Messages.rowsAlone Messages.body Messages.satelliteLines Messages.cellLines Messages.iodeWidth Messages.orbitShape Messages.clockShape Messages.codeShape Messages.phaseShape Messages.combinedShape Messages.packetShape Messages.selection Messages.combined Messages.packetLines Messages.packet Messages.maskMessage Messages.systems Messages.system Messages.named Assigned.known Assigned.blank Assigned.assigned Assigned.satellitePlaces Assigned.signalPlaces Masks.placesFrom Masks.pick Masks.satellitesOf Masks.pairsOf Masks.cellsOf Masks.satellites Masks.cells Rows.widthOf Rows.valueOf Rows.shapeWidth Rows.valuesOf Rows.bodyWidth Rows.rowsOf Good.good Good.goodSystems Good.goodSystem
 cases-hold = refl

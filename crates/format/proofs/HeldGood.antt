@@ -36,7 +36,6 @@ kind-stays n (masked p q) law held fine = masked-keeps p q held λ c b. fine
 kind-stays n (adopts p q) law held fine = gives-bind law λ d b it. gives-done it
 
 message-stays : (held : Held) → good held ≡ true → Gives (message held) (λ m b. good (m .after) ≡ true)
-unfolding message
 message-stays held fine = gives-message table held λ n _. kind-stays n (table n) (in-table kinds-good (λ k. tt) n) held fine
 
 pub stays-good : (held : Held) → good held ≡ true → (l : List Bool) (m : Message) (taken : ℕ) → run (message held) l ≡ well m taken → good (m .after) ≡ true
@@ -47,4 +46,4 @@ stays-good held fine = message-stays held fine .gives
 pub reading-good : (held : Held) (bytes : List ℕ) (end start : ℕ) (rows : List ℤ) → good held ≡ true → good (heldAfter (reading true held bytes end start rows)) ≡ true
 unfolding heldAfter
 reading-good held bytes stop start rows fine =
-    reading-ends (λ o. good (heldAfter o) ≡ true) held (λ r missing. fine) true bytes stop start rows fine (stays-good held fine (bitsFrom bytes stop start))
+    reading-ends (λ o. good (heldAfter o) ≡ true) held (λ r missing. fine) table true bytes stop start rows fine (stays-good held fine (bitsFrom bytes stop start))

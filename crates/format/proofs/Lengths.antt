@@ -243,6 +243,5 @@ kinds-long =
 
 -- the bits taken are the sum that head and masks fix
 pub message-long : (held : Held) → Gives (message held) (λ m b. length b ≡ lengthOf (m .after) (m .content))
-unfolding message
 message-long held =
     gives-message table held λ n _. gives-so (in-table kinds-long other-long n held) λ m b it. simp (length-append, length-spell) (omega (arith, it .1))

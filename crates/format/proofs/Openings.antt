@@ -12,11 +12,8 @@ use Rattle.format.specs.declared.Refusal.the-variants.{Number}
 use Rattle.format.specs.Masks.{Held}
 use Rattle.format.specs.Messages.{Content, packet}
 use Rattle.format.specs.Programs.{Program, done, refuse, field, _>>=_, _>>_, numbered, require, Ended, well, badly, later, unlessShort, run}
+use Rattle.format.specs.Reading.{subTypeIn}
 use Rattle.format.specs.Table.{Kind, free, adopts, Message, table, kinds, byKind, messageBy, message}
-
--- the sub type that stands in the bits
-abbrev pub subTypeIn : List Bool → ℕ
-subTypeIn l = number (take 4 (drop 12 l))
 
 -- 3 for the number, 4, 3 for the sub type, and then the rest's end
 unfoldable pub opened : {A : Type 0} → List Bool → Ended A → Ended A
@@ -36,7 +33,7 @@ run-opened t held l =
 
 -- ---- a mask message: whatever is held, the same end
 pub mask-free : (g h : Held) (l : List Bool) → subTypeIn l ≡ 1 → run (message g) l ≡ run (message h) l
-unfolding message table kinds byKind
+unfolding table kinds byKind
 mask-free g h l one =
     run-opened table g l ∙ ap (λ (s : ℕ). opened l (run (byKind (table s) g) (drop 4 (drop 12 l)))) one
     ∙ sym (run-opened table h l ∙ ap (λ (s : ℕ). opened l (run (byKind (table s) h) (drop 4 (drop 12 l)))) one)
@@ -83,7 +80,7 @@ content-held (field w next) held l =
     (content-later w (run (next (take w l) >>= (λ c. done (record { content = c; after = held }))) (drop w l)) ∙ ap (later w) (content-held (next (take w l)) held (drop w l)))
 
 packet-alone : (held : Held) (l : List Bool) → subTypeIn l ≡ 10 → contentOf (run (message held) l) ≡ opened l (run packet (drop 4 (drop 12 l)))
-unfolding message table kinds byKind
+unfolding table kinds byKind
 packet-alone held l ten =
     ap contentOf (run-opened table held l ∙ ap (λ (s : ℕ). opened l (run (byKind (table s) held) (drop 4 (drop 12 l)))) ten)
     ∙ content-opened l (run (packet >>= (λ c. done (record { content = c; after = held }))) (drop 4 (drop 12 l)))

@@ -145,7 +145,7 @@ table-lawful = in-table kinds-lawful (λ n. tt)
 message-written : (held : Held) → good held ≡ true
     → Gives (message held)
     (λ m b. (exact (m .after) (m .content .head) (m .content .rows) ≡ true) × (spelled (m .after) (m .content .head) (m .content .rows) ≡ b))
-unfolding exact message spelled
+unfolding exact spelled
 message-written held fine =
     gives-so (gives-both (message-spelled table table-lawful held fine) (message-again table held)) λ m b it.
     (rw (it .0, it .1 .reads) (ended-refl m (length b)), it .0)

@@ -11,8 +11,8 @@ use Rattle.format.specs.declared.Refusal.the-variants.{Room, Place, Valu
 use Rattle.format.specs.Assigned.{blank}
 use Rattle.format.specs.Masks.{Held}
 use Rattle.format.specs.Programs.{Ended, well, badly, run}
-use Rattle.format.specs.Reading.{rowRoom, Outcome, accepted, idle, refused, endedAt, readFrom, bitsFrom, placed, reading, heldAfter, rowsAfter}
-use Rattle.format.specs.Table.{Message, message}
+use Rattle.format.specs.Reading.{rowRoom, Outcome, accepted, idle, refused, endedAt, readFrom, bitsFrom, placed, readingBy, reading, heldAfter, rowsAfter}
+use Rattle.format.specs.Table.{Kind, Message, table, messageBy}
 
 -- ---- how a reading ends
 
@@ -31,14 +31,14 @@ module _ (P : Outcome → Type 0) where
 
     -- what holds of stops that keep the holding, and of whatever message is read, holds of a reading
     pub reading-ends :
-        (sound : Bool) (bytes : List ℕ) (end start : ℕ) (rows : List ℤ) → P (idle held)
-        → ((m : Message) (taken : ℕ) → run (message held) (bitsFrom bytes end start) ≡ well m taken → P (accepted m (start + taken)))
-        → P (reading sound held bytes end start rows)
-    unfolding reading readFrom
-    reading-ends sound bytes end start rows none said =
+        (t : ℕ → Kind) (sound : Bool) (bytes : List ℕ) (end start : ℕ) (rows : List ℤ) → P (idle held)
+        → ((m : Message) (taken : ℕ) → run (messageBy t held) (bitsFrom bytes end start) ≡ well m taken → P (accepted m (start + taken)))
+        → P (readingBy t sound held bytes end start rows)
+    unfolding readingBy readFrom
+    reading-ends t sound bytes end start rows none said =
         let l : List Bool = bitsFrom bytes end start in
         branch (leb rowRoom (length rows)) _ _
-        (branch (placed bytes end start) _ _ (branch sound _ _ (branch (blank l) _ _ none (ended start (run (message held) l) said)) (stop Value 0)) (stop Place 0))
+        (branch (placed bytes end start) _ _ (branch sound _ _ (branch (blank l) _ _ none (ended start (run (messageBy t held) l) said)) (stop Value 0)) (stop Place 0))
         (stop Room 0)
 
 -- ---- stops
@@ -54,7 +54,7 @@ pub stop-holds :
     → heldAfter (reading sound held bytes end start rows) ≡ held
 unfolding heldAfter
 stop-holds sound held bytes end start rows =
-    reading-ends (λ o. Stopped o → heldAfter o ≡ held) held (λ r missing _. refl) sound bytes end start rows (λ _. refl) (λ m taken e stopped. absurd stopped)
+    reading-ends (λ o. Stopped o → heldAfter o ≡ held) held (λ r missing _. refl) table sound bytes end start rows (λ _. refl) (λ m taken e stopped. absurd stopped)
 
 pub stop-leaves : (o : Outcome) (rows : List ℤ) → Stopped o → rowsAfter o rows ≡ rows
 unfolding rowsAfter

@@ -74,8 +74,8 @@ messageBy t held = do
   subType ← numbered 4
   byKind (t subType) held
 
-unfoldable pub message : Held → Program Message
-message = messageBy table
+abbrev pub message : Held → Program Message
+message held = messageBy table held
 
 -- ---- spelling by a table
 

@@ -7,8 +7,8 @@ use lib.ListN.{length}
 use Rattle.format.specs.Good.{good}
 use Rattle.format.specs.Masks.{Held}
 use Rattle.format.specs.Messages.{Content}
-use Rattle.format.specs.Table.{Message}
-use Rattle.format.specs.Reading.{Outcome, accepted, idle, refused, reading, rowsAfter}
+use Rattle.format.specs.Table.{Kind, Message, table}
+use Rattle.format.specs.Reading.{Outcome, accepted, idle, refused, readingBy, rowsAfter}
 
 -- what a receiver hands out, in order; how and where it stops; what the row buffer then holds
 pub record Walk : Type 0 where
@@ -27,14 +27,17 @@ goOn (idle held) place rows more = record { handed = []; stop = idle held; place
 goOn (refused r missing held) place rows more = record { handed = []; stop = refused r missing held; place = place; rows = rows }
 
 -- by fuel, of which the bit length and one suffices: each message takes a bit and more
-unfoldable pub walkFrom : ℕ → Bool → Held → List ℕ → ℕ → ℕ → List ℤ → Walk
-walkFrom zero sound held bytes end place rows = record { handed = []; stop = idle held; place = place; rows = rows }
-walkFrom (suc fuel) sound held bytes end place rows =
-    goOn (reading sound held bytes end place rows) place rows
-    (λ m next. walkFrom fuel (good (m .after)) (m .after) bytes end next (rowsAfter (accepted m next) rows))
+unfoldable pub walkFrom : (ℕ → Kind) → ℕ → Bool → Held → List ℕ → ℕ → ℕ → List ℤ → Walk
+walkFrom t zero sound held bytes end place rows = record { handed = []; stop = idle held; place = place; rows = rows }
+walkFrom t (suc fuel) sound held bytes end place rows =
+    goOn (readingBy t sound held bytes end place rows) place rows
+    (λ m next. walkFrom t fuel (good (m .after)) (m .after) bytes end next (rowsAfter (accepted m next) rows))
 
-unfoldable pub walk : Bool → Held → List ℕ → ℕ → List ℤ → Walk
-walk sound held bytes end rows = walkFrom (suc end) sound held bytes end 0 rows
+unfoldable pub walkBy : (ℕ → Kind) → Bool → Held → List ℕ → ℕ → List ℤ → Walk
+walkBy t sound held bytes end rows = walkFrom t (suc end) sound held bytes end 0 rows
+
+abbrev pub walk : Bool → Held → List ℕ → ℕ → List ℤ → Walk
+walk sound held bytes end rows = walkBy table sound held bytes end rows
 
 -- ---- what the walk answers
 

@@ -88,6 +88,5 @@ module _ (bs : List ℕ) (end : ℕ) (inside : end ≤ 8 * length bs) (held : He
   by-opening start (Refused r missing) known = refl
 
   pub message-sorted : (start : ℕ) → start ≤ end → endedAt held start (run (message held) (bitsFrom bs end start)) ≡ openedBy held bs end start (openingAt bs end start)
-  unfolding message
   message-sorted start room =
       ap (endedAt held start) (opened bs end inside start room table held) ∙ by-opening start (openingAt bs end start) (λ n e. sub-type-told bs end start n room e .0)

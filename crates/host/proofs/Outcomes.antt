@@ -18,7 +18,7 @@ use Rattle.format.specs.declared.Refusal.the-variants.{Room, Place, Value}
 use Rattle.format.specs.Answers.{numberOf}
 use Rattle.format.specs.Good.{good}
 use Rattle.format.specs.Masks.{Held}
-use Rattle.format.specs.Reading.{Outcome, accepted, idle, refused, placed, reading, heldAfter, answerOf}
+use Rattle.format.specs.Reading.{Outcome, accepted, idle, refused, placed, readingBy, reading, heldAfter, answerOf}
 use Rattle.format.proofs.Answer.{the-type}
 use Rattle.format.proofs.HeldGood.{reading-good}
 use Rattle.format.specs.Same.{sameℤ}
@@ -85,7 +85,7 @@ sound-after h (refused q missing held) head next n e fine = absurd (let z : _≡
 
 -- a holding that is none makes no message
 no-message : (held : Held) (bs : List ℕ) (end start : ℕ) (rows : List ℤ) (head : Head) (next n : ℕ) → answerOf (reading false held bs end start rows) ≡ Answers.Message head next n → ⊥
-unfolding answerOf reading
+unfolding answerOf readingBy
 no-message held bs end start rows head next n = go (leb 2048 (length rows)) (placed bs end start)
   where
     go : (a b : Bool) → answerOf (cond a (cond b (refused Value 0 held) (refused Place 0 held)) (refused Room 0 held)) ≡ Answers.Message head next n → ⊥

@@ -9,9 +9,10 @@ use lib.ListN.{length}
 use borrow.Author.Tests.{le-leb, lt-leb, leb-true}
 use Rattle.bits.specs.Places.{field}
 use Rattle.format.specs.declared.Refusal.the-variants.{Room, Place, Value}
-use Rattle.format.specs.Reading.{Outcome, idle, refused, bitsFrom, readFrom, placed, reading}
+use Rattle.format.specs.Reading.{Outcome, idle, refused, bitsFrom, readFrom, placed, readingBy}
 use Rattle.format.proofs.Placed.{blank-from}
 use Rattle.format.proofs.Sames.{and-true}
+use Rattle.format.specs.Table.{table}
 use Rattle.heads.specs.Openings.{openingAt}
 use Rattle.heads.specs.Sorting.{openedBy}
 use Rattle.heads.proofs.Sorted.{message-sorted}
@@ -38,22 +39,22 @@ module _ (h : Holding) (bs : List ℕ) (end start : ℕ) (rows : List ℤ) where
   outcome = outcomeAt h bs end start rows
 
   pub no-room : length rows < 2048 → outcome ≡ refused Room 0 (maskOf h)
-  unfolding outcomeAt reading
+  unfolding outcomeAt readingBy
   no-room few = rw (lt-leb 2048 (length rows) few)
 
   module _ (room : 2048 ≤ length rows) where
     pub no-place : placed bs end start ≡ false → outcome ≡ refused Place 0 (maskOf h)
-    unfolding outcomeAt reading
+    unfolding outcomeAt readingBy
     no-place out = rw (le-leb 2048 (length rows) room, out)
 
     module _ (in-place : placed bs end start ≡ true) where
       pub no-holding : sound h ≡ false → outcome ≡ refused Value 0 (maskOf h)
-      unfolding outcomeAt reading
+      unfolding outcomeAt readingBy
       no-holding stray = rw (le-leb 2048 (length rows) room, in-place, stray)
 
       module _ (fine : sound h ≡ true) where
-        begun : outcome ≡ readFrom (maskOf h) start (bitsFrom bs end start)
-        unfolding outcomeAt reading
+        begun : outcome ≡ readFrom table (maskOf h) start (bitsFrom bs end start)
+        unfolding outcomeAt readingBy
         begun = rw (le-leb 2048 (length rows) room, in-place, fine)
 
         pub no-bits : eqb (field bs start (end - start)) 0 ≡ true → outcome ≡ idle (maskOf h)

@@ -16,8 +16,8 @@ use Rattle.format.specs.declared.Answer.{Answer}
 use Rattle.format.specs.declared.Answer.the-variants as Answers
 use Rattle.format.specs.declared.Refusal.the-variants.{Room, Place}
 use Rattle.format.specs.Masks.{Held}
-use Rattle.format.specs.Reading.{Outcome, refused, bitsFrom, placed, reading, rawEnd, answerOf}
-use Rattle.format.specs.Table.{message}
+use Rattle.format.specs.Reading.{Outcome, refused, bitsFrom, placed, readingBy, reading, rawEnd, answerOf}
+use Rattle.format.specs.Table.{table, message}
 use Rattle.format.proofs.Answer.{the-type}
 use Rattle.format.proofs.Placed.{length-from}
 use Rattle.format.proofs.Runs.{taken-le}
@@ -62,7 +62,7 @@ abbrev Raw : List ℕ → ℕ → Outcome → Type 0
 Raw bs start o = rawTo bs start (answerOf o) ≡ rawEnd o start
 
 outside : (sound : Bool) (held : Held) (bs : List ℕ) (end start : ℕ) (rows : List ℤ) → placed bs end start ≡ false → Raw bs start (reading sound held bs end start rows)
-unfolding reading rawTo answerOf rawEnd
+unfolding readingBy rawTo answerOf rawEnd
 outside sound held bs end start rows e = rw e (go (leb 2048 (length rows)))
   where
     go : (b : Bool) → Raw bs start (cond b (refused Place 0 held) (refused Room 0 held))
@@ -72,7 +72,7 @@ outside sound held bs end start rows e = rw e (go (leb 2048 (length rows)))
 within : (sound : Bool) (held : Held) (bs : List ℕ) (end start : ℕ) (rows : List ℤ) → Inside bs end start → Raw bs start (reading sound held bs end start rows)
 unfolding rawTo answerOf rawEnd
 within sound held bs end start rows known =
-    reading-ends (Raw bs start) held (λ r missing. refl) sound bs end start rows refl
+    reading-ends (Raw bs start) held (λ r missing. refl) table sound bs end start rows refl
     (λ m taken e.
     let few = taken-le (message held) (bitsFrom bs end start) m taken e in
     rw (in-stretch bs end start taken known (omega (arith, few, length-from bs end (known .lent) start))))
