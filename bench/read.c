@@ -143,7 +143,7 @@ static bool open_receiver(const char *decoder) {
 
 int main(int argc, char **argv) {
   if (argc != 4 || !open_receiver(argv[1])) return 2;
-  stretch_count = !strcmp(argv[2], "a") ? make_hour(stretches) : make_biases(stretches);
+  stretch_count = !strcmp(argv[2], "a") ? make_hour(stretches) : !strcmp(argv[2], "b") ? make_biases(stretches) : make_heads(stretches);
   if (!strcmp(argv[3], "check")) check();
   else if (!strcmp(argv[3], "stack")) printf("%zu\n", deepest(receiver.read));
   else for (int rounds = atoi(argv[3]); rounds > 0; rounds--) read_all();

@@ -1,4 +1,4 @@
-/* An encoder of messages (document 01, "Message layouts") and the two inputs made with it. Bodies are random bits:
+/* An encoder of messages (document 01, "Message layouts") and the inputs made with it. Bodies are random bits:
    each combination of them is a body. */
 #include "stretches.h"
 
@@ -215,15 +215,29 @@ static mask full_mask(void) {
   return m;
 }
 
+enum { COUNT = 20 };
+
 /* The mask, then as many phase biases as the longest stretch has room for; it ends with the last of them. */
 size_t make_biases(stretch *stretches) {
-  enum { COUNT = 20 };
   mask m = full_mask();
   for (unsigned k = 0; k < COUNT; k++) {
     stretch *s = &stretches[k];
     *s = (stretch){0};
     put_mask(s, &m, 5 * k);
     while (s->end + 37 + 17 * cell_count(&m) <= LONGEST) put_phase_biases(s, &m, 5 * k);
+  }
+  return COUNT;
+}
+
+/* ---- (c) */
+
+size_t make_heads(stretch *stretches) {
+  mask m = {.iod = 7};
+  for (unsigned k = 0; k < COUNT; k++) {
+    stretch *s = &stretches[k];
+    *s = (stretch){0};
+    put_mask(s, &m, 5 * k);
+    while (s->end + 37 <= LONGEST) put_clocks(s, &m, 5 * k);
   }
   return COUNT;
 }

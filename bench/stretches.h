@@ -19,4 +19,8 @@ size_t make_hour(stretch *stretches);
 /* Input (b): 64 satellites, 256 cells, sub type 5 back to back. Makes at most HOUR stretches, and answers how many. */
 size_t make_biases(stretch *stretches);
 
+/* Input (c): clocks of 37 bits under a mask of no systems, back to back. Makes at most HOUR stretches, and answers how
+   many. */
+size_t make_heads(stretch *stretches);
+
 #endif

@@ -9,7 +9,7 @@ use native.Mathlib.Nat.{add-zero}
 use native.Mathlib.Omega.{arith}
 use lib.Dec.{eqb}
 use lib.ListN.{length}
-use borrow.Author.Tests.{ne-eqb, lt-leb, le-leb, lt-ltb, le-ltb}
+use borrow.Author.Tests.{eqb-true, ne-eqb, lt-leb, le-leb, lt-ltb, le-ltb}
 use Rattle.bits.specs.Places.{field}
 use Rattle.bits.proofs.Fields.{field-lt}
 use Rattle.format.specs.Masks.{Held, mask}
@@ -38,12 +38,12 @@ unfolding adoptedBy endedAt run later
 adopted-by held place l (well d taken) e = ap (endedAt held place) (run-bind maskMessage adopting l d taken e) ∙ rw (add-zero taken)
 adopted-by held place l (badly r missing) e = ap (endedAt held place) (run-bind-badly maskMessage adopting l r missing e)
 
--- a sub type that was read was there, in 4 bits
-pub sub-type-told : (bs : List ℕ) (end start n : ℕ) → start ≤ end → openingAt bs end start ≡ SubType n → (start + 16 ≤ end) × (n < 16)
+-- a sub type that was read was there, in 4 bits, behind the number
+pub sub-type-told : (bs : List ℕ) (end start n : ℕ) → start ≤ end → openingAt bs end start ≡ SubType n → (start + 16 ≤ end) × (n < 16) × (field bs start 12 ≡ 4073)
 unfolding openingAt
 sub-type-told bs end start n room e = go (decLt (end - start) 12) (decLt (end - start) 16) (eqb (field bs start 12) 4073) refl
   where
-    go : Dec (end - start < 12) → Dec (end - start < 16) → (b : Bool) → eqb (field bs start 12) 4073 ≡ b → (start + 16 ≤ end) × (n < 16)
+    go : Dec (end - start < 12) → Dec (end - start < 16) → (b : Bool) → eqb (field bs start 12) 4073 ≡ b → (start + 16 ≤ end) × (n < 16) × (field bs start 12 ≡ 4073)
     go (yes short) _ b f =
         let g = rw (lt-ltb (end - start) 12 short) at e in
         absurd (let z : _≡_ {A = ℕ} 0 1 = cc in omega arith)
@@ -56,7 +56,7 @@ sub-type-told bs end start n room e = go (decLt (end - start) 12) (decLt (end - 
     go (no there) (no more) true f =
         let g = rw (le-ltb (end - start) 12 (omega arith), f, le-ltb (end - start) 16 (omega arith)) at e in
         let same : field bs (start + 12) 4 ≡ n = cc in
-        (omega arith, omega (arith, field-lt bs (start + 12) 4))
+        (omega arith, omega (arith, field-lt bs (start + 12) 4), eqb-true (field bs start 12) 4073 f)
 
 module _ (bs : List ℕ) (end : ℕ) (inside : end ≤ 8 * length bs) (held : Held) (few : length (satellitesHeld held) ≤ 64) where
   -- ---- by the sub type

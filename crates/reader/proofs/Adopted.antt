@@ -23,11 +23,11 @@ unfoldable pub answerBy : Made → Answer
 answerBy (Made.Mask head next) = Answers.Message head next 0
 answerBy (Made.Refused r missing) = Answers.Refused r
 
-unfoldable pub readingBy : Adoption → Reading
-readingBy a = record { answer = answerBy (a .made); holding = a .holding }
+unfoldable pub madeReading : Adoption → Reading
+madeReading a = record { answer = answerBy (a .made); holding = a .holding }
 
-pub adopted-by : (h : Holding) (place : ℕ) (e : Ended Adopted) → readingBy (adoptionAt h place e) ≡ readingOf h (adoptedBy (maskOf h) place e)
-unfolding readingBy answerBy adoptionAt readingOf holdingAfter answerOf adoptedBy
+pub adopted-by : (h : Holding) (place : ℕ) (e : Ended Adopted) → madeReading (adoptionAt h place e) ≡ readingOf h (adoptedBy (maskOf h) place e)
+unfolding madeReading answerBy adoptionAt readingOf holdingAfter answerOf adoptedBy
 adopted-by h place (well d taken) = refl
 adopted-by h place (badly r missing) = refl
 

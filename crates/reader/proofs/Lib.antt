@@ -3,4 +3,5 @@ pub mod Bodied
 pub mod Adopted
 pub mod Rawed
 pub mod Outcomes
+pub mod Findings
 pub mod Rowed

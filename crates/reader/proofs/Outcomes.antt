@@ -1,25 +1,18 @@
 -- The outcome of a reading by the reader's tests, one after the other. Assumes nothing.
-use mathlib.Core.Path.{_≡_, _∙_}
+use mathlib.Core.Path.{_≡_}
 use mathlib.Core.Bool.{true, false}
 use mathlib.Core.List.{List}
-use Prim.Native.Nat.{ℕ, _-_, _*_, _≤_, _<_}
-use lib.Dec.{eqb, leb}
+use Prim.Native.Nat.{ℕ, _*_, _≤_, _<_}
+use lib.Dec.{leb}
 use lib.IntN.{ℤ}
 use lib.ListN.{length}
 use borrow.Author.Tests.{le-leb, lt-leb, leb-true}
-use Rattle.bits.specs.Places.{field}
 use Rattle.format.specs.declared.Refusal.the-variants.{Room, Place, Value}
-use Rattle.format.specs.Reading.{Outcome, idle, refused, bitsFrom, readFrom, placed, readingBy}
-use Rattle.format.proofs.Placed.{blank-from}
+use Rattle.format.specs.Reading.{Outcome, refused, placed, readingBy}
 use Rattle.format.proofs.Sames.{and-true}
-use Rattle.format.specs.Table.{table}
-use Rattle.heads.specs.Openings.{openingAt}
-use Rattle.heads.specs.Sorting.{openedBy}
-use Rattle.heads.proofs.Sorted.{message-sorted}
 use Rattle.holding.specs.declared.Holding.{Holding}
 use Rattle.holding.specs.Pictures.{maskOf, sound}
-use Rattle.reader.specs.Readings.{outcomeAt}
-use Rattle.reader.proofs.Held.{says}
+use Rattle.reader.specs.Readings.{outcomeAt, readAt}
 
 -- what a place in a stretch is known to be
 pub record Inside (bs : List ℕ) (end start : ℕ) : Type 0 where
@@ -53,19 +46,6 @@ module _ (h : Holding) (bs : List ℕ) (end start : ℕ) (rows : List ℤ) where
       no-holding stray = rw (le-leb 2048 (length rows) room, in-place, stray)
 
       module _ (fine : sound h ≡ true) where
-        begun : outcome ≡ readFrom table (maskOf h) start (bitsFrom bs end start)
-        unfolding outcomeAt readingBy
+        pub begun : outcome ≡ readAt h bs end start
+        unfolding outcomeAt readingBy readAt
         begun = rw (le-leb 2048 (length rows) room, in-place, fine)
-
-        pub no-bits : eqb (field bs start (end - start)) 0 ≡ true → outcome ≡ idle (maskOf h)
-        unfolding readFrom
-        no-bits e =
-            let known = inside bs end start in-place in
-            begun ∙ rw (blank-from bs end start (known .lent) (known .there), e)
-
-        pub a-message : eqb (field bs start (end - start)) 0 ≡ false → outcome ≡ openedBy (maskOf h) bs end start (openingAt bs end start)
-        unfolding readFrom
-        a-message e =
-            let known = inside bs end start in-place in
-            let told = says h fine in
-            begun ∙ rw (blank-from bs end start (known .lent) (known .there), e) (message-sorted bs end (known .lent) (maskOf h) (told .few) start (known .there))

@@ -7,10 +7,9 @@ use native.Mathlib.Omega.{arith}
 use lib.Dec.{eqb}
 use lib.ListN.{length}
 use borrow.Author.Tests.{ne-eqb}
-use Rattle.format.specs.declared.Answer.{Answer}
 use Rattle.format.specs.declared.Refusal.the-variants.{SubType}
 use Rattle.format.specs.Masks.{Held}
-use Rattle.format.specs.Reading.{refused, answerOf}
+use Rattle.format.specs.Reading.{refused}
 use Rattle.heads.specs.declared.heading.Heading.{Heading}
 use Rattle.heads.specs.Headings.{isHeld, issueOf, isMasked, maskedAt, packetAt, headedBy, Begins}
 use Rattle.heads.specs.Sorting.{sortedAt}
@@ -19,7 +18,7 @@ use Rattle.holding.specs.declared.Holding.{Holding}
 use Rattle.holding.specs.Kth.{satellitesHeld}
 use Rattle.holding.specs.Pictures.{maskOf, sound}
 use Rattle.reader.specs.Rowed.{hasRows, headingAt}
-use Rattle.reader.specs.Readings.{holdingAfter, readingOf}
+use Rattle.reader.specs.Readings.{holdingAfter}
 use Rattle.reader.proofs.Held.{headed-keeps}
 
 -- ---- two tests, one after the other
@@ -59,14 +58,10 @@ heading-begins bs end held iod count n place room = go (eqb n 10)
 
 -- what was held is held after it
 module _ (h : Holding) (e : sound h ≡ true) (bs : List ℕ) (end place n : ℕ) (other : ¬ (n ≡ 1)) where
-  keeps : holdingAfter h (sortedAt (maskOf h) bs end place n) ≡ h
+  pub keeps : holdingAfter h (sortedAt (maskOf h) bs end place n) ≡ h
   unfolding holdingAfter
   keeps = go (hasRows n) refl
     where
       go : (b : Bool) → hasRows n ≡ b → holdingAfter h (sortedAt (maskOf h) bs end place n) ≡ h
       go true some = ap (holdingAfter h) (some-rows (maskOf h) bs end place n other some) ∙ headed-keeps h e bs end _
       go false none = ap (holdingAfter h) (no-rows (maskOf h) bs end place n other none)
-
-  pub kept-reading : (a : Answer) → a ≡ answerOf (sortedAt (maskOf h) bs end place n) → record { answer = a; holding = h } ≡ readingOf h (sortedAt (maskOf h) bs end place n)
-  unfolding readingOf
-  kept-reading a same = rw (same, keeps)

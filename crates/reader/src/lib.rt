@@ -1,4 +1,4 @@
-// Reading one message (document 01, "Reader's order"): 1, 2, 12, 0, then the message itself.
+// Reading one message (document 01, "Reader's order"): 1, 2, 12, then idle or the message itself.
 pub mod message;
 pub mod raw;
 
@@ -6,7 +6,6 @@ ghost use mathlib.Core.Path.{_≡_};
 ghost use Rattle.format.specs.declared.Answer.the-variants.{Refused};
 ghost use Rattle.format.specs.Reading.{rowsAfter, placed};
 ghost use Rattle.reader.specs.Readings.{readingOf, outcomeAt};
-use bits::rest::zero_from;
 use format::Answer;
 use format::Refusal;
 use holding::Holding;
@@ -55,11 +54,5 @@ pub fn read(holding: Holding, bytes: &[u8], end: usize, start: usize, rows: &mut
     if !holding.is_sound() {
         return refused(holding, Refusal::Value);
     }
-    if zero_from(bytes, end, start) {
-        return Reading {
-            answer: Answer::Idle,
-            holding,
-        };
-    }
-    message::message(holding, bytes, end, start, rows)
+    message::at(holding, bytes, end, start, rows)
 }

@@ -8,13 +8,13 @@ ghost use Rattle.heads.specs.Headings.{isMasked, headedBy, Begins};
 ghost use Rattle.heads.specs.Openings.{openingAt};
 ghost use Rattle.format.specs.Messages.{maskMessage};
 ghost use Rattle.format.specs.Programs.{run};
-ghost use Rattle.heads.specs.Sorting.{adoptedBy, sortedAt, openedBy};
+ghost use Rattle.heads.specs.Sorting.{adoptedBy, sortedAt};
 ghost use Rattle.holding.specs.Pictures.{maskOf, sound};
 ghost use Rattle.reader.specs.Rowed.{hasRows, headingAt};
-ghost use Rattle.reader.specs.Readings.{readingOf};
+ghost use Rattle.reader.specs.Readings.{readingOf, readAt, unopenedAt, foundBy};
 use crate::Reading;
-use crate::refused;
 use adoption::Made;
+use bits::rest::zero_from;
 use format::Answer;
 use format::Refusal;
 use heads::Opening;
@@ -35,6 +35,9 @@ fn body_of(holding: Holding, heading: Heading, bytes: &[u8], end: usize, rows: &
             if end - at < size.bits {
                 return Answer::Refused(Refusal::Short);
             }
+            if size.rows == 0 {
+                return Answer::Message(head, at + size.bits, 0);
+            }
             body::write(holding, lines, size.bits, bytes, at, rows);
             Answer::Message(head, at + size.bits, size.rows)
         }
@@ -42,7 +45,7 @@ fn body_of(holding: Holding, heading: Heading, bytes: &[u8], end: usize, rows: &
 }
 
 // A mask message behind its number and sub type.
-fn adopted(holding: Holding, bytes: &[u8], end: usize, place: usize) -> Reading
+pub fn adopted(holding: Holding, bytes: &[u8], end: usize, place: usize) -> Reading
     requires { ⌜ (end ≤ 8 * length (now bytes)) × (end ≤ 50850) × (place ≤ end) ⌝ }
     ensures { λ r. ⌜ r ≡ readingOf holding (adoptedBy (maskOf holding) place (run maskMessage (bitsFrom (now (bytes .entry)) end place))) ⌝ }
 {
@@ -132,43 +135,49 @@ fn rowed(
     body_of(holding, heading, bytes, end, rows)
 }
 
-// Behind number and sub type.
-fn sorted(
-    holding: Holding,
-    bytes: &[u8],
-    end: usize,
-    place: usize,
-    n: usize,
-    rows: &mut [i32],
-) -> Reading
-    requires { ⌜ (sound holding ≡ true) × (end ≤ 8 * length (now bytes)) × (end ≤ 50850) × (place ≤ end) × (n < 16) × (2048 ≤ length (now rows)) ⌝ }
-    ensures { λ r. ⌜ r ≡ readingOf holding (sortedAt (maskOf holding) (now (bytes .entry)) end place n) ⌝ }
-    ensures { λ _. ⌜ now (rows .exit) ≡ rowsAfter (sortedAt (maskOf holding) (now (bytes .entry)) end place n) (now (rows .entry)) ⌝ }
+// What answers to a refusal that comes before the sub type: idle where no bit is set.
+fn unopened(bytes: &[u8], end: usize, start: usize, r: Refusal) -> Answer
+    ensures { λ x. ⌜ x ≡ unopenedAt (now (bytes .entry)) end start r ⌝ }
 {
-    if n == 1 {
-        return adopted(holding, bytes, end, place);
+    if zero_from(bytes, end, start) {
+        return Answer::Idle;
     }
-    Reading {
-        answer: rowed(holding, bytes, end, place, n, rows),
-        holding,
-    }
+    Answer::Refused(r)
 }
 
-// The message at a place.
-pub fn message(
-    holding: Holding,
-    bytes: &[u8],
-    end: usize,
-    start: usize,
-    rows: &mut [i32],
-) -> Reading
+// What is found at a place: a mask message, still to be read; or the answer.
+pub enum Found {
+    Mask,
+    Answered(Answer),
+}
+
+// Reads any message but a mask. Number and sub type come first: where they are read, some bit is set.
+pub fn find(holding: Holding, bytes: &[u8], end: usize, start: usize, rows: &mut [i32]) -> Found
     requires { ⌜ (sound holding ≡ true) × (end ≤ 8 * length (now bytes)) × (end ≤ 50850) × (start ≤ end) × (2048 ≤ length (now rows)) ⌝ }
-    ensures { λ r. ⌜ r ≡ readingOf holding (openedBy (maskOf holding) (now (bytes .entry)) end start (openingAt (now (bytes .entry)) end start)) ⌝ }
-    ensures { λ _. ⌜ now (rows .exit) ≡ rowsAfter (openedBy (maskOf holding) (now (bytes .entry)) end start (openingAt (now (bytes .entry)) end start)) (now (rows .entry)) ⌝ }
+    ensures { λ r. ⌜ r ≡ foundBy (openingAt (now (bytes .entry)) end start) (readAt holding (now (bytes .entry)) end start) ⌝ }
+    ensures { λ _. ⌜ now (rows .exit) ≡ rowsAfter (readAt holding (now (bytes .entry)) end start) (now (rows .entry)) ⌝ }
 {
     let opening = heads::open(bytes, end, start);
     match opening {
-        Opening::SubType(n) => sorted(holding, bytes, end, start + 16, n, rows),
-        Opening::Refused(r, _) => refused(holding, r),
+        Opening::SubType(n) => {
+            if n == 1 {
+                return Found::Mask;
+            }
+            Found::Answered(rowed(holding, bytes, end, start + 16, n, rows))
+        }
+        Opening::Refused(r, _) => Found::Answered(unopened(bytes, end, start, r)),
+    }
+}
+
+// What stands at a place, a mask too.
+pub fn at(holding: Holding, bytes: &[u8], end: usize, start: usize, rows: &mut [i32]) -> Reading
+    requires { ⌜ (sound holding ≡ true) × (end ≤ 8 * length (now bytes)) × (end ≤ 50850) × (start ≤ end) × (2048 ≤ length (now rows)) ⌝ }
+    ensures { λ r. ⌜ r ≡ readingOf holding (readAt holding (now (bytes .entry)) end start) ⌝ }
+    ensures { λ _. ⌜ now (rows .exit) ≡ rowsAfter (readAt holding (now (bytes .entry)) end start) (now (rows .entry)) ⌝ }
+{
+    let found = find(holding, bytes, end, start, rows);
+    match found {
+        Found::Mask => adopted(holding, bytes, end, start + 16),
+        Found::Answered(answer) => Reading { answer, holding },
     }
 }

@@ -6,7 +6,7 @@ use borrow.Author.Needs.{needs}
 use borrow.Author.Tests.{not-true, not-false}
 use Rattle.format.specs.Reading.{answerOf, rowsAfter}
 use Rattle.reader.specs.Readings.{holdingAfter, readingOf}
-use Rattle.reader.proofs.Outcomes.{inside, no-room, no-place, no-holding, no-bits, a-message}
+use Rattle.reader.proofs.Outcomes.{inside, no-room, no-place, no-holding, begun}
 use Rattle.reader.proofs.read.Statement.{statement}
 use Rattle.reader.proofs.read.Tie as tie
 
@@ -31,33 +31,23 @@ returns-3 c =
     let stray = sym (c .before .before .is-sound .ensures) ∙ not-true _ (c .before .if3 .taken) in
     rw (no-holding (x .holding) (x .bytes .now) (x .end) (x .start) (x .rows .now) (omega arith) placed stray) (c .refused3 .ensures, refl)
 
-returns-4 : tie.Need-returns-4
-unfolding readingOf holdingAfter answerOf rowsAfter
-returns-4 c =
-    let x = c .before .before .before .before .before .before .before .before .args in
-    let placed = sym (c .before .before .before .before .before .is-placed .ensures) ∙ not-false _ (c .before .before .before .before .if2 .left) in
-    let fine = sym (c .before .before .before .is-sound .ensures) ∙ not-false _ (c .before .before .if3 .left) in
-    let none = sym (c .before .zero-from .ensures) ∙ c .if4 .taken in
-    rw (no-bits (x .holding) (x .bytes .now) (x .end) (x .start) (x .rows .now) (omega arith) placed fine none) (refl, refl)
-
-message-requires : tie.Need-message-requires
-message-requires c κs =
-    let x = c .before .before .before .before .before .before .before .before .before .args in
-    let placed = sym (c .before .before .before .before .before .before .is-placed .ensures) ∙ not-false _ (c .before .before .before .before .before .if2 .left) in
-    let fine = sym (c .before .before .before .before .is-sound .ensures) ∙ not-false _ (c .before .before .before .if3 .left) in
+at-requires : tie.Need-at-requires
+at-requires c κs =
+    let x = c .before .before .before .before .before .before .before .args in
+    let placed = sym (c .before .before .before .before .is-placed .ensures) ∙ not-false _ (c .before .before .before .if2 .left) in
+    let fine = sym (c .before .before .is-sound .ensures) ∙ not-false _ (c .before .if3 .left) in
     let known = inside (x .bytes .now) (x .end) (x .start) placed in
     (fine, known .lent, known .limit, known .there, omega arith)
 
-returns-5 : tie.Need-returns-5
-returns-5 c =
-    let x = c .before .before .before .before .before .before .before .before .before .before .before .args in
-    let placed = sym (c .before .before .before .before .before .before .before .before .is-placed .ensures) ∙ not-false _ (c .before .before .before .before .before .before .before .if2 .left) in
-    let fine = sym (c .before .before .before .before .before .before .is-sound .ensures) ∙ not-false _ (c .before .before .before .before .before .if3 .left) in
-    let some = sym (c .before .before .before .before .zero-from .ensures) ∙ c .before .before .before .if4 .left in
-    rw (a-message (x .holding) (x .bytes .now) (x .end) (x .start) (x .rows .now) (omega arith) placed fine some) (c .before .message .ensures)
+returns-4 : tie.Need-returns-4
+returns-4 c =
+    let x = c .before .before .before .before .before .before .before .before .before .args in
+    let placed = sym (c .before .before .before .before .before .before .is-placed .ensures) ∙ not-false _ (c .before .before .before .before .before .if2 .left) in
+    let fine = sym (c .before .before .before .before .is-sound .ensures) ∙ not-false _ (c .before .before .before .if3 .left) in
+    rw (begun (x .holding) (x .bytes .now) (x .end) (x .start) (x .rows .now) (omega arith) placed fine) (c .before .at .ensures)
 
 pub read-spec : {M : Type 1} → statement M
 read-spec =
     tie.close
     (tie.spec (λ c κs. search needs) returns (λ c κs. search needs) (λ c κs. search needs) returns-2 (λ c κs. search needs) (λ c κs. search needs)
-    returns-3 (λ c κs. search needs) returns-4 message-requires (λ c. search needs) returns-5)
+    returns-3 at-requires (λ c. search needs) returns-4)
