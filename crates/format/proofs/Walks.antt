@@ -1,26 +1,31 @@
 -- Laws of the walk: what a message takes at the least, that the fuel suffices, how a walk goes on, and where it stops.
 -- Assumes nothing.
-use mathlib.Core.Path.{_≡_}
+use mathlib.Core.Path.{_≡_, refl, ap}
 use mathlib.Core.Bool.{Bool}
 use mathlib.Core.List.{List, []}
-use Prim.Native.Nat.{ℕ, suc, _+_, _≤_}
+use Prim.Native.Nat.{ℕ, zero, suc, _+_, _-_, _≤_, _<_}
 use native.Mathlib.Omega.{arith}
 use lib.IntN.{ℤ}
-use lib.ListN.{length, length-append}
+use lib.ListN.{length, length-append, length-drop, length-take}
 use lib.Seq.{length-take-le}
 use Rattle.bits.proofs.BitLists.{length-spell}
 use Rattle.format.specs.declared.Head.{Head}
 use Rattle.format.specs.declared.Refusal.the-variants.{SubType}
+use Rattle.format.specs.Good.{good}
 use Rattle.format.specs.Masks.{Mask, Held}
 use Rattle.format.specs.Messages.{Content, Common, common, rowsAlone, combined, packet, packetLines, packetShape, systems, maskMessage}
 use Rattle.format.specs.Programs.{Program, well, run}
+use Rattle.format.specs.Reading.{accepted, bitsFrom, readingBy, rowsAfter}
 use Rattle.format.specs.Rows.{Line, bodyWidth, shapeWidth, widthOf}
 use Rattle.format.specs.Spelling.{putRows, putCombined, putPacket, putMask}
 use Rattle.format.specs.Table.{Message, Kind, other, free, masked, adopts, alone, orbitLines, clockLines, codeLines, phaseLines, kinds, table, gate, byKind, messageBy, message}
+use Rattle.format.specs.Walking.{Walk, hand, goOn, walkFrom, walkBy}
 use Rattle.format.proofs.Bodies.{body-gives}
 use Rattle.format.proofs.Runs.{taken-le}
 use Rattle.format.proofs.Steps.{Gives, gives-done, gives-refuse, gives-numbered, gives-bind, gives-so, gives-itself}
-use Rattle.format.proofs.Tables.{Each, end, then, in-table, gives-message}
+use Rattle.format.proofs.Stops.{reading-ends}
+use Rattle.format.proofs.Tables as Tables
+use Rattle.format.proofs.Tables.{Each, then, in-table, gives-message}
 
 -- ---- what a message takes at the least
 
@@ -92,10 +97,71 @@ kinds-least =
     (then (alone-least 2 orbitLines) (then (alone-least 3 clockLines) (then (alone-least 4 codeLines) (then (alone-least 5 phaseLines)
     (then (other-least 6) (then (other-least 7) (then (other-least 8) (then (other-least 9)
     (then packet-least
-    (then (masked-least 11 combined putCombined) end)))))))))))
+    (then (masked-least 11 combined putCombined) Tables.end)))))))))))
 
 -- by ours 37 bits or more
 pub message-least : (held : Held) (l : List Bool) (m : Message) (taken : ℕ) → run (message held) l ≡ well m taken → 37 ≤ taken
 message-least held =
     least 37
     (gives-message table held λ n _. gives-so (in-table kinds-least other-least n held) λ m b long. simp (length-append, length-spell) (omega arith))
+
+-- ---- the fuel suffices
+
+-- no more bits than there are up to the end
+from-le : (bytes : List ℕ) (end place : ℕ) → length (bitsFrom bytes end place) ≤ end - place
+unfolding bitsFrom
+from-le bytes end place = simp (length-drop, length-take) (omega arith)
+
+module _ (t : ℕ → Kind) (held : Held) (bytes : List ℕ) (end place : ℕ) where
+  -- a message read at a place ends after it and within the stretch
+  pub ends-inside : (m : Message) (taken : ℕ) → run (messageBy t held) (bitsFrom bytes end place) ≡ well m taken → (16 ≤ taken) × (place + taken ≤ end)
+  ends-inside m taken e =
+      let some = message-takes t held (bitsFrom bytes end place) m taken e in
+      let there = taken-le (messageBy t held) (bitsFrom bytes end place) m taken e in
+      (some, omega (arith, from-le bytes end place))
+
+  -- two ways to go on that agree past the place are one
+  goes-same : (sound : Bool) (rows : List ℤ) (f g : Message → ℕ → Walk)
+      → ((m : Message) (next : ℕ) → place < next → next ≤ end → f m next ≡ g m next)
+      → goOn (readingBy t sound held bytes end place rows) place rows f ≡ goOn (readingBy t sound held bytes end place rows) place rows g
+  unfolding goOn
+  goes-same sound rows f g same =
+      reading-ends (λ o. goOn o place rows f ≡ goOn o place rows g) held (λ r missing. refl) t sound bytes end place rows refl
+      (λ m taken e.
+      let inside = ends-inside m taken e in
+      ap (hand (m .content)) (same m (place + taken) (omega arith) (inside .1)))
+
+fuel-same :
+    (t : ℕ → Kind) (fuel more : ℕ) (sound : Bool) (held : Held) (bytes : List ℕ) (end place : ℕ) (rows : List ℤ) → end - place < fuel → end - place < more
+    → walkFrom t fuel sound held bytes end place rows ≡ walkFrom t more sound held bytes end place rows
+unfolding walkFrom
+fuel-same t zero more sound held bytes end place rows little much = absurd (omega arith)
+fuel-same t (suc fuel) zero sound held bytes end place rows little much = absurd (omega arith)
+fuel-same t (suc fuel) (suc more) sound held bytes end place rows little much =
+    goes-same t held bytes end place sound rows _ _
+    (λ m next after inside. fuel-same t fuel more (good (m .after)) (m .after) bytes end next (rowsAfter (accepted m next) rows) (omega arith) (omega arith))
+
+-- the walk from a place on
+unfoldable pub walkOn : (ℕ → Kind) → Bool → Held → List ℕ → ℕ → ℕ → List ℤ → Walk
+walkOn t sound held bytes end place rows = walkFrom t (suc (end - place)) sound held bytes end place rows
+
+pub fuel-enough :
+    (t : ℕ → Kind) (fuel : ℕ) (sound : Bool) (held : Held) (bytes : List ℕ) (end place : ℕ) (rows : List ℤ) → end - place < fuel
+    → walkFrom t fuel sound held bytes end place rows ≡ walkOn t sound held bytes end place rows
+unfolding walkOn
+fuel-enough t fuel sound held bytes end place rows enough = fuel-same t fuel (suc (end - place)) sound held bytes end place rows enough (omega arith)
+
+-- a reading, then the walk from where it ended
+pub walk-step :
+    (t : ℕ → Kind) (sound : Bool) (held : Held) (bytes : List ℕ) (end place : ℕ) (rows : List ℤ)
+    → walkOn t sound held bytes end place rows
+    ≡ goOn (readingBy t sound held bytes end place rows) place rows (λ m next. walkOn t (good (m .after)) (m .after) bytes end next (rowsAfter (accepted m next) rows))
+unfolding walkOn walkFrom
+walk-step t sound held bytes end place rows =
+    goes-same t held bytes end place sound rows _ _
+    (λ m next after inside. fuel-enough t (end - place) (good (m .after)) (m .after) bytes end next (rowsAfter (accepted m next) rows) (omega arith))
+
+pub walk-on :
+    (t : ℕ → Kind) (sound : Bool) (held : Held) (bytes : List ℕ) (end : ℕ) (rows : List ℤ) → walkBy t sound held bytes end rows ≡ walkOn t sound held bytes end 0 rows
+unfolding walkBy
+walk-on t sound held bytes end rows = fuel-enough t (suc end) sound held bytes end 0 rows (omega arith)
