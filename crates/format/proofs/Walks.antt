@@ -1,29 +1,30 @@
 -- Laws of the walk: what a message takes at the least, that the fuel suffices, how a walk goes on, and where it stops.
 -- Assumes nothing.
-use mathlib.Core.Path.{_≡_, refl, ap}
+use mathlib.Core.Path.{_≡_, refl, sym, ap, _∙_}
 use mathlib.Core.Bool.{Bool}
 use mathlib.Core.List.{List, []}
-use Prim.Native.Nat.{ℕ, zero, suc, _+_, _-_, _≤_, _<_}
+use Prim.Native.Nat.{ℕ, zero, suc, _+_, _-_, _*_, _≤_, _<_}
 use native.Mathlib.Omega.{arith}
 use lib.IntN.{ℤ}
 use lib.ListN.{length, length-append, length-drop, length-take}
 use lib.Seq.{length-take-le}
 use Rattle.bits.proofs.BitLists.{length-spell}
 use Rattle.format.specs.declared.Head.{Head}
+use Rattle.format.specs.declared.Refusal.{Refusal}
 use Rattle.format.specs.declared.Refusal.the-variants.{SubType}
 use Rattle.format.specs.Good.{good}
 use Rattle.format.specs.Masks.{Mask, Held}
 use Rattle.format.specs.Messages.{Content, Common, common, rowsAlone, combined, packet, packetLines, packetShape, systems, maskMessage}
 use Rattle.format.specs.Programs.{Program, well, run}
-use Rattle.format.specs.Reading.{accepted, bitsFrom, readingBy, rowsAfter}
+use Rattle.format.specs.Reading.{Outcome, accepted, idle, refused, bitsFrom, readingBy, rowsAfter}
 use Rattle.format.specs.Rows.{Line, bodyWidth, shapeWidth, widthOf}
 use Rattle.format.specs.Spelling.{putRows, putCombined, putPacket, putMask}
 use Rattle.format.specs.Table.{Message, Kind, other, free, masked, adopts, alone, orbitLines, clockLines, codeLines, phaseLines, kinds, table, gate, byKind, messageBy, message}
-use Rattle.format.specs.Walking.{Walk, hand, goOn, walkFrom, walkBy}
+use Rattle.format.specs.Walking.{Walk, hand, goOn, walkFrom, walkBy, walk, messages}
 use Rattle.format.proofs.Bodies.{body-gives}
 use Rattle.format.proofs.Runs.{taken-le}
 use Rattle.format.proofs.Steps.{Gives, gives-done, gives-refuse, gives-numbered, gives-bind, gives-so, gives-itself}
-use Rattle.format.proofs.Stops.{reading-ends}
+use Rattle.format.proofs.Stops.{reading-ends, Stopped}
 use Rattle.format.proofs.Tables as Tables
 use Rattle.format.proofs.Tables.{Each, then, in-table, gives-message}
 
@@ -165,3 +166,92 @@ pub walk-on :
     (t : ℕ → Kind) (sound : Bool) (held : Held) (bytes : List ℕ) (end : ℕ) (rows : List ℤ) → walkBy t sound held bytes end rows ≡ walkOn t sound held bytes end 0 rows
 unfolding walkBy
 walk-on t sound held bytes end rows = fuel-enough t (suc end) sound held bytes end 0 rows (omega arith)
+
+-- ---- every walk
+
+module _ (t : ℕ → Kind) (bytes : List ℕ) (end : ℕ) where
+  -- what holds of each stop, and before a message if after it, holds of every walk
+  pub record Law (P : Bool → Held → ℕ → List ℤ → Walk → Type 0) : Type 0 where
+    pub stops :
+        (sound : Bool) (held : Held) (place : ℕ) (rows : List ℤ) (o : Outcome) → readingBy t sound held bytes end place rows ≡ o → Stopped o
+        → P sound held place rows (record { handed = []; stop = o; place = place; rows = rows })
+    pub goes :
+        (sound : Bool) (held : Held) (place : ℕ) (rows : List ℤ) (m : Message) (taken : ℕ) (w : Walk)
+        → readingBy t sound held bytes end place rows ≡ accepted m (place + taken) → run (messageBy t held) (bitsFrom bytes end place) ≡ well m taken
+        → P (good (m .after)) (m .after) (place + taken) (rowsAfter (accepted m (place + taken)) rows) w → P sound held place rows (hand (m .content) w)
+
+  module _ (P : Bool → Held → ℕ → List ℤ → Walk → Type 0) (law : Law P) where
+    by-fuel : (fuel : ℕ) (sound : Bool) (held : Held) (place : ℕ) (rows : List ℤ) → end - place < fuel
+        → P sound held place rows (walkFrom t fuel sound held bytes end place rows)
+    unfolding walkFrom goOn
+    by-fuel zero sound held place rows enough = absurd (omega arith)
+    by-fuel (suc fuel) sound held place rows enough =
+        reading-ends
+        (λ o. readingBy t sound held bytes end place rows ≡ o
+        → P sound held place rows (goOn o place rows (λ m next. walkFrom t fuel (good (m .after)) (m .after) bytes end next (rowsAfter (accepted m next) rows))))
+        held (λ r missing e. law .stops sound held place rows (refused r missing held) e tt) t sound bytes end place rows
+        (λ e. law .stops sound held place rows (idle held) e tt)
+        (λ m taken ran e.
+        let inside = ends-inside t held bytes end place m taken ran in
+        law .goes sound held place rows m taken _ e ran
+        (by-fuel fuel (good (m .after)) (m .after) (place + taken) (rowsAfter (accepted m (place + taken)) rows) (omega arith)))
+        refl
+
+    pub every-walk : (sound : Bool) (held : Held) (place : ℕ) (rows : List ℤ) → P sound held place rows (walkOn t sound held bytes end place rows)
+    unfolding walkOn
+    every-walk sound held place rows = by-fuel (suc (end - place)) sound held place rows (omega arith)
+
+-- what a reading says where a walk stops, by what was held there: a stop
+abbrev pub Ends : (ℕ → Kind) → List ℕ → ℕ → Walk → Type 0
+Ends t bytes end w = (held : Held) × (sound : Bool) × (w .stop ≡ readingBy t sound held bytes end (w .place) (w .rows)) × Stopped (w .stop)
+
+all-end : (t : ℕ → Kind) (bytes : List ℕ) (end : ℕ) → Law t bytes end (λ sound held place rows w. Ends t bytes end w)
+unfolding hand
+all-end t bytes end = record {
+  stops = λ sound held place rows o e stopped. (held, sound, sym e, stopped);
+  goes = λ sound held place rows m taken w e ran it. it;
+}
+
+-- the stop of a walk is the outcome of a reading
+pub walk-stops : (t : ℕ → Kind) (sound : Bool) (held : Held) (bytes : List ℕ) (end : ℕ) (rows : List ℤ) → Ends t bytes end (walkBy t sound held bytes end rows)
+walk-stops t sound held bytes end rows = rw walk-on (every-walk t bytes end _ (all-end t bytes end) sound held 0 rows)
+
+goes-nowhere : (o : Outcome) (place : ℕ) (rows : List ℤ) (more : Message → ℕ → Walk) → Stopped o
+    → goOn o place rows more ≡ record { handed = []; stop = o; place = place; rows = rows }
+unfolding goOn
+goes-nowhere (accepted m next) place rows more stopped = absurd stopped
+goes-nowhere (idle held) place rows more stopped = refl
+goes-nowhere (refused r missing held) place rows more stopped = refl
+
+module _ (t : ℕ → Kind) (sound : Bool) (held : Held) (bytes : List ℕ) (end place : ℕ) (rows : List ℤ) where
+  -- where the reading at a place is a stop, the walk from there is just that stop there: nothing handed out, the buffer as it was
+  pub stop-ends : (o : Outcome) → readingBy t sound held bytes end place rows ≡ o → Stopped o
+      → walkOn t sound held bytes end place rows ≡ record { handed = []; stop = o; place = place; rows = rows }
+  stop-ends o e stopped = walk-step t sound held bytes end place rows ∙ rw e (goes-nowhere o place rows _ stopped)
+
+  pub refusal-ends : (r : Refusal) (missing : ℕ) (kept : Held) → readingBy t sound held bytes end place rows ≡ refused r missing kept
+      → walkOn t sound held bytes end place rows ≡ record { handed = []; stop = refused r missing kept; place = place; rows = rows }
+  refusal-ends r missing kept e = stop-ends (refused r missing kept) e tt
+
+-- ---- places
+
+-- 37 bits or more for each message, and no stop past the end
+all-places : (bytes : List ℕ) (end : ℕ) → Law table bytes end (λ sound held place rows w. (place + 37 * messages w ≤ w .place) × (place ≤ end → w .place ≤ end))
+unfolding hand messages
+all-places bytes end = record {
+  stops = λ sound held place rows o e stopped. (omega arith, λ h. h);
+  goes = λ sound held place rows m taken w e ran it.
+      let some = message-least held (bitsFrom bytes end place) m taken ran in
+      let inside = ends-inside table held bytes end place m taken ran in
+      (omega (arith, it .0), λ h. it .1 (inside .1));
+}
+
+module _ (sound : Bool) (held : Held) (bytes : List ℕ) (end : ℕ) (rows : List ℤ) where
+  pub walk-place : (37 * messages (walk sound held bytes end rows) ≤ walk sound held bytes end rows .place) × (walk sound held bytes end rows .place ≤ end)
+  walk-place =
+      let it = every-walk table bytes end _ (all-places bytes end) sound held 0 rows in
+      rw walk-on (omega (arith, it .0), it .1 (omega arith))
+
+  -- as many messages as have room
+  pub few-messages : 37 * messages (walk sound held bytes end rows) ≤ end
+  few-messages = omega (arith, walk-place .0, walk-place .1)
