@@ -16,3 +16,4 @@ pub mod Lengths
 pub mod HeldGood
 pub mod Placed
 pub mod Walks
+pub mod CutWalks

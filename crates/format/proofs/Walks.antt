@@ -39,6 +39,7 @@ pub message-takes : (t : ℕ → Kind) (held : Held) (l : List Bool) (m : Messag
 message-takes t held =
     least 16 (gives-message t held λ n _. gives-so (gives-itself (byKind (t n) held)) λ m b _. simp (length-append, length-spell) (omega arith))
 
+-- a common head
 common-least : (w : ℕ) → Gives (common w) (λ h b. w + 9 ≤ length b)
 unfolding common
 common-least w =
@@ -52,6 +53,7 @@ common-least w =
 abbrev LeastAt : ℕ → Kind → Type 0
 LeastAt n k = (held : Held) → Gives (byKind k held) (λ m b. 21 ≤ length b)
 
+-- none of ours takes nothing: it is refused
 other-least : (n : ℕ) → LeastAt n other
 unfolding byKind
 other-least n held = gives-refuse SubType
@@ -64,10 +66,12 @@ masked-least n p q held =
     gives-bind (gives-itself (gate held (h .iod) (λ m. p m h))) λ c r _.
     gives-done (simp length-append (omega arith))
 
+-- rows alone
 alone-least : (n : ℕ) (lines : Mask → List Line) → LeastAt n (alone n lines)
 unfolding alone
 alone-least n lines = masked-least n (rowsAlone n lines) (putRows lines)
 
+-- a mask: its common head, whose epoch is longer
 mask-least : LeastAt 1 (adopts maskMessage putMask)
 unfolding byKind maskMessage
 mask-least held =
@@ -90,6 +94,7 @@ packet-least held =
     gives-done (simp length-append (omega (arith, whole .0))))
     λ c b long. gives-done (simp length-append (omega arith))
 
+-- each kind of the table
 kinds-least : Each LeastAt 0 kinds
 unfolding kinds
 kinds-least =
@@ -132,6 +137,7 @@ module _ (t : ℕ → Kind) (held : Held) (bytes : List ℕ) (end place : ℕ) w
       let inside = ends-inside m taken e in
       ap (hand (m .content)) (same m (place + taken) (omega arith) (inside .1)))
 
+-- whatever fuel there is, if it is more than the bits left
 fuel-same :
     (t : ℕ → Kind) (fuel more : ℕ) (sound : Bool) (held : Held) (bytes : List ℕ) (end place : ℕ) (rows : List ℤ) → end - place < fuel → end - place < more
     → walkFrom t fuel sound held bytes end place rows ≡ walkFrom t more sound held bytes end place rows
@@ -146,6 +152,7 @@ fuel-same t (suc fuel) (suc more) sound held bytes end place rows little much =
 unfoldable pub walkOn : (ℕ → Kind) → Bool → Held → List ℕ → ℕ → ℕ → List ℤ → Walk
 walkOn t sound held bytes end place rows = walkFrom t (suc (end - place)) sound held bytes end place rows
 
+-- more fuel changes nothing
 pub fuel-enough :
     (t : ℕ → Kind) (fuel : ℕ) (sound : Bool) (held : Held) (bytes : List ℕ) (end place : ℕ) (rows : List ℤ) → end - place < fuel
     → walkFrom t fuel sound held bytes end place rows ≡ walkOn t sound held bytes end place rows
@@ -162,6 +169,7 @@ walk-step t sound held bytes end place rows =
     goes-same t held bytes end place sound rows _ _
     (λ m next after inside. fuel-enough t (end - place) (good (m .after)) (m .after) bytes end next (rowsAfter (accepted m next) rows) (omega arith))
 
+-- the walk is the one from place 0 on
 pub walk-on :
     (t : ℕ → Kind) (sound : Bool) (held : Held) (bytes : List ℕ) (end : ℕ) (rows : List ℤ) → walkBy t sound held bytes end rows ≡ walkOn t sound held bytes end 0 rows
 unfolding walkBy
@@ -181,6 +189,7 @@ module _ (t : ℕ → Kind) (bytes : List ℕ) (end : ℕ) where
         → P (good (m .after)) (m .after) (place + taken) (rowsAfter (accepted m (place + taken)) rows) w → P sound held place rows (hand (m .content) w)
 
   module _ (P : Bool → Held → ℕ → List ℤ → Walk → Type 0) (law : Law P) where
+    -- by fuel, which each message takes some of
     by-fuel : (fuel : ℕ) (sound : Bool) (held : Held) (place : ℕ) (rows : List ℤ) → end - place < fuel
         → P sound held place rows (walkFrom t fuel sound held bytes end place rows)
     unfolding walkFrom goOn
@@ -197,6 +206,7 @@ module _ (t : ℕ → Kind) (bytes : List ℕ) (end : ℕ) where
         (by-fuel fuel (good (m .after)) (m .after) (place + taken) (rowsAfter (accepted m (place + taken)) rows) (omega arith)))
         refl
 
+    -- so of every walk
     pub every-walk : (sound : Bool) (held : Held) (place : ℕ) (rows : List ℤ) → P sound held place rows (walkOn t sound held bytes end place rows)
     unfolding walkOn
     every-walk sound held place rows = by-fuel (suc (end - place)) sound held place rows (omega arith)
@@ -205,6 +215,7 @@ module _ (t : ℕ → Kind) (bytes : List ℕ) (end : ℕ) where
 abbrev pub Ends : (ℕ → Kind) → List ℕ → ℕ → Walk → Type 0
 Ends t bytes end w = (held : Held) × (sound : Bool) × (w .stop ≡ readingBy t sound held bytes end (w .place) (w .rows)) × Stopped (w .stop)
 
+-- so every walk ends
 all-end : (t : ℕ → Kind) (bytes : List ℕ) (end : ℕ) → Law t bytes end (λ sound held place rows w. Ends t bytes end w)
 unfolding hand
 all-end t bytes end = record {
@@ -216,6 +227,7 @@ all-end t bytes end = record {
 pub walk-stops : (t : ℕ → Kind) (sound : Bool) (held : Held) (bytes : List ℕ) (end : ℕ) (rows : List ℤ) → Ends t bytes end (walkBy t sound held bytes end rows)
 walk-stops t sound held bytes end rows = rw walk-on (every-walk t bytes end _ (all-end t bytes end) sound held 0 rows)
 
+-- after a stop nothing goes on
 goes-nowhere : (o : Outcome) (place : ℕ) (rows : List ℤ) (more : Message → ℕ → Walk) → Stopped o
     → goOn o place rows more ≡ record { handed = []; stop = o; place = place; rows = rows }
 unfolding goOn
@@ -229,16 +241,21 @@ module _ (t : ℕ → Kind) (sound : Bool) (held : Held) (bytes : List ℕ) (end
       → walkOn t sound held bytes end place rows ≡ record { handed = []; stop = o; place = place; rows = rows }
   stop-ends o e stopped = walk-step t sound held bytes end place rows ∙ rw e (goes-nowhere o place rows _ stopped)
 
+  -- and so where it is refused
   pub refusal-ends : (r : Refusal) (missing : ℕ) (kept : Held) → readingBy t sound held bytes end place rows ≡ refused r missing kept
       → walkOn t sound held bytes end place rows ≡ record { handed = []; stop = refused r missing kept; place = place; rows = rows }
   refusal-ends r missing kept e = stop-ends (refused r missing kept) e tt
 
 -- ---- places
 
--- 37 bits or more for each message, and no stop past the end
-all-places : (bytes : List ℕ) (end : ℕ) → Law table bytes end (λ sound held place rows w. (place + 37 * messages w ≤ w .place) × (place ≤ end → w .place ≤ end))
+-- a walk from a place: 37 bits or more for each message, and no stop past the end
+abbrev pub Within : ℕ → ℕ → Walk → Type 0
+Within end place w = (place + 37 * messages w ≤ w .place) × (place ≤ end → w .place ≤ end)
+
+-- so every walk is
+pub all-within : (bytes : List ℕ) (end : ℕ) → Law table bytes end (λ sound held place rows w. Within end place w)
 unfolding hand messages
-all-places bytes end = record {
+all-within bytes end = record {
   stops = λ sound held place rows o e stopped. (omega arith, λ h. h);
   goes = λ sound held place rows m taken w e ran it.
       let some = message-least held (bitsFrom bytes end place) m taken ran in
@@ -247,9 +264,10 @@ all-places bytes end = record {
 }
 
 module _ (sound : Bool) (held : Held) (bytes : List ℕ) (end : ℕ) (rows : List ℤ) where
+  -- where a walk stops
   pub walk-place : (37 * messages (walk sound held bytes end rows) ≤ walk sound held bytes end rows .place) × (walk sound held bytes end rows .place ≤ end)
   walk-place =
-      let it = every-walk table bytes end _ (all-places bytes end) sound held 0 rows in
+      let it = every-walk table bytes end _ (all-within bytes end) sound held 0 rows in
       rw walk-on (omega (arith, it .0), it .1 (omega arith))
 
   -- as many messages as have room
