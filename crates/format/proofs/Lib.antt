@@ -15,3 +15,5 @@ pub mod RoundTrips
 pub mod Lengths
 pub mod HeldGood
 pub mod Placed
+pub mod Walks
+pub mod CutWalks
