@@ -3,3 +3,4 @@ pub mod Parts
 pub mod Placing
 pub mod Sizes
 pub mod Segments
+pub mod Returns
