@@ -17,13 +17,13 @@ use Rattle.format.specs.Masks.{Held}
 use Rattle.format.specs.Programs.{well, run}
 use Rattle.format.specs.Reading.{stretchLimit, rowRoom, Outcome, accepted, idle, endedAt, readFrom, bitsFrom, placed, readingBy, reading, heldAfter, over, rowsAfter}
 use Rattle.format.specs.Table.{Message, Kind, table, messageBy, message}
-use Rattle.format.specs.Walking.{Walk, hand, goOn, walk}
+use Rattle.format.specs.Walking.{Walk, hand, goOn, walkOn, walk}
 use Rattle.format.proofs.HeldGood.{stays-good}
 use Rattle.format.proofs.Placed.{length-from, take-from}
 use Rattle.format.proofs.Runs.{numbered-began, required, run-agree}
 use Rattle.format.proofs.Sames.{and-true, true-and}
 use Rattle.format.proofs.Stops.{Stopped, stop-holds}
-use Rattle.format.proofs.Walks.{ends-inside, walkOn, walk-step, walk-on, stop-ends, Law, every-walk, Within, all-within}
+use Rattle.format.proofs.Walks.{ends-inside, walk-step, walk-on, stop-ends, Law, every-walk, Within, all-within}
 
 -- ---- the bits of a message are not blank
 

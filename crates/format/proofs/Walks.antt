@@ -20,7 +20,7 @@ use Rattle.format.specs.Reading.{Outcome, accepted, idle, refused, bitsF
 use Rattle.format.specs.Rows.{Line, bodyWidth, shapeWidth, widthOf}
 use Rattle.format.specs.Spelling.{putRows, putCombined, putPacket, putMask}
 use Rattle.format.specs.Table.{Message, Kind, other, free, masked, adopts, alone, orbitLines, clockLines, codeLines, phaseLines, kinds, table, gate, byKind, messageBy, message}
-use Rattle.format.specs.Walking.{Walk, hand, goOn, walkFrom, walkBy, walk, messages}
+use Rattle.format.specs.Walking.{Walk, hand, goOn, walkFrom, walkOn, walkBy, walk, messages}
 use Rattle.format.proofs.Bodies.{body-gives}
 use Rattle.format.proofs.Runs.{taken-le}
 use Rattle.format.proofs.Steps.{Gives, gives-done, gives-refuse, gives-numbered, gives-bind, gives-so, gives-itself}
@@ -147,10 +147,6 @@ fuel-same t (suc fuel) zero sound held bytes end place rows little much = absurd
 fuel-same t (suc fuel) (suc more) sound held bytes end place rows little much =
     goes-same t held bytes end place sound rows _ _
     (λ m next after inside. fuel-same t fuel more (good (m .after)) (m .after) bytes end next (rowsAfter (accepted m next) rows) (omega arith) (omega arith))
-
--- the walk from a place on
-unfoldable pub walkOn : (ℕ → Kind) → Bool → Held → List ℕ → ℕ → ℕ → List ℤ → Walk
-walkOn t sound held bytes end place rows = walkFrom t (suc (end - place)) sound held bytes end place rows
 
 -- more fuel changes nothing
 pub fuel-enough :

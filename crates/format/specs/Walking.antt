@@ -1,7 +1,7 @@
 -- The walk: single readings from place 0 on, each going on where the one before ended, until idle or a refusal.
 use mathlib.Core.Bool.{Bool}
 use mathlib.Core.List.{List, [], _∷_}
-use Prim.Native.Nat.{ℕ, zero, suc, _+_}
+use Prim.Native.Nat.{ℕ, zero, suc, _+_, _-_}
 use lib.IntN.{ℤ}
 use lib.ListN.{length}
 use Rattle.format.specs.Good.{good}
@@ -26,12 +26,16 @@ goOn (accepted m next) place rows more = hand (m .content) (more m next)
 goOn (idle held) place rows more = record { handed = []; stop = idle held; place = place; rows = rows }
 goOn (refused r missing held) place rows more = record { handed = []; stop = refused r missing held; place = place; rows = rows }
 
--- by fuel, of which the bit length and one suffices: each message takes a bit and more
+-- by fuel, of which one more than the bits left suffices (proofs/Walks.antt): each message takes some
 unfoldable pub walkFrom : (ℕ → Kind) → ℕ → Bool → Held → List ℕ → ℕ → ℕ → List ℤ → Walk
 walkFrom t zero sound held bytes end place rows = record { handed = []; stop = idle held; place = place; rows = rows }
 walkFrom t (suc fuel) sound held bytes end place rows =
     goOn (readingBy t sound held bytes end place rows) place rows
     (λ m next. walkFrom t fuel (good (m .after)) (m .after) bytes end next (rowsAfter (accepted m next) rows))
+
+-- from a place on
+unfoldable pub walkOn : (ℕ → Kind) → Bool → Held → List ℕ → ℕ → ℕ → List ℤ → Walk
+walkOn t sound held bytes end place rows = walkFrom t (suc (end - place)) sound held bytes end place rows
 
 unfoldable pub walkBy : (ℕ → Kind) → Bool → Held → List ℕ → ℕ → List ℤ → Walk
 walkBy t sound held bytes end rows = walkFrom t (suc end) sound held bytes end 0 rows

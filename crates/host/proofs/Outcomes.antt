@@ -24,11 +24,11 @@ use Rattle.format.proofs.HeldGood.{reading-good}
 use Rattle.format.specs.Same.{sameℤ}
 use Rattle.format.proofs.Sames.{and-true, sameℤ-sound}
 use Rattle.holding.specs.declared.Holding.{Holding}
-use Rattle.holding.specs.Building.{withSystem}
-use Rattle.holding.specs.Pictures.{pictureOf, maskOf, sameHolding, sound}
+use Rattle.holding.specs.Pictures.{pictureOf, maskOf, sound}
 use Rattle.holding.proofs.Pictured.{picture-sound, sound-picture}
 use Rattle.host.specs.Handing.{messageNumber, stopped, handed, keptBytes, holdingBytes}
-use Rattle.passing.specs.Passing.{passes, stray, holdingIn}
+use Rattle.passing.specs.Passing.{passes, holdingIn}
+use Rattle.passing.proofs.Returns.{stray-none}
 use Rattle.reader.specs.Readings.{holdingAfter, outcomeAt}
 
 -- ---- whether a sub type is 1
@@ -92,10 +92,6 @@ no-message held bs end start rows head next n = go (leb 2048 (length rows)) (pla
     go true true e = let z : _≡_ {A = ℕ} 0 1 = cc in omega arith
     go true false e = let z : _≡_ {A = ℕ} 0 1 = cc in omega arith
     go false b e = let z : _≡_ {A = ℕ} 0 1 = cc in omega arith
-
-stray-none : sound stray ≡ false
-unfolding sound maskOf good pictureOf sameHolding stray withSystem
-stray-none = refl
 
 passes-long : (hb : List ℕ) → passes hb ≡ true → 194 ≤ length hb
 unfolding passes

@@ -5,3 +5,4 @@ pub mod Rawed
 pub mod Outcomes
 pub mod Findings
 pub mod Rowed
+pub mod FewRows
