@@ -1,0 +1,5 @@
+pub mod TwoTables
+pub mod TwoReadings
+pub mod Behind
+pub mod TwoWalks
+pub mod LateJoiners
