@@ -3,3 +3,4 @@ pub mod TwoReadings
 pub mod Behind
 pub mod TwoWalks
 pub mod LateJoiners
+pub mod LateRuns
