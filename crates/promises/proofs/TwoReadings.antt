@@ -16,7 +16,7 @@ use Rattle.format.specs.Programs.{Ended, well, badly, run}
 use Rattle.format.specs.Reading.{rowRoom, Outcome, accepted, idle, refused, endedAt, readFrom, bitsFrom, subTypeIn, placed, readingBy}
 use Rattle.format.specs.Table.{Kind, Message, messageBy}
 use Rattle.promises.specs.LateJoiners.{OfTheMask}
-use Rattle.promises.proofs.TwoTables.{Weaker, Near, Sure, Kept, Beside, alike, unmasked, more, message-beside}
+use Rattle.promises.proofs.TwoTables.{Weaker, Near, Sure, Kept, for-mask-named, for-mask-unsure, Beside, alike, unmasked, more, message-beside}
 
 -- what the second's reading is to the first's
 pub data Abreast (More : Refusal → Type 0) (f s : Held) (k : Kind) : Outcome → Outcome → Type 0 where
@@ -36,7 +36,7 @@ module _ (More : Refusal → Type 0) (f s : Held) (k : Kind) where
     where
       go : Beside More f s k m taken g → Abreast More f s k (accepted m (place + taken)) (endedAt s place g)
       go (alike n ends content kept) = rw ends (both-read content kept)
-      go (unmasked it unsure) = rw (it .ends) (of-the-mask (it .named) unsure)
+      go (unmasked it) = rw (it .ends) (of-the-mask (for-mask-named f s k _ (it .named)) (for-mask-unsure f s k _ (it .named)))
       go (more it) = rw (it .ends) (refused-more (it .named))
 
   -- the tests before: room, place and a sound holding are the second's if they are the first's

@@ -8,9 +8,11 @@ use Prim.Native.Nat.{ℕ, zero, suc, _+_, _-_}
 use native.Mathlib.Nat.{add-zero}
 use native.Mathlib.Omega.{arith}
 use lib.Dec.{eqb}
+use lib.IntN.{ℤ}
 use lib.ListN.{length, take, drop}
 use borrow.Author.Tests.{eqb-true, ne-eqb}
 use Rattle.bits.specs.BitLists.{number}
+use Rattle.format.specs.declared.Head.{Head}
 use Rattle.format.specs.declared.Refusal.{Refusal}
 use Rattle.format.specs.declared.Refusal.the-variants.{Number, SubType, NoMask, OtherIssue}
 use Rattle.format.specs.Masks.{Mask, Held, nothing, mask}
@@ -78,11 +80,24 @@ Adopts (adopts p q) = Unit {0}
 unfoldable pub Sure : Held → Held → Kind → Type 0
 Sure f s k = (f ≡ s) ⊎ Adopts k
 
--- where they hold different things and the message is no mask, it can
-unsure : (f s : Held) (k : Kind) → (f ≡ s → ⊥) → (Adopts k → ⊥) → Sure f s k → ⊥
-unfolding Sure
-unsure f s k differ keeps (inl eq) = differ eq
-unsure f s k differ keeps (inr made) = keeps made
+-- where it can, of a kind that is read under a mask, and what for: "no mask" where the second holds nothing, "other issue" where the issues differ
+pub data ForMask (f s : Held) : Kind → Refusal → Type 0 where
+  holds-none : {p : Mask → Common → Program Content} {q : Mask → Head → List (List ℤ) → List Bool} (m : Mask) → f ≡ mask m → s ≡ nothing → ForMask f s (masked p q) NoMask
+  holds-other : {p : Mask → Common → Program Content} {q : Mask → Head → List (List ℤ) → List Bool} (m n : Mask) → f ≡ mask m → s ≡ mask n → (m .iod ≡ n .iod → ⊥)
+      → ForMask f s (masked p q) OtherIssue
+
+-- these are the refusals of the demand
+pub for-mask-named : (f s : Held) (k : Kind) (r : Refusal) → ForMask f s k r → OfTheMask r
+for-mask-named f s k r (holds-none m first second) = no-mask
+for-mask-named f s k r (holds-other m n first second differs) = other-issue
+
+-- and never where the mask can refuse nothing
+pub for-mask-unsure : (f s : Held) (k : Kind) (r : Refusal) → ForMask f s k r → Sure f s k → ⊥
+unfolding Sure Adopts
+for-mask-unsure f s k r (holds-none m first second) (inl eq) = let z : _≡_ {A = ℕ} 0 1 = cc in omega arith
+for-mask-unsure f s k r (holds-none m first second) (inr made) = made
+for-mask-unsure f s k r (holds-other m n first second differs) (inl eq) = differs (cc)
+for-mask-unsure f s k r (holds-other m n first second differs) (inr made) = made
 
 -- after a message both hold what they held, or both the mask that it made
 pub data Kept (f s : Held) (k : Kind) (f′ s′ : Held) : Type 0 where
@@ -92,7 +107,7 @@ pub data Kept (f s : Held) (k : Kind) (f′ s′ : Held) : Type 0 where
 -- how the second ends where the first reads a message in so many bits
 pub data Beside (More : Refusal → Type 0) (f s : Held) (k : Kind) (m : Message) (taken : ℕ) (e : Ended Message) : Type 0 where
   alike : (n : Message) → e ≡ well n taken → n .content ≡ m .content → Kept f s k (m .after) (n .after) → Beside More f s k m taken e
-  unmasked : EndsWith OfTheMask e → (Sure f s k → ⊥) → Beside More f s k m taken e
+  unmasked : EndsWith (ForMask f s k) e → Beside More f s k m taken e
   more : EndsWith More e → Beside More f s k m taken e
 
 -- ---- programs that end by making something of what was read
@@ -152,21 +167,21 @@ gate-weak More (mask m) iod p q weak l c taken e =
     rw (require-true (eqb iod (m .iod)) OtherIssue (q m) (it .0)) (weak m l c taken (it .1))
 
 -- where it holds nothing, or a mask of another issue, it refuses
-gate-empty : (iod : ℕ) (q : Mask → Program Content) (make : Content → Message) (l : List Bool) → EndsWith OfTheMask (run (gate nothing iod q >>= (λ c. done (make c))) l)
+gate-empty : (iod : ℕ) (q : Mask → Program Content) (make : Content → Message) (l : List Bool) → run (gate nothing iod q >>= (λ c. done (make c))) l ≡ badly NoMask 0
 unfolding gate _>>=_ run
-gate-empty iod q make l = record { refusal = NoMask; missing = 0; ends = refl; named = no-mask }
+gate-empty iod q make l = refl
 
 gate-apart : (n : Mask) (iod : ℕ) (q : Mask → Program Content) (make : Content → Message) (l : List Bool) → (iod ≡ n .iod → ⊥)
-    → EndsWith OfTheMask (run (gate (mask n) iod q >>= (λ c. done (make c))) l)
+    → run (gate (mask n) iod q >>= (λ c. done (make c))) l ≡ badly OtherIssue 0
 unfolding gate require _>>_ _>>=_ run
-gate-apart n iod q make l differs = record { refusal = OtherIssue; missing = 0; ends = rw (ne-eqb iod (n .iod) differs); named = other-issue }
+gate-apart n iod q make l differs = rw (ne-eqb iod (n .iod) differs)
 
 module _ (More : Refusal → Type 0) (f s : Held) where
   -- bits before that both read
   later-beside : (k : Kind) (m : Message) (w taken : ℕ) (e : Ended Message) → Beside More f s k m taken e → Beside More f s k m (w + taken) (later w e)
   unfolding later
   later-beside k m w taken e (alike n ends content kept) = alike n (ap (later w) ends) content kept
-  later-beside k m w taken e (unmasked it unsure) = unmasked (later-with w e it) unsure
+  later-beside k m w taken e (unmasked it) = unmasked (later-with w e it)
   later-beside k m w taken e (more it) = more (later-with w e it)
 
   -- a program before that both read
@@ -195,21 +210,31 @@ module _ (More : Refusal → Type 0) (f s : Held) where
             (keep (ap (λ (x : Message). x .after) made) refl keeps)
         go c made (inr it) = more (finish-with q (keeping s) l it)
 
-    -- the gate: the second's mask is the first's, or it refuses
-    gate-beside : Near f s → (iod : ℕ) (p q : Mask → Program Content) → ((n : Mask) → Weak More (p n) (q n))
-        → run (gate f iod p >>= (λ c. done (keeping f c))) l ≡ well m taken
-        → Beside More f s k m taken (run (gate s iod q >>= (λ c. done (keeping s c))) l)
-    gate-beside near iod p q weak e =
-        let it = finished (gate f iod p) (keeping f) l m taken e in
-        let passed = gate-passed f iod p l (it .0) taken (it .1) in
+  -- the gate: the second's mask is the first's, or it refuses
+  module _ (near : Near f s) (p q : Mask → Common → Program Content) (v : Mask → Head → List (List ℤ) → List Bool) (weak : (n : Mask) (h : Common) → Weak More (p n h) (q n h)) where
+    gate-beside : (h : Common) (l : List Bool) (m : Message) (taken : ℕ) → run (gate f (h .iod) (λ n. p n h) >>= (λ c. done (keeping f c))) l ≡ well m taken
+        → Beside More f s (masked p v) m taken (run (gate s (h .iod) (λ n. q n h) >>= (λ c. done (keeping s c))) l)
+    unfolding Adopts
+    gate-beside h l m taken e =
+        let it = finished (gate f (h .iod) (λ n. p n h)) (keeping f) l m taken e in
+        let passed = gate-passed f (h .iod) (λ n. p n h) l (it .0) taken (it .1) in
         go near (passed .0) (passed .1) (passed .2)
       where
-        go : Near f s → (a : Mask) → f ≡ mask a → iod ≡ a .iod → Beside More f s k m taken (run (gate s iod q >>= (λ c. done (keeping s c))) l)
-        go (empty none) a holds issue = unmasked (rw none (gate-empty iod q (keeping nothing) l)) (unsure f s k (λ eq. absurd (let z : _≡_ {A = ℕ} 0 1 = cc in omega arith)) keeps)
-        go (same eq) a holds issue = content-beside (gate f iod p) (gate s iod q) (rw eq (gate-weak More f iod p q weak)) e
+        go : Near f s → (a : Mask) → f ≡ mask a → h .iod ≡ a .iod
+            → Beside More f s (masked p v) m taken (run (gate s (h .iod) (λ n. q n h) >>= (λ c. done (keeping s c))) l)
+        go (empty none) a holds issue =
+            unmasked (record { refusal = NoMask; missing = 0; ends = rw none (gate-empty (h .iod) (λ n. q n h) (keeping nothing) l); named = holds-none a holds none })
+        go (same eq) a holds issue =
+            content-beside (masked p v) (λ none. none) l m taken (gate f (h .iod) (λ n. p n h)) (gate s (h .iod) (λ n. q n h))
+            (rw eq (gate-weak More f (h .iod) (λ n. p n h) (λ n. q n h) (λ n. weak n h))) e
         go (apart b n first second differs) a holds issue =
             let of-first : a ≡ b = cc in
-            unmasked (rw second (gate-apart n iod q (keeping (mask n)) l (λ eq. differs (cc)))) (unsure f s k (λ eq. differs (cc)) keeps)
+            unmasked (record {
+              refusal = OtherIssue;
+              missing = 0;
+              ends = rw second (gate-apart n (h .iod) (λ n. q n h) (keeping (mask n)) l (λ eq. differs (cc)));
+              named = holds-other b n first second differs;
+            })
 
   -- a mask message: whatever is held, the same mask
   adopted-beside : (k : Kind) (p q : Program Adopted) → Weak More p q → (l : List Bool) (m : Message) (taken : ℕ)
@@ -242,8 +267,7 @@ module _ (More : Refusal → Type 0) (f s : Held) where
   kind-beside near (masked p q) (free p′ q′) weak l m taken e = absurd weak
   kind-beside near (masked p q) (masked p′ q′) weak l m taken e =
       bind-beside (masked p q) m (common 12) (λ h. gate f (h .iod) (λ n. p n h) >>= (λ c. done (keeping f c)))
-      (λ h. gate s (h .iod) (λ n. p′ n h) >>= (λ c. done (keeping s c)))
-      (λ h rest more. gate-beside (masked p q) (λ none. none) rest m more near (h .iod) (λ n. p n h) (λ n. p′ n h) (λ n. weak n h)) l taken e
+      (λ h. gate s (h .iod) (λ n. p′ n h) >>= (λ c. done (keeping s c))) (λ h rest. gate-beside near p p′ q weak h rest m) l taken e
   kind-beside near (masked p q) (adopts p′ q′) weak l m taken e = absurd weak
   kind-beside near (adopts p q) other weak l m taken e = other-beside (adopts p q) m taken l weak
   kind-beside near (adopts p q) (free p′ q′) weak l m taken e = absurd weak
