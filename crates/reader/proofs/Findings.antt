@@ -32,7 +32,7 @@ use Rattle.reader.proofs.Rowed.{keeps}
 use Rattle.reader.proofs.message.Found.{the-type}
 
 -- a stop leaves the holding as it was
-stop-keeps : {h : Holding} (o : Outcome) → Stopped o → holdingAfter h o ≡ h
+pub stop-keeps : {h : Holding} (o : Outcome) → Stopped o → holdingAfter h o ≡ h
 unfolding holdingAfter
 stop-keeps (accepted m next) stopped = absurd stopped
 stop-keeps (idle held) stopped = refl

@@ -1,11 +1,12 @@
 -- How a walk goes from one stand to the next: by an accepted reading; and how it ends: by a stop. Assumes nothing.
-use mathlib.Core.Path.{_≡_, refl, sym, ap, _∙_}
+use mathlib.Core.Path.{_≡_, refl, sym, ap, subst, _∙_}
 use mathlib.Core.Bool.{Bool, true, false}
 use mathlib.Core.List.{List, [], flatten}
 use Prim.Native.Nat.{ℕ, suc, _+_, _*_, _≤_, _<_}
+use native.Mathlib.Nat.{le-refl, add-zero, add-assoc}
 use native.Mathlib.Omega.{arith}
 use lib.IntN.{ℤ}
-use lib.ListN.{length}
+use lib.ListN.{length, length-append, length-drop}
 use borrow.Author.Tests.{le-leb}
 use Rattle.format.specs.declared.Answer.the-variants as Answers
 use Rattle.format.specs.declared.Head.{Head}
@@ -25,6 +26,12 @@ use Rattle.reader.proofs.FewRows.{few-rows}
 use Rattle.walk.specs.declared.Walked.{Walked}
 use Rattle.walk.specs.Standing.{Stand, Stands, restOf, walkedWith, walkedFrom, rowsFrom, Gone}
 
+pub gone-nowhere : (bytes : List ℕ) (end : ℕ) (s : Stand) → Gone bytes end s s
+gone-nowhere bytes end s = record { forth = le-refl (s .place); walked = refl; numbers = refl }
+
+pub gone-on : {bytes : List ℕ} {end : ℕ} {s t u : Stand} → Gone bytes end s t → Gone bytes end t u → Gone bytes end s u
+gone-on first then = record { forth = omega (arith, first .forth, then .forth); walked = first .walked ∙ then .walked; numbers = first .numbers ∙ then .numbers }
+
 -- ---- an accepted reading
 
 -- where it ends
@@ -41,33 +48,103 @@ moves held bytes end place rows m next =
 -- the row buffer does not get shorter
 over-long : (new old : List ℤ) → length old ≤ length (over new old)
 unfolding over
-over-long new old = ?over
+over-long new old = simp (length-append, length-drop) (omega arith)
 
 -- one more message was handed out
 counted : (a b : ℕ) (m : Message) (w : Walk) → walkedWith a b (hand (m .content) w) ≡ walkedWith (a + 1) (b + length (m .content .rows)) w
 unfolding walkedWith hand messages rowCount
-counted a b m w = ?counted
+counted a b m w =
+    let one : a + suc (length (w .handed)) ≡ a + 1 + length (w .handed) = omega arith in
+    rw (one, ← (add-assoc b (length (m .content .rows)) (rowCount (w .handed)))) refl
+
+abbrev pub nextStand : Stand → Message → ℕ → Stand
+nextStand s m next = record {
+  holding = pictureOf (m .after);
+  place = next;
+  messages = s .messages + 1;
+  count = s .count + length (m .content .rows);
+  rows = rowsAfter (accepted m next) (s .rows);
+}
+
+-- the walk goes on to a stand past the place
+pub record Goes (bytes : List ℕ) (end : ℕ) (s t : Stand) : Type 0 where
+  pub gone : Gone bytes end s t
+  pub stands : Stands bytes end t
+  pub past : s .place < t .place
 
 module _ (bytes : List ℕ) (end : ℕ) (s : Stand) (stands : Stands bytes end s) where
   abbrev held : Held
   held = maskOf (s .holding)
 
-  good-held : good held ≡ true
-  good-held = picture-sound (s .holding) (stands .held) .0
+  abbrev found : Outcome
+  found = readAt (s .holding) bytes end (s .place)
 
   -- the reading there tests nothing that was not tested
-  there : reading true held bytes end (s .place) (s .rows) ≡ readAt (s .holding) bytes end (s .place)
+  there : reading true held bytes end (s .place) (s .rows) ≡ found
   unfolding readingBy placed readAt
   there =
       rw (le-leb rowRoom (length (s .rows)) (stands .room), le-leb end stretchLimit (stands .limit), le-leb end (8 * length bytes) (stands .lent), le-leb (s .place) end (stands .there))
       refl
 
-  module _ (m : Message) (next : ℕ) (said : readAt (s .holding) bytes end (s .place) ≡ accepted m next) where
-    pub nextStand : Stand
-    nextStand = record {
-      holding = pictureOf (m .after);
-      place = next;
-      messages = s .messages + 1;
-      count = s .count + length (m .content .rows);
-      rows = rowsAfter (accepted m next) (s .rows);
+  module _ (m : Message) (next : ℕ) (said : found ≡ accepted m next) where
+    abbrev t : Stand
+    t = nextStand s m next
+
+    good-after : good (m .after) ≡ true
+    unfolding heldAfter
+    good-after = rw (there ∙ said) at (reading-good held bytes end (s .place) (s .rows) (picture-sound (s .holding) (stands .held) .0))
+
+    rest-next : restOf bytes end s ≡ hand (m .content) (restOf bytes end t)
+    unfolding restOf goOn
+    rest-next =
+        walk-step table true held bytes end (s .place) (s .rows)
+        ∙ ap (λ (o : Outcome). goOn o (s .place) (s .rows) (λ n to. walkOn table (good (n .after)) (n .after) bytes end to (rowsAfter (accepted n to) (s .rows)))) (there ∙ said)
+        ∙ rw (good-after, mask-picture (m .after) good-after) refl
+
+    next-gone : s .place < next → Gone bytes end s t
+    unfolding walkedFrom rowsFrom hand
+    next-gone past = record {
+      forth = omega (arith, past);
+      walked = ap (walkedWith (s .messages) (s .count)) rest-next ∙ counted (s .messages) (s .count) m (restOf bytes end t);
+      numbers = ap (λ (w : Walk). w .rows) rest-next;
     }
+
+    next-stands : (s .place < next) → (next ≤ end) → Stands bytes end t
+    unfolding rowsAfter
+    next-stands past inside =
+        let few = few-rows (s .holding) (stands .held) bytes end (s .place) (stands .lent) (stands .there) m next said in
+        record {
+          held = sound-picture (m .after) good-after;
+          lent = stands .lent;
+          limit = stands .limit;
+          there = inside;
+          room = omega (arith, stands .room, over-long (flatten (m .content .rows)) (s .rows));
+          few = omega (arith, stands .few, past);
+          rows = omega (arith, stands .rows, few);
+        }
+
+    pub next-goes : Goes bytes end s t
+    next-goes =
+        let after = moves held bytes end (s .place) (s .rows) m next (there ∙ said) in
+        record { gone = next-gone (after .0); stands = next-stands (after .0) (after .1); past = after .0 }
+
+  -- ---- a stop
+
+  module _ (stopped : Stopped found) where
+    rest-stop : restOf bytes end s ≡ record { handed = []; stop = found; place = s .place; rows = s .rows }
+    unfolding restOf
+    rest-stop = stop-ends table true held bytes end (s .place) (s .rows) found there stopped
+
+    kept : pictureOf (heldAfter found) ≡ s .holding
+    kept =
+        ap (λ (o : Outcome). pictureOf (heldAfter o)) (sym there)
+        ∙ ap pictureOf (stop-holds true held bytes end (s .place) (s .rows) (subst Stopped (sym there) stopped))
+        ∙ picture-sound (s .holding) (stands .held) .1
+
+    pub stop-walked : record { stop = answerOf found; place = s .place; messages = s .messages; rows = s .count; holding = s .holding } ≡ walkedFrom bytes end s
+    unfolding walkedFrom walkedWith messages rowCount
+    stop-walked = rw (rest-stop, kept, add-zero (s .messages), add-zero (s .count)) refl
+
+    pub stop-numbers : s .rows ≡ rowsFrom bytes end s
+    unfolding rowsFrom
+    stop-numbers = sym (ap (λ (w : Walk). w .rows) rest-stop)

@@ -26,6 +26,9 @@ pub record Stand : Type 0 where
   pub count : ℕ
   pub rows : List ℤ
 
+abbrev pub stand : Holding → ℕ → ℕ → ℕ → List ℤ → Stand
+stand holding place messages count rows = record { holding = holding; place = place; messages = messages; count = count; rows = rows }
+
 -- all of it is good, in a stretch
 pub record Stands (bytes : List ℕ) (end : ℕ) (s : Stand) : Type 0 where
   pub held : sound (s .holding) ≡ true
@@ -57,14 +60,15 @@ walkedFrom bytes end s = walkedWith (s .messages) (s .count) (restOf bytes end s
 unfoldable pub rowsFrom : List ℕ → ℕ → Stand → List ℤ
 rowsFrom bytes end s = restOf bytes end s .rows
 
--- the walk went from one stand to another: what it answers and leaves is the same from both
+-- the walk went from one stand to another, and not back: what it answers and leaves is the same from both
 pub record Gone (bytes : List ℕ) (end : ℕ) (s t : Stand) : Type 0 where
+  pub forth : s .place ≤ t .place
   pub walked : walkedFrom bytes end s ≡ walkedFrom bytes end t
   pub numbers : rowsFrom bytes end s ≡ rowsFrom bytes end t
 
 -- where reading under one mask came to
 unfoldable pub pausedAt : Holding → Pause → List ℤ → Stand
-pausedAt h p rows = record { holding = h; place = p .place; messages = p .messages; count = p .rows; rows = rows }
+pausedAt h p rows = stand h (p .place) (p .messages) (p .rows) rows
 
 -- a mask, or a stop
 unfoldable pub Halts : Found → Type 0

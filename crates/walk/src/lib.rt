@@ -3,7 +3,7 @@
 pub mod under;
 
 ghost use mathlib.Core.Path.{_≡_};
-ghost use Rattle.walk.specs.Standing.{Stands, walkedFrom, rowsFrom};
+ghost use Rattle.walk.specs.Standing.{stand, Stands, walkedFrom, rowsFrom};
 ghost use Rattle.walk.specs.Walks.{walkAt, walkedOf};
 use crate::under::under;
 use format::Answer;
@@ -30,9 +30,9 @@ fn on(
     count: usize,
     rows: &mut [i32],
 ) -> Walked
-    requires { ⌜ Stands (now bytes) end (record { holding = holding; place = from; messages = messages; count = count; rows = now rows }) ⌝ }
-    ensures { λ r. ⌜ r ≡ walkedFrom (now (bytes .entry)) end (record { holding = holding; place = from; messages = messages; count = count; rows = now (rows .entry) }) ⌝ }
-    ensures { λ _. ⌜ now (rows .exit) ≡ rowsFrom (now (bytes .entry)) end (record { holding = holding; place = from; messages = messages; count = count; rows = now (rows .entry) }) ⌝ }
+    requires { ⌜ Stands (now bytes) end (stand holding from messages count (now rows)) ⌝ }
+    ensures { λ r. ⌜ r ≡ walkedFrom (now (bytes .entry)) end (stand holding from messages count (now (rows .entry))) ⌝ }
+    ensures { λ _. ⌜ now (rows .exit) ≡ rowsFrom (now (bytes .entry)) end (stand holding from messages count (now (rows .entry))) ⌝ }
 {
     let mut held = holding;
     let mut place = from;

@@ -1,5 +1,5 @@
 // Messages under one mask.
-ghost use Rattle.walk.specs.Standing.{Stands, Came};
+ghost use Rattle.walk.specs.Standing.{stand, Stands, Came};
 use format::Answer;
 use holding::Holding;
 use reader::message::Found;
@@ -23,8 +23,8 @@ pub fn under(
     count: usize,
     rows: &mut [i32],
 ) -> Pause
-    requires { ⌜ Stands (now bytes) end (record { holding = holding; place = from; messages = messages; count = count; rows = now rows }) ⌝ }
-    ensures { λ r. ⌜ Came (now (bytes .entry)) end (record { holding = holding; place = from; messages = messages; count = count; rows = now (rows .entry) }) r (now (rows .exit)) ⌝ }
+    requires { ⌜ Stands (now bytes) end (stand holding from messages count (now rows)) ⌝ }
+    ensures { λ r. ⌜ Came (now (bytes .entry)) end (stand holding from messages count (now (rows .entry))) r (now (rows .exit)) ⌝ }
 {
     let mut place = from;
     let mut sum = messages;
