@@ -111,7 +111,7 @@ module _ (t : ℕ → Kind) (held : Held) (bytes : List ℕ) (start : ℕ) (rows
 -- ---- the cut walk
 
 -- rows never make the row buffer shorter
-over-long : (new old : List ℤ) → length old ≤ length (over new old)
+pub over-long : (new old : List ℤ) → length old ≤ length (over new old)
 unfolding over
 over-long new old = simp (length-append, length-drop) (omega arith)
 

@@ -1,30 +1,32 @@
 -- Laws of the walk: what a message takes at the least, that the fuel suffices, how a walk goes on, and where it stops.
 -- Assumes nothing.
-use mathlib.Core.Path.{_≡_, refl, sym, ap, _∙_}
-use mathlib.Core.Bool.{Bool}
+use mathlib.Core.Path.{_≡_, refl, sym, ap, subst, _∙_}
+use mathlib.Core.Bool.{Bool, true, false, cond}
 use mathlib.Core.List.{List, []}
 use Prim.Native.Nat.{ℕ, zero, suc, _+_, _-_, _*_, _≤_, _<_}
 use native.Mathlib.Omega.{arith}
+use lib.Dec.{leb}
 use lib.IntN.{ℤ}
 use lib.ListN.{length, length-append, length-drop, length-take}
 use lib.Seq.{length-take-le}
 use Rattle.bits.proofs.BitLists.{length-spell}
 use Rattle.format.specs.declared.Head.{Head}
 use Rattle.format.specs.declared.Refusal.{Refusal}
-use Rattle.format.specs.declared.Refusal.the-variants.{SubType}
+use Rattle.format.specs.declared.Refusal.the-variants.{Room, Place, SubType, Value}
 use Rattle.format.specs.Good.{good}
 use Rattle.format.specs.Masks.{Mask, Held}
 use Rattle.format.specs.Messages.{Content, Common, common, rowsAlone, combined, packet, packetLines, packetShape, systems, maskMessage}
 use Rattle.format.specs.Programs.{Program, well, run}
-use Rattle.format.specs.Reading.{Outcome, accepted, idle, refused, bitsFrom, readingBy, rowsAfter}
+use Rattle.format.specs.Reading.{rowRoom, Outcome, accepted, idle, refused, bitsFrom, placed, readingBy, heldAfter, rowsAfter}
 use Rattle.format.specs.Rows.{Line, bodyWidth, shapeWidth, widthOf}
 use Rattle.format.specs.Spelling.{putRows, putCombined, putPacket, putMask}
 use Rattle.format.specs.Table.{Message, Kind, other, free, masked, adopts, alone, orbitLines, clockLines, codeLines, phaseLines, kinds, table, gate, byKind, messageBy, message}
 use Rattle.format.specs.Walking.{Walk, hand, goOn, walkFrom, walkOn, walkBy, walk, messages}
 use Rattle.format.proofs.Bodies.{body-gives}
+use Rattle.format.proofs.HeldGood.{stays-good}
 use Rattle.format.proofs.Runs.{taken-le}
 use Rattle.format.proofs.Steps.{Gives, gives-done, gives-refuse, gives-numbered, gives-bind, gives-so, gives-itself}
-use Rattle.format.proofs.Stops.{reading-ends, Stopped}
+use Rattle.format.proofs.Stops.{reading-ends, Stopped, stop-holds}
 use Rattle.format.proofs.Tables as Tables
 use Rattle.format.proofs.Tables.{Each, then, in-table, gives-message}
 
@@ -269,3 +271,31 @@ module _ (sound : Bool) (held : Held) (bytes : List ℕ) (end : ℕ) (rows : Lis
   -- as many messages as have room
   pub few-messages : 37 * messages (walk sound held bytes end rows) ≤ end
   few-messages = omega (arith, walk-place .0, walk-place .1)
+
+-- ---- what is held after a walk
+
+-- what it leaves is good where what it found was
+all-good : (bytes : List ℕ) (end : ℕ) → Law table bytes end (λ sound held place rows w. good held ≡ true → good (heldAfter (w .stop)) ≡ true)
+unfolding hand
+all-good bytes end = record {
+  stops = λ sound held place rows o e stopped fine.
+      subst (λ (p : Outcome). good (heldAfter p) ≡ true) e (rw (stop-holds sound held bytes end place rows (subst Stopped (sym e) stopped)) fine);
+  goes = λ sound held place rows m taken w e ran it fine. it (stays-good held fine (bitsFrom bytes end place) m taken ran);
+}
+
+pub walk-good : (sound : Bool) (held : Held) (bytes : List ℕ) (end : ℕ) (rows : List ℤ) → good held ≡ true → good (heldAfter (walk sound held bytes end rows .stop)) ≡ true
+walk-good sound held bytes end rows fine = rw walk-on (every-walk table bytes end _ (all-good bytes end) sound held 0 rows fine)
+
+-- under a lent holding that is none nothing is handed out
+unsound-stops : (held : Held) (bytes : List ℕ) (end : ℕ) (rows : List ℤ) → Stopped (readingBy table false held bytes end 0 rows)
+unfolding readingBy
+unsound-stops held bytes end rows = go (leb rowRoom (length rows)) (placed bytes end 0)
+  where
+    go : (a b : Bool) → Stopped (cond a (cond b (refused Value 0 held) (refused Place 0 held)) (refused Room 0 held))
+    go true true = tt
+    go true false = tt
+    go false b = tt
+
+pub walk-unsound : (held : Held) (bytes : List ℕ) (end : ℕ) (rows : List ℤ) → messages (walk false held bytes end rows) ≡ 0
+unfolding messages
+walk-unsound held bytes end rows = rw (walk-on, stop-ends table false held bytes end 0 rows _ refl (unsound-stops held bytes end rows)) refl

@@ -98,7 +98,7 @@ unfolding passes
 passes-long hb e = leb-true 194 (length hb) (and-true (leb 194 (length hb)) _ e .0)
 
 -- so bytes that a message was read under are a holding's
-bytes-pass : (hb : List ℕ) → sound (holdingIn hb) ≡ true → 194 ≤ length hb
+pub bytes-pass : (hb : List ℕ) → sound (holdingIn hb) ≡ true → 194 ≤ length hb
 unfolding holdingIn
 bytes-pass hb e = go (passes hb) refl
   where

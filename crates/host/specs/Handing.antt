@@ -2,21 +2,26 @@
 use mathlib.Core.Bool.{cond}
 use mathlib.Core.List.{List}
 use Prim.Native.Nat.{ℕ}
-use lib.Dec.{leb}
+use lib.Dec.{eqb, leb}
 use lib.IntN.{ℤ, pos}
 use lib.ListN.{length}
 use Rattle.bits.specs.Parts.{startOf, countOf}
+use Rattle.format.specs.declared.Answer.{Answer}
+use Rattle.format.specs.declared.Answer.the-variants as Answers
 use Rattle.format.specs.declared.Head.{Head}
 use Rattle.format.specs.Answers.{numberOf, idleNumber}
 use Rattle.format.specs.Masks.{nothing}
-use Rattle.format.specs.Reading.{Outcome, accepted, idle, refused, over}
+use Rattle.format.specs.Reading.{Outcome, accepted, idle, refused, answerOf, heldAfter, over}
 use Rattle.format.specs.Rows.{absent}
 use Rattle.format.specs.Same.{sameℤ}
+use Rattle.format.specs.Walking.{Walk, messages, rowCount}
 use Rattle.holding.specs.declared.Holding.{Holding}
 use Rattle.holding.specs.Pictures.{pictureOf}
 use Rattle.host.specs.declared.Handed.{Handed}
+use Rattle.host.specs.declared.Walked.{Walked}
 use Rattle.passing.specs.Passing.{size, bytesOf, holdingIn}
 use Rattle.reader.specs.Readings.{outcomeAt}
+use Rattle.walk.specs.Walks.{walkAt}
 
 unfoldable pub noHead : Head
 noHead = record { subtype = absent; epoch = absent; interval = absent; indicator = absent; iod = absent; a = absent; b = absent; c = absent }
@@ -54,6 +59,30 @@ holdingBytes (refused r missing held) bs = bs
 -- reading under a holding lent as bytes
 unfoldable pub hostOutcome : List ℕ → List ℕ → ℕ → ℕ → List ℤ → Outcome
 hostOutcome holding bytes end start rows = outcomeAt (holdingIn holding) bytes end start rows
+
+-- ---- a whole stretch
+
+-- document 01's number of a stop
+unfoldable pub answerNumber : Answer → ℕ
+answerNumber (Answers.Message h next rows) = messageNumber
+answerNumber Answers.Idle = idleNumber
+answerNumber (Answers.Refused r) = numberOf r
+
+-- walking under a holding lent as bytes
+unfoldable pub hostWalk : List ℕ → List ℕ → ℕ → List ℤ → Walk
+hostWalk holding bytes end rows = walkAt (holdingIn holding) bytes end rows
+
+unfoldable pub walkedTo : Walk → Walked
+walkedTo w = record { answer = answerNumber (answerOf (w .stop)); place = w .place; messages = messages w; rows = rowCount (w .handed) }
+
+-- the holding's bytes after so many messages: as they were where none was accepted
+unfoldable pub leftBytes : ℕ → Holding → List ℕ → List ℕ
+leftBytes n after bs = cond (eqb n 0) bs (over (bytesOf after) bs)
+
+unfoldable pub walkBytes : Walk → List ℕ → List ℕ
+walkBytes w bs = leftBytes (messages w) (pictureOf (heldAfter (w .stop))) bs
+
+-- ---- the start
 
 -- the empty holding made of lent bytes, where there are enough
 unfoldable pub emptied : List ℕ → List ℕ

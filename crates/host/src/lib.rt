@@ -7,7 +7,7 @@ ghost use Rattle.bits.specs.Parts.{startOf, countOf};
 ghost use Rattle.format.specs.Answers.{numberOf};
 ghost use Rattle.format.specs.Reading.{rowsAfter};
 ghost use Rattle.holding.specs.Pictures.{sound};
-ghost use Rattle.host.specs.Handing.{messageNumber, keptBytes, stopped, handed, holdingBytes, hostOutcome, emptied, emptiedNumber};
+ghost use Rattle.host.specs.Handing.{messageNumber, keptBytes, stopped, handed, holdingBytes, hostOutcome, answerNumber, hostWalk, walkedTo, leftBytes, walkBytes, emptied, emptiedNumber};
 use format::Answer;
 use format::Head;
 use format::Refusal;
@@ -23,6 +23,15 @@ pub struct Handed {
     pub offset: usize,
     pub count: usize,
     pub head: Head,
+}
+
+// What a walk comes to: the stop's number and place, and how many messages and rows were handed out before it.
+#[repr(C)]
+pub struct Walked {
+    pub answer: u64,
+    pub place: usize,
+    pub messages: usize,
+    pub rows: usize,
 }
 
 // What isn't there.
@@ -45,6 +54,17 @@ fn number(r: Refusal) -> u64
         Refusal::Size => 10,
         Refusal::Network => 11,
         Refusal::Value => 12,
+    }
+}
+
+// Document 01's number of a stop; 13 for a message.
+fn answer_number(answer: Answer) -> u64
+    ensures { λ n. ⌜ n ≡ answerNumber answer ⌝ }
+{
+    match answer {
+        Answer::Message(_, _, _) => 13,
+        Answer::Idle => 0,
+        Answer::Refused(r) => number(r),
     }
 }
 
@@ -150,5 +170,41 @@ pub extern "C" fn hundurzek_read(
             keep(holding, head.subtype, after);
             message(head, start, next, n)
         }
+    }
+}
+
+// What is held after so many messages: where none was accepted it is as it was.
+fn leave(holding: &mut [u8], messages: usize, after: Holding)
+    requires { ⌜ (¬ (messages ≡ 0) → (194 ≤ length (now holding)) × (sound after ≡ true)) ⌝ }
+    ensures { λ _. ⌜ now (holding .exit) ≡ leftBytes messages after (now (holding .entry)) ⌝ }
+{
+    if messages == 0 {
+        return;
+    }
+    passing::give::holding_over(holding, after);
+}
+
+// Reads a whole stretch, from place 0 until idle or a refusal.
+#[no_mangle]
+pub extern "C" fn hundurzek_walk(
+    holding: &mut [u8],
+    bytes: &[u8],
+    end: usize,
+    rows: &mut [i32],
+) -> Walked
+    ensures { λ r. ⌜ r ≡ walkedTo (hostWalk (now (holding .entry)) (now (bytes .entry)) end (now (rows .entry))) ⌝ }
+    ensures { λ _. ⌜ now (holding .exit) ≡ walkBytes (hostWalk (now (holding .entry)) (now (bytes .entry)) end (now (rows .entry))) (now (holding .entry)) ⌝ }
+    ensures { λ _. ⌜ now (rows .exit) ≡ hostWalk (now (holding .entry)) (now (bytes .entry)) end (now (rows .entry)) .rows ⌝ }
+{
+    let held = passing::take::holding_in(holding);
+    let walked = walk::walk(held, bytes, end, rows);
+    let answer = walked.stop;
+    let after = walked.holding;
+    leave(holding, walked.messages, after);
+    Walked {
+        answer: answer_number(answer),
+        place: walked.place,
+        messages: walked.messages,
+        rows: walked.rows,
     }
 }

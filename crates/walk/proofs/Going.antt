@@ -6,15 +6,16 @@ use Prim.Native.Nat.{ℕ, suc, _+_, _*_, _≤_, _<_}
 use native.Mathlib.Nat.{le-refl, add-zero, add-assoc}
 use native.Mathlib.Omega.{arith}
 use lib.IntN.{ℤ}
-use lib.ListN.{length, length-append, length-drop}
+use lib.ListN.{length}
 use borrow.Author.Tests.{le-leb}
 use Rattle.format.specs.declared.Answer.the-variants as Answers
 use Rattle.format.specs.declared.Head.{Head}
 use Rattle.format.specs.Good.{good}
 use Rattle.format.specs.Masks.{Held}
-use Rattle.format.specs.Reading.{stretchLimit, rowRoom, Outcome, accepted, idle, refused, placed, readingBy, reading, answerOf, heldAfter, over, rowsAfter}
+use Rattle.format.specs.Reading.{stretchLimit, rowRoom, Outcome, accepted, idle, refused, placed, readingBy, reading, answerOf, heldAfter, rowsAfter}
 use Rattle.format.specs.Table.{Message, table}
 use Rattle.format.specs.Walking.{Walk, hand, goOn, walkOn, messages, rowCount}
+use Rattle.format.proofs.CutWalks.{over-long}
 use Rattle.format.proofs.HeldGood.{reading-good}
 use Rattle.format.proofs.Stops.{Stopped, reading-ends, stop-holds}
 use Rattle.format.proofs.Walks.{ends-inside, walk-step, stop-ends}
@@ -44,11 +45,6 @@ moves held bytes end place rows m next =
     let inside = ends-inside table held bytes end place n taken ran in
     let same : place + taken ≡ next = cc in
     (omega arith, omega arith))
-
--- the row buffer does not get shorter
-over-long : (new old : List ℤ) → length old ≤ length (over new old)
-unfolding over
-over-long new old = simp (length-append, length-drop) (omega arith)
 
 -- one more message was handed out
 counted : (a b : ℕ) (m : Message) (w : Walk) → walkedWith a b (hand (m .content) w) ≡ walkedWith (a + 1) (b + length (m .content .rows)) w
