@@ -279,24 +279,51 @@ static int read_message(struct cursor *c, bitwise_holding *holding, hundurzek_he
   }
 }
 
-static hundurzek_reading refused(int answer, size_t start) {
-  return (hundurzek_reading){.answer = (uint64_t)answer, .place = start, .head = nothing};
+/* "Reader's order: 1, 2, 12", before a bit is looked at. */
+static int test_lent(size_t holding_count, size_t count, size_t end, size_t start, size_t row_count) {
+  if (row_count < HUNDURZEK_ROOM) return ROOM;
+  if (end > LONGEST || (end + 7) / 8 > count || start > end) return PLACE;
+  if (holding_count < sizeof(bitwise_holding)) return VALUE;
+  return MESSAGE;
+}
+
+/* Leaves the cursor after the message; on idle or a refusal where it was. */
+static int read_next(struct cursor *c, bitwise_holding *holding, hundurzek_head *head, struct rows *rows) {
+  int start = c->place;
+  int answer = all_zero(c) ? IDLE : read_message(c, holding, head, rows);
+  if (answer != MESSAGE) c->place = start;
+  return answer;
 }
 
 hundurzek_reading bitwise_read(uint8_t *holding, size_t holding_count, const uint8_t *bytes, size_t count, size_t end,
                                size_t start, int32_t *rows, size_t row_count) {
-  if (row_count < HUNDURZEK_ROOM) return refused(ROOM, start);
-  if (end > LONGEST || (end + 7) / 8 > count || start > end) return refused(PLACE, start);
-  if (holding_count < sizeof(bitwise_holding)) return refused(VALUE, start);
   struct cursor c = {bytes, (int)start, (int)end};
-  if (all_zero(&c)) return refused(IDLE, start);
-  hundurzek_reading reading = {.answer = MESSAGE, .head = nothing};
   struct rows table = {rows, 0};
-  int answer = read_message(&c, (bitwise_holding *)(void *)holding, &reading.head, &table);
-  if (answer != MESSAGE) return refused(answer, start);
+  hundurzek_reading reading = {.head = nothing};
+  int answer = test_lent(holding_count, count, end, start, row_count);
+  if (answer == MESSAGE) answer = read_next(&c, (bitwise_holding *)(void *)holding, &reading.head, &table);
+  if (answer != MESSAGE) return (hundurzek_reading){.answer = (uint64_t)answer, .place = start, .head = nothing};
+  reading.answer = MESSAGE;
   reading.rows = table.count;
   reading.place = (size_t)c.place;
   reading.raw_offset = start / 8;
   reading.raw_count = (reading.place + 7) / 8 - start / 8;
   return reading;
+}
+
+hundurzek_walked bitwise_walk(uint8_t *holding, size_t holding_count, const uint8_t *bytes, size_t count, size_t end,
+                              int32_t *rows, size_t row_count) {
+  struct cursor c = {bytes, 0, (int)end};
+  hundurzek_walked walked = {0};
+  hundurzek_head head; /* not handed out */
+  int answer = test_lent(holding_count, count, end, 0, row_count);
+  while (answer == MESSAGE) {
+    struct rows table = {rows, 0};
+    answer = read_next(&c, (bitwise_holding *)(void *)holding, &head, &table);
+    walked.messages += answer == MESSAGE;
+    walked.rows += table.count;
+  }
+  walked.answer = (uint64_t)answer;
+  walked.place = (size_t)c.place;
+  return walked;
 }

@@ -1,6 +1,6 @@
-/* A reader of one message in the way that today's GNSS libraries are written: every field by getbitu or getbits,
-   loops over satellites and signals. It gives hundurzek_read's answers, heads and rows, and takes what that takes,
-   but keeps its holding as a struct of its own. */
+/* A reader of messages in the way that today's GNSS libraries are written: every field by getbitu or getbits, loops
+   over satellites and signals. It gives the answers, heads and rows of hundurzek_read and hundurzek_walk, and takes
+   what those take, but keeps its holding as a struct of its own. */
 #ifndef BENCH_BITWISE_H
 #define BENCH_BITWISE_H
 
@@ -35,5 +35,9 @@ typedef struct {
 /* As hundurzek_read; the bytes lent as a holding are those of a bitwise_holding. */
 hundurzek_reading bitwise_read(uint8_t *holding, size_t holding_count, const uint8_t *bytes, size_t count, size_t end,
                                size_t start, int32_t *rows, size_t row_count);
+
+/* As hundurzek_walk; what is lent is tested once. */
+hundurzek_walked bitwise_walk(uint8_t *holding, size_t holding_count, const uint8_t *bytes, size_t count, size_t end,
+                              int32_t *rows, size_t row_count);
 
 #endif

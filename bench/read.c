@@ -1,10 +1,11 @@
-/* Reads an input's stretches message by message with one decoder, the holding kept from stretch to stretch.
+/* Reads an input's stretches with one decoder, the holding kept from stretch to stretch.
 
-     read DECODER INPUT check    everything that was handed out: checksum and totals
-     read DECODER INPUT stack    the deepest stack of a reading, in bytes
-     read DECODER INPUT ROUNDS   that many times, for an instruction counter: a round more is a reading of the input more
+     read DECODER INPUT check        by walks and message by message: all that was handed out, as a checksum; totals
+     read DECODER INPUT WAY stack    the deepest stack of a call, in bytes
+     read DECODER INPUT WAY ROUNDS   that many times, for an instruction counter: a round more reads the input once more
 
-   DECODER is host or bitwise, INPUT is a or b (stretches.h). */
+   DECODER is host or bitwise. INPUT is a, b, c, or the data parts of a stretch (stretches.h). WAY is walks, a call for
+   each stretch, or messages, a call for each message. */
 #include <inttypes.h>
 #include <stdbool.h>
 #include <stdio.h>
@@ -20,36 +21,68 @@
 
 typedef hundurzek_reading reader(uint8_t *holding, size_t holding_count, const uint8_t *bytes, size_t count, size_t end,
                                  size_t start, int32_t *rows, size_t row_count);
+typedef hundurzek_walked walker(uint8_t *holding, size_t holding_count, const uint8_t *bytes, size_t count, size_t end,
+                                int32_t *rows, size_t row_count);
 
-/* Always idle; its stack is its return address. */
+typedef struct {
+  const char *name;
+  reader *read;
+  walker *walk;
+} decoder;
+
 static hundurzek_reading no_read(uint8_t *holding, size_t holding_count, const uint8_t *bytes, size_t count, size_t end,
                                  size_t start, int32_t *rows, size_t row_count) {
   (void)holding, (void)holding_count, (void)bytes, (void)count, (void)end, (void)start, (void)rows, (void)row_count;
   return (hundurzek_reading){.answer = 0};
 }
 
-/* ---- a receiver: a decoder with its holding and row buffer */
+static hundurzek_walked no_walk(uint8_t *holding, size_t holding_count, const uint8_t *bytes, size_t count, size_t end,
+                                int32_t *rows, size_t row_count) {
+  (void)holding, (void)holding_count, (void)bytes, (void)count, (void)end, (void)rows, (void)row_count;
+  return (hundurzek_walked){.answer = 0};
+}
 
-static struct {
-  reader *read;
-  uint8_t *holding;
-  size_t holding_count;
+/* The last is always idle; its stack is its return address. */
+enum { DECODERS = 2, NONE = DECODERS };
+static const decoder decoders[] = {{"host", hundurzek_read, hundurzek_walk},
+                                   {"bitwise", bitwise_read, bitwise_walk},
+                                   [NONE] = {"", no_read, no_walk}};
+
+/* ---- receivers: what is lent to a decoder */
+
+/* Either decoder's holding, empty where all of it is zero; bytes after the host's are left alone. */
+typedef struct {
+  union {
+    uint8_t host[HUNDURZEK_HOLDING];
+    bitwise_holding bitwise;
+  } holding;
   int32_t rows[HUNDURZEK_ROOM];
 } receiver;
 
+static const decoder *decoding;
+static receiver by_message, by_walk;
 static stretch stretches[HOUR];
 static size_t stretch_count;
 
 static hundurzek_reading read_at(const stretch *s, size_t start) {
-  return receiver.read(receiver.holding, receiver.holding_count, s->bytes, (s->end + 7) / 8, s->end, start, receiver.rows,
-                       HUNDURZEK_ROOM);
+  return decoding->read((uint8_t *)&by_message.holding, sizeof by_message.holding, s->bytes, (s->end + 7) / 8, s->end,
+                        start, by_message.rows, HUNDURZEK_ROOM);
 }
 
-static void read_all(void) {
+static hundurzek_walked walk(const stretch *s) {
+  return decoding->walk((uint8_t *)&by_walk.holding, sizeof by_walk.holding, s->bytes, (s->end + 7) / 8, s->end,
+                        by_walk.rows, HUNDURZEK_ROOM);
+}
+
+static void read_messages(void) {
   for (size_t k = 0; k < stretch_count; k++) {
     hundurzek_reading reading = {.answer = HUNDURZEK_MESSAGE};
     while (reading.answer == HUNDURZEK_MESSAGE) reading = read_at(&stretches[k], reading.place);
   }
+}
+
+static void read_walks(void) {
+  for (size_t k = 0; k < stretch_count; k++) walk(&stretches[k]);
 }
 
 /* ---- what was handed out */
@@ -62,34 +95,47 @@ static struct {
 
 static void fold(uint64_t number) { totals.checksum = (totals.checksum ^ number) * UINT64_C(1099511628211); }
 
-/* The reading, and all of the row buffer: the numbers after the rows must be the old ones. */
-static void tell(const hundurzek_reading *reading) {
-  uint64_t words[sizeof *reading / sizeof(uint64_t)];
-  memcpy(words, reading, sizeof words);
-  for (size_t k = 0; k < sizeof words / sizeof *words; k++) fold(words[k]);
-  for (size_t k = 0; k < HUNDURZEK_ROOM; k++) fold((uint64_t)receiver.rows[k]);
+/* The words of an answer, and all of the row buffer: the numbers after the rows must be the old ones. */
+static void tell(const void *answer, size_t size, const int32_t *rows) {
+  uint64_t words[sizeof(hundurzek_reading) / sizeof(uint64_t)];
+  memcpy(words, answer, size);
+  for (size_t k = 0; k < size / sizeof *words; k++) fold(words[k]);
+  for (size_t k = 0; k < HUNDURZEK_ROOM; k++) fold((uint64_t)rows[k]);
+}
+
+/* Tells the readings of a stretch one by one; answers the walk that they make up. */
+static hundurzek_walked check_messages(const stretch *s) {
+  hundurzek_walked made = {0};
+  for (;;) {
+    hundurzek_reading reading = read_at(s, made.place);
+    tell(&reading, sizeof reading, by_message.rows);
+    made.answer = reading.answer;
+    made.place = reading.place;
+    if (reading.answer != HUNDURZEK_MESSAGE) return made;
+    made.messages++;
+    made.rows += reading.rows;
+    totals.subtypes[reading.head.subtype]++;
+  }
 }
 
 static void check_stretch(const stretch *s) {
-  hundurzek_reading reading = read_at(s, 0);
-  for (; reading.answer == HUNDURZEK_MESSAGE; reading = read_at(s, reading.place)) {
-    tell(&reading);
-    totals.messages++;
-    totals.rows += reading.rows;
-    totals.subtypes[reading.head.subtype]++;
-  }
-  tell(&reading);
-  if (reading.answer != 0) {
-    fprintf(stderr, "refused with %" PRIu64 " at %zu: the inputs have no such message\n", reading.answer, reading.place);
+  hundurzek_walked made = check_messages(s), walked = walk(s);
+  tell(&walked, sizeof walked, by_walk.rows);
+  bool same = !memcmp(&made, &walked, sizeof made) && !memcmp(&by_message, &by_walk, sizeof by_walk);
+  if (!same || walked.answer != 0) {
+    fprintf(stderr, "stop %" PRIu64 " at %zu: %s\n", walked.answer, walked.place,
+            same ? "the inputs have no such message" : "the readings, one after another, leave something else");
     exit(1);
   }
+  totals.messages += walked.messages;
+  totals.rows += walked.rows;
   totals.bits += s->end;
-  totals.padding += s->end - reading.place;
+  totals.padding += s->end - walked.place;
 }
 
 static void check(void) {
   static const int subtypes[] = {1, 2, 3, 4, 5, 10, 11};
-  for (size_t k = 0; k < HUNDURZEK_ROOM; k++) receiver.rows[k] = (int32_t)(3 * k + 1);
+  for (size_t k = 0; k < HUNDURZEK_ROOM; k++) by_message.rows[k] = by_walk.rows[k] = (int32_t)(3 * k + 1);
   for (size_t k = 0; k < stretch_count; k++) check_stretch(&stretches[k]);
   printf("%016" PRIx64 " %zu %" PRIu64 " %" PRIu64, totals.checksum, stretch_count, totals.bits, totals.padding);
   printf(" %" PRIu64 " %" PRIu64, totals.rows, totals.messages);
@@ -102,10 +148,10 @@ static void check(void) {
 enum { STACK = 1 << 17, PAINT = 0xA5 };
 
 /* Reads all on a stack of its own that was painted before; answers how many bytes at its deep end are still painted. */
-static size_t painted_after(reader *read) {
+static size_t painted_after(void (*read_all)(void), const decoder *d) {
   static uint8_t stack[STACK];
   ucontext_t here, there;
-  receiver.read = read;
+  decoding = d;
   memset(stack, PAINT, STACK);
   getcontext(&there);
   there.uc_stack.ss_sp = stack;
@@ -119,33 +165,32 @@ static size_t painted_after(reader *read) {
 }
 
 /* The return address and all below it. */
-static size_t deepest(reader *read) {
-  size_t returning = painted_after(no_read) + sizeof(void *);
-  return returning - painted_after(read);
+static size_t deepest(void (*read_all)(void), const decoder *d) {
+  size_t returning = painted_after(read_all, &decoders[NONE]) + sizeof(void *);
+  return returning - painted_after(read_all, d);
 }
 
 /* ---- the command line */
 
-static bool open_receiver(const char *decoder) {
-  static uint8_t holding[HUNDURZEK_HOLDING];
-  static bitwise_holding own;
-  if (!strcmp(decoder, "host")) {
-    receiver.read = hundurzek_read;
-    receiver.holding = holding;
-    receiver.holding_count = sizeof holding;
-    return hundurzek_empty(holding, sizeof holding) == 0;
+static size_t make_input(const char *name) {
+  switch (*name) {
+    case 'a': return make_hour(stretches);
+    case 'b': return make_biases(stretches);
+    case 'c': return make_heads(stretches);
+    default: return make_parts(stretches, (unsigned)atoi(name));
   }
-  receiver.read = bitwise_read;
-  receiver.holding = (uint8_t *)&own;
-  receiver.holding_count = sizeof own;
-  return !strcmp(decoder, "bitwise");
 }
 
 int main(int argc, char **argv) {
-  if (argc != 4 || !open_receiver(argv[1])) return 2;
-  stretch_count = !strcmp(argv[2], "a") ? make_hour(stretches) : !strcmp(argv[2], "b") ? make_biases(stretches) : make_heads(stretches);
-  if (!strcmp(argv[3], "check")) check();
-  else if (!strcmp(argv[3], "stack")) printf("%zu\n", deepest(receiver.read));
-  else for (int rounds = atoi(argv[3]); rounds > 0; rounds--) read_all();
+  bool checking = argc == 4 && !strcmp(argv[3], "check");
+  if (!checking && argc != 5) return 2;
+  decoding = decoders;
+  while (decoding < decoders + DECODERS && strcmp(decoding->name, argv[1])) decoding++;
+  if (decoding == decoders + DECODERS) return 2;
+  stretch_count = make_input(argv[2]);
+  void (*read_all)(void) = strcmp(argv[3], "walks") ? read_messages : read_walks;
+  if (checking) check();
+  else if (!strcmp(argv[4], "stack")) printf("%zu\n", deepest(read_all, decoding));
+  else for (int rounds = atoi(argv[4]); rounds > 0; rounds--) read_all();
   return 0;
 }

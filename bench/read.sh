@@ -1,7 +1,8 @@
 #!/bin/sh
-# bench/read.sh: instructions of reading whole stretches message by message, the holding kept, through the host
-# interface ('host') and with a decoder in C that gets its fields bit by bit ('bitwise'); as the tables of
-# docs/PERFORMANCE.md. Fails where the two do not hand out the same. ICOUNT names the instruction counter.
+# bench/read.sh: instructions of reading whole stretches, the holding kept, through the host interface ('host') and
+# with a decoder in C that gets its fields bit by bit ('bitwise'), by walks and message by message; as the tables of
+# docs/PERFORMANCE.md. Fails where the two do not hand out the same, or a walk is not its readings one after another.
+# ICOUNT names the instruction counter.
 set -eu
 cd "$(dirname "$0")/.."
 . bench/lib/count.sh
@@ -12,47 +13,77 @@ handed_out() {
     host=$($RUN target/bench/read host "$1" check)
     bitwise=$($RUN target/bench/read bitwise "$1" check)
     if [ "$host" != "$bitwise" ]; then
-        echo "input ($1): the decoders differ" >&2
+        echo "input $1: the decoders differ" >&2
         exit 1
     fi
     echo "$host"
 }
 
-# instructions DECODER INPUT: of reading it once; what comes before falls out of the difference
+# instructions DECODER INPUT WAY: of reading it once; what comes before falls out of the difference
 instructions() {
-    twice=$(count read "$1" "$2" 2)
-    once=$(count read "$1" "$2" 1)
+    twice=$(count read "$1" "$2" "$3" 2)
+    once=$(count read "$1" "$2" "$3" 1)
     echo $((twice - once))
+}
+
+# columns NUMBER..: as the columns of a table
+columns() {
+    echo "$*" | sed 's/ / | /g'
 }
 
 # input_row INPUT CHECKSUM TOTAL..
 input_row() {
     input=$1
     shift 2
-    echo "| ($input) | $(echo "$*" | sed 's/ / | /g') |"
+    echo "| ($input) | $(columns "$@") |"
 }
 
-# decoder_rows INPUT CHECKSUM STRETCHES BITS PADDING ROWS MESSAGES ..
+# decoder_rows WAY INPUT CHECKSUM STRETCHES BITS PADDING ROWS MESSAGES ..
 decoder_rows() {
-    bitwise=$(instructions bitwise "$1")
+    bitwise=$(instructions bitwise "$2" "$1")
     for decoder in host bitwise; do
-        n=$(instructions $decoder "$1")
-        stack=$($RUN target/bench/read $decoder "$1" stack)
-        printf '| (%s) | %s' "$1" $decoder
-        awk -v n="$n" -v bits="$4" -v rows="$6" -v messages="$7" -v bitwise="$bitwise" \
-            'BEGIN { printf " | %.2f | %.1f | %.0f | %.3f", n / bits, n / rows, n / messages, n / bitwise }'
+        n=$bitwise
+        [ $decoder = bitwise ] || n=$(instructions $decoder "$2" "$1")
+        stack=$($RUN target/bench/read $decoder "$2" "$1" stack)
+        printf '| (%s) | %s' "$2" $decoder
+        awk -v n="$n" -v bits="$5" -v rows="$7" -v messages="$8" -v bitwise="$bitwise" 'BEGIN {
+            per_row = rows > 0 ? sprintf("%.1f", n / rows) : "-"
+            printf " | %.2f | %s | %.0f | %.3f", n / bits, per_row, n / messages, n / bitwise }'
         echo " | $stack |"
     done
 }
 
+# decoder_table WAY: the inputs (a), (b), (c), read in this way
+decoder_table() {
+    echo
+    echo "| by $1 | decoder | instructions per bit | per row | per message | to bitwise | deepest stack, bytes |"
+    echo '|---|---|---|---|---|---|---|'
+    decoder_rows "$1" a $a
+    decoder_rows "$1" b $b
+    decoder_rows "$1" c $c
+}
+
+# growth_row PARTS CHECKSUM STRETCHES BITS PADDING ROWS MESSAGES ..
+growth_row() {
+    n=$(instructions host "$1" walks)
+    per_bit=$(awk -v n="$n" -v bits="$4" 'BEGIN { printf "%.3f", n / bits }')
+    echo "| $(columns "$1" "$3" "$4" "$6" "$7" "$n" $((n / $3)) "$per_bit") |"
+}
+
 a=$(handed_out a)
 b=$(handed_out b)
+c=$(handed_out c)
 echo '| input | stretches | bits | padding | rows | messages | sub type 1 | 2 | 3 | 4 | 5 | 10 | 11 |'
 echo '|---|---|---|---|---|---|---|---|---|---|---|---|---|'
 input_row a $a
 input_row b $b
+input_row c $c
+decoder_table walks
 echo
-echo '| input | decoder | instructions per bit | per row | per message | to bitwise | deepest stack, bytes |'
-echo '|---|---|---|---|---|---|---|'
-decoder_rows a $a
-decoder_rows b $b
+echo '| data parts | stretches | bits | rows | messages | instructions, host | per stretch | per bit |'
+echo '|---|---|---|---|---|---|---|---|'
+for parts in 1 5 30; do
+    totals=$(handed_out $parts)
+    growth_row $parts $totals
+done
+decoder_table messages

@@ -241,3 +241,34 @@ size_t make_heads(stretch *stretches) {
   }
   return COUNT;
 }
+
+/* ---- growth */
+
+/* (a)'s masks, but each network misses just a satellite of GPS and one of QZSS, so that all parts are of one length. */
+static mask draw_even_mask(unsigned iod) {
+  mask m = draw_mask(iod);
+  for (unsigned k = 0; k < NETWORKS; k++) m.selections[k] = choose(7, 8) << 10 | 0x3F << 4 | choose(3, 4);
+  return m;
+}
+
+/* 288 bits of mask, 307 of clocks, 1,099 of a network's orbits and clocks: a part but for one bit. */
+static void put_part(stretch *s, const mask *m, unsigned k) {
+  put_mask(s, m, 5 * k);
+  put_clocks(s, m, 5 * k);
+  put_combined(s, m, 5 * k, k % NETWORKS, 1);
+}
+
+size_t make_parts(stretch *stretches, unsigned parts) {
+  assert(parts > 0 && HOUR % parts == 0);
+  mask m = {0};
+  for (unsigned k = 0; k < HOUR; k++) {
+    stretch *s = &stretches[k / parts];
+    if (k % 120 == 0) m = draw_even_mask(k / 120);
+    if (k % parts == 0) *s = (stretch){0};
+    put_part(s, &m, k);
+    if ((k + 1) % parts > 0) continue;
+    assert(s->end == parts * (PART - 1));
+    s->end = parts * PART;
+  }
+  return HOUR / parts;
+}

@@ -5,8 +5,9 @@
 #include <stddef.h>
 #include <stdint.h>
 
-/* Document 01, "What is built": the longest stretch; five data parts, as one subframe of CLAS has; an hour of them. */
-enum { LONGEST = 30 * 1695, SUBFRAME = 5 * 1695, HOUR = 720 };
+/* Document 01, "What is built": a data part; the longest stretch; five data parts, as one subframe of CLAS has; an
+   hour of them. */
+enum { PART = 1695, LONGEST = 30 * PART, SUBFRAME = 5 * PART, HOUR = 720 };
 
 typedef struct {
   size_t end; /* length in bits */
@@ -22,5 +23,9 @@ size_t make_biases(stretch *stretches);
 /* Input (c): clocks of 37 bits under a mask of no systems, back to back. Makes at most HOUR stretches, and answers how
    many. */
 size_t make_heads(stretch *stretches);
+
+/* For growth: HOUR data parts of (a)'s messages, a mask in each, always the same ones, back to back in stretches of so
+   many parts, which divides HOUR. Answers how many stretches. */
+size_t make_parts(stretch *stretches, unsigned parts);
 
 #endif

@@ -1,6 +1,6 @@
-/* Hundurzek for C: one Compact SSR message at a time. docs/HOST.md fixes, byte by byte, how a holding and
-   rows pass, and what each function answers for every input. A slice is a pointer and a count; the
-   pointer of a slice of no elements may point anywhere but must not be null. */
+/* Hundurzek for C: one Compact SSR message at a time, or a whole stretch of them. docs/HOST.md fixes, byte by
+   byte, how a holding and rows pass, and what each function answers for every input. A slice is a pointer and
+   a count; the pointer of a slice of no elements may point anywhere but must not be null. */
 #ifndef HUNDURZEK_H
 #define HUNDURZEK_H
 
@@ -36,11 +36,23 @@ typedef struct {
   hundurzek_head head; /* of the message; else eight times HUNDURZEK_ABSENT */
 } hundurzek_reading;
 
+typedef struct {
+  uint64_t answer; /* why the walk stopped: 0 to 12 */
+  size_t place;    /* and where */
+  size_t messages; /* accepted before the stop, */
+  size_t rows;     /* and the rows of all of them */
+} hundurzek_walked;
+
 /* Makes the empty holding: 0, or 1 and nothing changed where fewer than HUNDURZEK_HOLDING bytes are lent. */
 uint64_t hundurzek_empty(uint8_t *holding, size_t holding_count);
 
 /* Reads the message at bit place start of a stretch of end bits. */
 hundurzek_reading hundurzek_read(uint8_t *holding, size_t holding_count, const uint8_t *bytes, size_t count, size_t end,
                                  size_t start, int32_t *rows, size_t row_count);
+
+/* Reads a stretch of end bits message by message, from place 0 until idle or a refusal. The holding becomes the one
+   after the last message accepted; the row buffer is left as those readings, one after another, leave it. */
+hundurzek_walked hundurzek_walk(uint8_t *holding, size_t holding_count, const uint8_t *bytes, size_t count, size_t end,
+                                int32_t *rows, size_t row_count);
 
 #endif

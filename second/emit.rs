@@ -5,8 +5,8 @@
 //! two's complement. Nothing is padded.
 //!
 //! Stream:
-//!   8 bytes   its kind, `fixed`, `read`, `stretch` or `walk`, filled up with
-//!             zero bytes
+//!   8 bytes   its kind, `fixed`, `read`, `stretch`, `bench` or `walk`, filled
+//!             up with zero bytes
 //!   u64       number of records
 //!   records
 //!
@@ -38,17 +38,15 @@
 //!     8r x i32  rows: first in the row buffer, its old numbers after them
 //!     bytes   holding after the reading, as many bytes as were lent
 //!
-//! Record of kind `walk`: lent, then expected
+//! Record of kind `bench` (bench cases, and sweeps from place 0) or `walk`
+//! (random stretches), each as one walk: lent, then expected
 //!   u8        stop number, 0 to 12
 //!   u64       stop place
 //!   u64       messages accepted
 //!   u64       rows in all of them
 //!   bytes     holding after the walk, as many bytes as were lent
-//!   u64       hash of the row buffer after the walk
-//!
-//! Hash: FNV-1a of 64 bits over the whole row buffer, four bytes little endian
-//! for each number: h = 14695981039346656037; for each byte h = (h xor byte) *
-//! 1099511628211 modulo 2^64.
+//!   u32       number n of the row buffer's numbers, up to the last one changed
+//!   n x i32   row buffer after the walk: these first, its old numbers after them
 
 use std::io::{self, Write};
 
@@ -56,7 +54,7 @@ use super::generate::{bench, filled, plain, single, stretches, sweeps, Case};
 use super::holding::Holding;
 use super::host::{self, Answer, MESSAGE};
 use super::random::Random;
-use super::walk::{walk, Walk};
+use super::walk::walk;
 use super::COLUMNS;
 
 /// How often each answer occurred: 0 to 12, and accepted at 13.
@@ -68,18 +66,14 @@ const WHOLE: usize = usize::MAX;
 
 /// Writes the kind `fixed`.
 pub fn emit_fixed(output: &mut impl Write) -> io::Result<Answers> {
-    let bench = bench::readings();
-    let bench = bench.iter().map(|case| plain(case.name, &case.holding, &case.bits));
-    let readings: Vec<Case> = bench.chain(sweeps::cases()).collect();
-    let stretches = bench::stretches();
+    let (readings, stretches) = (fixed_readings(), fixed_stretches());
     let mut answers = Answers::default();
     put_header(output, b"fixed\0\0\0", readings.len() + stretches.len())?;
     for case in &readings {
         put_readings(output, &mut answers, case, SINGLE)?;
     }
-    for case in stretches {
-        let case = plain(case.name, &Holding::Empty, &case.bits);
-        put_readings(output, &mut answers, &case, WHOLE)?;
+    for case in &stretches {
+        put_readings(output, &mut answers, case, WHOLE)?;
     }
     Ok(answers)
 }
@@ -107,28 +101,41 @@ pub fn emit_stretch(output: &mut impl Write, seed: u64, count: usize) -> io::Res
     Ok(answers)
 }
 
+/// Writes the kind `bench`.
+pub fn emit_bench(output: &mut impl Write) -> io::Result<Answers> {
+    let mut cases = [fixed_readings(), fixed_stretches()].concat();
+    cases.retain(|case| case.start == 0);
+    let mut answers = Answers::default();
+    put_header(output, b"bench\0\0\0", cases.len())?;
+    for case in &cases {
+        put_walk(output, &mut answers, case)?;
+    }
+    Ok(answers)
+}
+
 /// Writes so many records of kind `walk`.
 pub fn emit_walk(output: &mut impl Write, seed: u64, count: usize) -> io::Result<Answers> {
     let mut answers = Answers::default();
     let mut run = stretches::Run::new(seed);
     put_header(output, b"walk\0\0\0\0", count)?;
     for _ in 0..count {
-        let mut case = run.case();
-        let mut record = Vec::new();
-        put_lent(&mut record, &case);
-        let mut rows = filled(case.fill, case.room);
-        let lent = host::decode(&case.holding);
-        let walk = walk(&lent, &case.bytes, case.bit_length, &mut rows, |_, _, _| {});
-        host::put(&walk.holding, &mut case.holding);
-        answers[usize::from(walk.stop.number)] += 1;
-        answers[usize::from(MESSAGE)] += walk.messages;
-        put_walk(&mut record, &walk);
-        record.extend(&case.holding);
-        put(&mut record, hash(&rows), 8);
-        output.write_all(&record)?;
-        run.keep(&walk.holding);
+        let holding = put_walk(output, &mut answers, &run.case())?;
+        run.keep(&holding);
     }
     Ok(answers)
+}
+
+/// The bench cases that are single readings, and the sweeps.
+fn fixed_readings() -> Vec<Case> {
+    let bench = bench::readings();
+    let bench = bench.iter().map(|case| plain(case.name, &case.holding, &case.bits));
+    bench.chain(sweeps::cases()).collect()
+}
+
+/// The bench cases that are whole stretches.
+fn fixed_stretches() -> Vec<Case> {
+    let bench = bench::stretches();
+    bench.iter().map(|case| plain(case.name, &Holding::Empty, &case.bits)).collect()
 }
 
 /// Writes the case with its readings, at most so many, and gives the bytes of
@@ -162,12 +169,34 @@ fn put_readings(
     Ok(holding)
 }
 
-/// FNV-1a over the numbers as little-endian bytes.
-pub fn hash(rows: &[i32]) -> u64 {
-    let bytes = rows.iter().flat_map(|number| number.to_le_bytes());
-    bytes.fold(14_695_981_039_346_656_037, |hash, byte| {
-        (hash ^ u64::from(byte)).wrapping_mul(1_099_511_628_211)
-    })
+/// Writes the case with its walk, and gives what is held after it.
+fn put_walk(output: &mut impl Write, answers: &mut Answers, case: &Case) -> io::Result<Holding> {
+    let before = filled(case.fill, case.room);
+    let mut rows = before.clone();
+    let mut holding = case.holding.clone();
+    let lent = host::decode(&holding);
+    let walk = walk(&lent, &case.bytes, case.bit_length, &mut rows, |_, _, _| {});
+    host::put(&walk.holding, &mut holding);
+    answers[usize::from(walk.stop.number)] += 1;
+    answers[usize::from(MESSAGE)] += walk.messages;
+    let mut record = Vec::new();
+    put_lent(&mut record, case);
+    put(&mut record, u64::from(walk.stop.number), 1);
+    put(&mut record, walk.stop.place as u64, 8);
+    put(&mut record, walk.messages as u64, 8);
+    put(&mut record, walk.rows as u64, 8);
+    record.extend(holding);
+    let changed = changed(&before, &rows);
+    put(&mut record, changed as u64, 4);
+    put_numbers(&mut record, &rows[..changed]);
+    output.write_all(&record)?;
+    Ok(walk.holding)
+}
+
+/// How many numbers there are up to the last one that differs.
+fn changed(before: &[i32], after: &[i32]) -> usize {
+    let last = before.iter().zip(after).rposition(|(before, after)| before != after);
+    last.map_or(0, |last| last + 1)
 }
 
 /// The low so many bytes of the number, little endian.
@@ -209,11 +238,4 @@ fn put_reading(record: &mut Vec<u8>, answer: &Answer, rows: &[i32], holding: &[u
     put(record, answer.raw.len() as u64, 8);
     put_numbers(record, &rows[..answer.rows * COLUMNS]);
     record.extend(holding);
-}
-
-fn put_walk(record: &mut Vec<u8>, walk: &Walk) {
-    put(record, u64::from(walk.stop.number), 1);
-    put(record, walk.stop.place as u64, 8);
-    put(record, walk.messages as u64, 8);
-    put(record, walk.rows as u64, 8);
 }

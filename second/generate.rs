@@ -99,6 +99,13 @@ fn dirty_bytes(random: &mut Random, bits: &[bool]) -> Vec<u8> {
     pack(&all)
 }
 
+/// The other bit at this place, if it is among the bytes.
+fn flip(bytes: &mut [u8], place: usize) {
+    if let Some(byte) = bytes.get_mut(place / 8) {
+        *byte ^= 1 << (7 - place % 8);
+    }
+}
+
 /// A number far past every stretch: among the greatest there are, or one that
 /// looks like the near one to whoever drops its upper bits.
 fn far(random: &mut Random, near: usize) -> usize {

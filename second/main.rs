@@ -8,9 +8,9 @@ mod tests;
 use std::io::{self, BufWriter, Write};
 use std::process::ExitCode;
 
-use codec::emit::{emit_fixed, emit_read, emit_stretch, emit_walk, Answers};
+use codec::emit::{emit_bench, emit_fixed, emit_read, emit_stretch, emit_walk, Answers};
 
-const USAGE: &str = "usage: second listing | second test | second emit fixed \
+const USAGE: &str = "usage: second listing | second test | second emit fixed|bench \
                      | second emit read|stretch|walk SEED COUNT";
 
 fn main() -> ExitCode {
@@ -20,6 +20,7 @@ fn main() -> ExitCode {
         ["listing"] => list(),
         ["test"] => return tests::run(),
         ["emit", "fixed"] => emit(emit_fixed),
+        ["emit", "bench"] => emit(emit_bench),
         ["emit", kind, seed, count] => emit_random(kind, seed, count),
         _ => Err(fault(USAGE)),
     };

@@ -6,7 +6,7 @@ use super::super::holding::{Holding, Mask};
 use super::super::random::Random;
 use super::super::STRETCH_BITS;
 use super::messages::Drawn;
-use super::{bad_room, lend, mislength, misstart};
+use super::{bad_room, flip, lend, mislength, misstart};
 use super::{holdings, masks, messages, Case};
 
 /// The mask held, if any, and the message read under it.
@@ -152,7 +152,7 @@ fn spoil(random: &mut Random, case: &mut Case, drawn: &Drawn) {
         truncate(random, case, drawn);
     }
     if family == FLIPPED || random.chance(2) {
-        flip(random, case, drawn);
+        damage(random, case, drawn);
     }
     if family == LONG {
         lengthen(random, case);
@@ -181,11 +181,9 @@ fn truncate(random: &mut Random, case: &mut Case, drawn: &Drawn) {
     case.bit_length = case.bit_length.min(case.start + kept);
 }
 
-fn flip(random: &mut Random, case: &mut Case, drawn: &Drawn) {
+fn damage(random: &mut Random, case: &mut Case, drawn: &Drawn) {
     let place = case.start + random.below(drawn.bits.len());
-    if let Some(byte) = case.bytes.get_mut(place / 8) {
-        *byte ^= 1 << (7 - place % 8);
-    }
+    flip(&mut case.bytes, place);
 }
 
 /// The longest stretch there is, once with the message first and once with it

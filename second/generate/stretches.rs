@@ -5,13 +5,15 @@
 use super::super::holding::{Holding, Mask};
 use super::super::random::Random;
 use super::super::STRETCH_BITS;
-use super::{bad_room, holdings, lend, masks, messages, mislength, Case};
+use super::{bad_room, flip, holdings, lend, masks, messages, mislength, Case};
 
 /// Families of stretches, by their names in reports.
 const PLAIN: &str = "plain";
 const FRESH: &str = "fresh receiver";
 const MISSED: &str = "mask missed";
 const DAMAGED: &str = "damaged holding";
+const FLIPPED: &str = "damaged bits";
+const CUT: &str = "cut";
 const PLACE: &str = "place";
 const ROOM: &str = "room";
 
@@ -49,6 +51,8 @@ impl Run {
         let mut case = lend(&mut self.random, family, &self.receiver, &bits);
         match family {
             DAMAGED => holdings::damage(&mut self.random, &mut case.holding),
+            FLIPPED => damage_bits(&mut self.random, &mut case),
+            CUT => case.bit_length = self.random.below(case.bit_length + 1),
             PLACE => mislength(&mut self.random, &mut case),
             ROOM => case.room = bad_room(&mut self.random),
             _ => {}
@@ -63,6 +67,8 @@ impl Run {
             18..=20 => DAMAGED,
             21 | 22 => PLACE,
             23 => ROOM,
+            24..=29 => FLIPPED,
+            30..=35 => CUT,
             _ => PLAIN,
         }
     }
@@ -116,6 +122,14 @@ impl Run {
         }
         bits.truncate(STRETCH_BITS);
         bits
+    }
+}
+
+/// Damages one to three bits.
+fn damage_bits(random: &mut Random, case: &mut Case) {
+    for _ in 0..1 + random.below(3) {
+        let place = random.below(case.bit_length.max(1));
+        flip(&mut case.bytes, place);
     }
 }
 

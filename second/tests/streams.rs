@@ -4,7 +4,7 @@
 use std::io::{self, sink};
 
 use super::Group;
-use crate::codec::emit::{emit_fixed, emit_read, emit_stretch, emit_walk, hash, Answers};
+use crate::codec::emit::{emit_bench, emit_fixed, emit_read, emit_stretch, emit_walk, Answers};
 use crate::codec::host::MESSAGE;
 
 const CASES: usize = 30_000;
@@ -15,6 +15,7 @@ pub fn answers(group: &mut Group) {
     often(group, "stretch", emit_stretch(&mut sink(), 1, 3_000), 10);
     often(group, "walk", emit_walk(&mut sink(), 1, 3_000), 10);
     often(group, "fixed", emit_fixed(&mut sink()), 1);
+    often(group, "bench", emit_bench(&mut sink()), 1);
 }
 
 fn often(group: &mut Group, kind: &str, answers: io::Result<Answers>, least: usize) {
@@ -29,14 +30,14 @@ pub fn formats(group: &mut Group) {
     group.check("another seed", stream(5) != stream(6));
     let fixed = written(|output| emit_fixed(output));
     let stretches = written(|output| emit_stretch(output, 5, 50));
+    let bench = written(|output| emit_bench(output));
     let walks = written(|output| emit_walk(output, 5, 50));
     let readings = |stream: &[u8], kind: &[u8]| records(stream, kind, skip_readings);
     group.same("read ends where it should", readings(&stream(5), b"read\0\0\0\0"), Some(50));
     group.same("stretch too", readings(&stretches, b"stretch\0"), Some(50));
     group.check("fixed too", readings(&fixed, b"fixed\0\0\0") > Some(5_000));
+    group.check("bench too", records(&bench, b"bench\0\0\0", skip_walk) > Some(5_000));
     group.same("walk too", records(&walks, b"walk\0\0\0\0", skip_walk), Some(50));
-    group.same("hash of nothing", hash(&[]), 0xCBF2_9CE4_8422_2325);
-    group.same("hash of the letters foob", hash(&[0x626F_6F66]), 0xDD12_0E79_0C25_12AF);
 }
 
 fn written(emitted: impl FnOnce(&mut Vec<u8>) -> io::Result<Answers>) -> Vec<u8> {
@@ -86,7 +87,9 @@ fn skip_readings(left: &mut &[u8], holding: usize) -> Option<()> {
 }
 
 fn skip_walk(left: &mut &[u8], holding: usize) -> Option<()> {
-    skip(left, 1 + 8 + 8 + 8 + holding + 8)
+    skip(left, 1 + 8 + 8 + 8 + holding)?;
+    let changed = take(left, 4)? as usize;
+    skip(left, 4 * changed)
 }
 
 fn skip_counted(left: &mut &[u8], width: usize) -> Option<usize> {

@@ -2,8 +2,9 @@
 #   CC    compiles C for x86-64, statically linked where the program is emulated
 #   RUN   goes in front of such a program; empty on x86-64
 # need COMMAND PACKAGE..: installs Debian's packages where the command is missing.
-# compile NAME CRATE: makes target/tests/NAME of tests/NAME.c and the crate's static library.
+# compile NAME CRATE SOURCE..: makes target/tests/NAME of tests/NAME.c, further sources and the crate's static library.
 # second: makes the second program, target/tests/second.
+# agree NAME STREAM..: runs tests/NAME.c over crate host on these streams of the second program (second/README.md, emit).
 need() {
     command -v "$1" >/dev/null 2>&1 && return 0
     shift
@@ -29,13 +30,27 @@ x86_64)
 esac
 
 compile() {
-    rt staticlib "$2"
+    program=$1
+    crate=$2
+    shift 2
+    rt staticlib "$crate"
     mkdir -p target/tests
-    $CC -O2 -std=c11 -Wall -Wextra -Werror -Iinclude "tests/$1.c" "target/staticlib/lib$2.a" -o "target/tests/$1"
+    $CC -O2 -std=c11 -Wall -Wextra -Werror -Iinclude -Itests/lib "tests/$program.c" "$@" \
+        "target/staticlib/lib$crate.a" -o "target/tests/$program"
 }
 
 second() {
     need rustc rustc
     mkdir -p target/tests
     rustc -O --edition 2021 -D warnings second/main.rs -o target/tests/second
+}
+
+agree() {
+    program=$1
+    shift
+    second
+    compile "$program" host tests/lib/streams.c
+    for stream; do
+        target/tests/second emit $stream
+    done 2>"target/tests/$program.log" | $RUN "target/tests/$program"
 }

@@ -1,0 +1,195 @@
+#include "streams.h"
+
+#include <inttypes.h>
+#include <stdarg.h>
+#include <stdio.h>
+#include <stdlib.h>
+#include <string.h>
+
+enum { GUARD = 64, GUARD_BYTE = 0xA5 };
+
+/* Differing calls that are told; the rest is only counted. */
+enum { TOLD = 10 };
+
+buffer holding = {.name = "holding", .space = 1024};
+buffer stretch = {.name = "stretch", .space = 16384};
+buffer rows = {.name = "row buffer", .space = 32768};
+case_name now;
+
+static unsigned long passed, failed;
+
+/* ---- the streams */
+
+int finish(void) {
+  printf("%lu passed, %lu failed\n", passed, failed);
+  return failed != 0;
+}
+
+void broken(const char *what) {
+  printf("the stream is broken: %s\n", what);
+  failed++;
+  exit(finish());
+}
+
+void get(void *to, size_t count) {
+  if (fread(to, 1, count, stdin) != count) broken("it ends early");
+}
+
+uint64_t number(size_t width) {
+  uint8_t bytes[8];
+  uint64_t n = 0;
+  get(bytes, width);
+  while (width-- > 0) n = n << 8 | bytes[width];
+  return n;
+}
+
+/* ---- what is lent */
+
+uint8_t *content(uint8_t *memory) { return memory + GUARD; }
+
+int32_t *numbers(uint8_t *memory) { return (int32_t *)content(memory); }
+
+static size_t whole(const buffer *b) { return GUARD + b->count + GUARD; }
+
+static void make(buffer *b) {
+  b->got = malloc(b->space + 2 * GUARD);
+  b->want = malloc(b->space + 2 * GUARD);
+  if (!b->got || !b->want) broken("no memory for it");
+}
+
+static void guard(uint8_t *memory, size_t count) {
+  memset(memory, GUARD_BYTE, GUARD);
+  memset(content(memory) + count, GUARD_BYTE, GUARD);
+}
+
+void lend(buffer *b, size_t count) {
+  if (!b->got) make(b);
+  if (count > b->space) broken("a buffer is too long");
+  b->count = count;
+  guard(b->got, count);
+  guard(b->want, count);
+}
+
+static void take_lent(buffer *b, size_t count) {
+  lend(b, count);
+  get(content(b->got), count);
+  memcpy(content(b->want), content(b->got), count);
+}
+
+/* The row buffer's first numbers, by the rule of second/emit.rs. */
+static void fill_rows(size_t count, uint64_t x) {
+  lend(&rows, 4 * count);
+  for (size_t i = 0; i < count; i++) {
+    x = x * UINT64_C(6364136223846793005) + UINT64_C(1442695040888963407);
+    numbers(rows.got)[i] = numbers(rows.want)[i] = (int32_t)(x >> 32);
+  }
+}
+
+static void take_case(void) {
+  size_t letters = number(1);
+  get(now.family, letters);
+  now.family[letters] = 0;
+  take_lent(&holding, number(2));
+  take_lent(&stretch, number(4));
+  now.end = number(8);
+  now.place = number(8);
+  now.call = 1;
+  size_t row_count = number(4);
+  fill_rows(row_count, number(8));
+}
+
+/* ---- comparing */
+
+static bool same = true;
+static unsigned long told;
+
+void differ(const char *format, ...) {
+  if (same && told++ < TOLD) {
+    printf("%s %lu (%s), call %lu at place %zu of %zu bits;", now.kind, now.record, now.family, now.call, now.place,
+           now.end);
+    printf(" lent: holding of %zu bytes, stretch of %zu, %zu numbers\n", holding.count, stretch.count, rows.count / 4);
+  }
+  same = false;
+  if (told > TOLD) return;
+  va_list values;
+  va_start(values, format);
+  printf("  ");
+  vprintf(format, values);
+  printf("\n");
+  va_end(values);
+}
+
+void compare(const char *what, uint64_t got, uint64_t want) {
+  if (got != want) differ("%s %" PRIu64 ", expected %" PRIu64, what, got, want);
+}
+
+/* Tells the first byte that differs; of rows the number that it is in. */
+static void compare_buffer(const buffer *b) {
+  static const char *const row_names[] = {"system", "satellite", "signal place", "v1", "v2", "v3", "v4", "v5"};
+  if (memcmp(b->got, b->want, whole(b)) == 0) return;
+  size_t at = 0;
+  while (b->got[at] == b->want[at]) at++;
+  if (at < GUARD || at >= GUARD + b->count) {
+    differ("%s: a byte %s it is changed", b->name, at < GUARD ? "before" : "after");
+  } else if (b == &rows) {
+    size_t i = (at - GUARD) / 4;
+    differ("%s: row %zu, %s %" PRId32 ", expected %" PRId32, b->name, i / HUNDURZEK_ROW, row_names[i % HUNDURZEK_ROW],
+           numbers(b->got)[i], numbers(b->want)[i]);
+  } else {
+    differ("%s: byte %zu is %u, expected %u", b->name, at - GUARD, b->got[at], b->want[at]);
+  }
+}
+
+/* What follows begins with the buffers as they must be, so that a difference is told once. */
+void compare_lent(void) {
+  buffer *const lent[] = {&holding, &stretch, &rows};
+  for (size_t i = 0; i < 3; i++) compare_buffer(lent[i]);
+  if (same) {
+    passed++;
+    return;
+  }
+  failed++;
+  same = true;
+  for (size_t i = 0; i < 3; i++) memcpy(lent[i]->got, lent[i]->want, whole(lent[i]));
+}
+
+/* ---- all streams, and what came */
+
+static void compare_stream(kind *k, void compare_record(kind *k)) {
+  uint64_t records = number(8);
+  now.kind = k->name;
+  for (now.record = 1; now.record <= records; now.record++, k->records++) {
+    take_case();
+    compare_record(k);
+  }
+}
+
+static kind *kind_of(kind *kinds, size_t count, const char name[8]) {
+  for (kind *k = kinds; k < kinds + count; k++)
+    if (strncmp(k->name, name, 8) == 0) return k;
+  broken("no such kind");
+}
+
+void compare_streams(kind *kinds, size_t count, void compare_record(kind *k)) {
+  char name[8];
+  size_t letters;
+  while ((letters = fread(name, 1, sizeof name, stdin)) == sizeof name)
+    compare_stream(kind_of(kinds, count, name), compare_record);
+  if (letters > 0) broken("it ends early");
+  for (size_t k = 0; k < count; k++) need(kinds[k].records >= kinds[k].least, kinds[k].name, kinds[k].records);
+  printf("%18s", "");
+  for (size_t k = 0; k < count; k++) printf(" %9s", kinds[k].name);
+  printf("\n");
+}
+
+void print_counts(const char *what, unsigned long which, const kind *kinds, size_t count, size_t counted) {
+  printf("%-15s %2lu", what, which);
+  for (size_t k = 0; k < count; k++) printf(" %9lu", kinds[k].counts[counted]);
+  printf("\n");
+}
+
+void need(bool enough, const char *what, unsigned long which) {
+  if (enough) return;
+  printf("too few: %s %lu\n", what, which);
+  failed++;
+}

@@ -1,0 +1,63 @@
+/* For programs that compare the host interface with the second program, whose cases and answers come as streams
+   on the standard input (second/emit.rs says their format byte by byte). Every buffer is lent between guard
+   bytes, and is compared whole, guards and all, with what it must be after each call. */
+#ifndef TESTS_STREAMS_H
+#define TESTS_STREAMS_H
+
+#include <stdbool.h>
+#include <stddef.h>
+#include <stdint.h>
+
+#include "hundurzek.h"
+
+/* A kind of stream: how many records of it must come, and what came. A program numbers what it counts as it likes. */
+enum { COUNTS = 32 };
+typedef struct {
+  const char *name;
+  unsigned long least, records, calls, counts[COUNTS];
+} kind;
+
+/* A buffer between guards: the one that is lent, and what it must be. Its count is in bytes. */
+typedef struct {
+  const char *name;
+  size_t space, count;
+  uint8_t *got, *want;
+} buffer;
+
+extern buffer holding, stretch, rows;
+
+/* What is being compared, for reports: a call of a record, at a place of a stretch of so many bits. */
+typedef struct {
+  const char *kind;
+  unsigned long record, call;
+  char family[256];
+  size_t end, place;
+} case_name;
+
+extern case_name now;
+
+/* Compares each record of each stream after taking what it lends, and needs so many of each kind as must come. Then
+   prints the kinds' names, for print_counts. */
+void compare_streams(kind *kinds, size_t count, void compare_record(kind *k));
+
+/* Taking what comes after that in a record: bytes, a number; and where it is not what it should be. */
+void get(void *to, size_t count);
+uint64_t number(size_t width);
+_Noreturn void broken(const char *what);
+
+/* What is lent of a buffer's memory, as bytes and as numbers; lending another count of it. */
+uint8_t *content(uint8_t *memory);
+int32_t *numbers(uint8_t *memory);
+void lend(buffer *b, size_t count);
+
+/* Comparing after a call: what it answered, number by number, and then the buffers, by which the call is counted. */
+void differ(const char *format, ...);
+void compare(const char *what, uint64_t got, uint64_t want);
+void compare_lent(void);
+
+/* The end: how often each kind has what is counted, what must be there, and the last line, with the status. */
+void print_counts(const char *what, unsigned long which, const kind *kinds, size_t count, size_t counted);
+void need(bool enough, const char *what, unsigned long which);
+int finish(void);
+
+#endif

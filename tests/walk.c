@@ -1,0 +1,74 @@
+/* Compares hundurzek_walk with the second program (lib/streams.h). */
+#include <stdio.h>
+#include <string.h>
+
+#include "streams.h"
+
+/* What is counted: each stop, each stop after a message, walks of many messages, and walks that were lent what the
+   walk before left. */
+enum { STOPS = 13, AFTER = STOPS, LONG = 2 * STOPS, KEPT, MANY = 30 };
+
+enum { BENCH, WALK, KINDS };
+static kind kinds[KINDS] = {
+    [BENCH] = {.name = "bench", .least = 5000},
+    [WALK] = {.name = "walk", .least = 20000},
+};
+
+/* The walk that is expected; the buffers are wanted as it leaves them. */
+static hundurzek_walked take_expected(void) {
+  hundurzek_walked want;
+  want.answer = number(1);
+  want.place = number(8);
+  want.messages = number(8);
+  want.rows = number(8);
+  get(content(holding.want), holding.count);
+  size_t changed = number(4);
+  if (want.answer >= STOPS || changed > rows.count / 4) broken("no such answer");
+  get(content(rows.want), 4 * changed);
+  return want;
+}
+
+static void count_walk(kind *k, const hundurzek_walked *want, bool kept) {
+  k->counts[want->answer]++;
+  if (want->messages > 0) k->counts[AFTER + want->answer]++;
+  if (want->messages > MANY) k->counts[LONG]++;
+  if (kept) k->counts[KEPT]++;
+}
+
+static void compare_walk(kind *k) {
+  static uint8_t left[HUNDURZEK_HOLDING]; /* by the walk before */
+  bool sufficient = holding.count >= sizeof left;
+  bool kept = sufficient && memcmp(content(holding.got), left, sizeof left) == 0;
+  hundurzek_walked want = take_expected();
+  hundurzek_walked got = hundurzek_walk(content(holding.got), holding.count, content(stretch.got), stretch.count,
+                                        now.end, numbers(rows.got), rows.count / 4);
+  if (sufficient) memcpy(left, content(holding.got), sizeof left);
+  compare("stop", got.answer, want.answer);
+  compare("place", got.place, want.place);
+  compare("messages", got.messages, want.messages);
+  compare("rows", got.rows, want.rows);
+  compare_lent();
+  count_walk(k, &want, kept);
+}
+
+/* How often it came; in the random walks so often at least. */
+static void judge(const char *what, unsigned long which, size_t count, unsigned long least) {
+  print_counts(what, which, kinds, KINDS, count);
+  need(kinds[WALK].counts[count] >= least, what, which);
+}
+
+/* Every stop often; also after a message, but for those that come before any; the holding kept in most walks. */
+static void judge_all(void) {
+  unsigned long kept = kinds[WALK].counts[KEPT];
+  for (unsigned i = 0; i < STOPS; i++) judge("stop", i, i, 100);
+  for (unsigned i = 0; i < STOPS; i++) judge("after a message", i, AFTER + i, i == 1 || i == 2 || i == 12 ? 0 : 100);
+  judge("messages over", MANY, LONG, 100);
+  printf("%lu random walks were lent what the walk before left\n", kept);
+  need(kept >= kinds[WALK].records / 2, "kept", kept);
+}
+
+int main(void) {
+  compare_streams(kinds, KINDS, compare_walk);
+  judge_all();
+  return finish();
+}
