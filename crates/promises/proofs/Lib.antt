@@ -4,3 +4,4 @@ pub mod Behind
 pub mod TwoWalks
 pub mod LateJoiners
 pub mod LateRuns
+pub mod Determined

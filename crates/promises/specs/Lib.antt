@@ -1,1 +1,2 @@
+pub mod Determination
 pub mod LateJoiners
