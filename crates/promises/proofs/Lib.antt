@@ -5,3 +5,4 @@ pub mod TwoWalks
 pub mod LateJoiners
 pub mod LateRuns
 pub mod Determined
+pub mod Useless
