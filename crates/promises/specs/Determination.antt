@@ -15,7 +15,7 @@ module _ {n : ℕ} (ps : List (PK n)) (r : RK n) where
   abbrev pub Content : (κs : Lfts n) → Dens κs ps → Type 0
   Content κs args = Lasts (endedOf n ps r) κs args
 
-  -- "any two outcomes it allows are equal", where `Same` says which results are: for all arguments, whatever the promise `P` requires of them
+  -- "any two outcomes it allows are equal", where `Same` says which results are the same; for all arguments, also those that the promise `P` does not admit
   unfoldable pub DeterminedBy : ((κs : Lfts n) → Result κs → Result κs → Type 0) → Out n ps r → Type 0
   DeterminedBy Same P =
       (κs : Lfts n) (args : Dens κs ps) (x y : Result κs) (v w : Content κs args) →
