@@ -33,11 +33,11 @@ use Rattle.promises.proofs.LateJoiners.{late-joiners}
 -- ---- stretches, field by field
 
 -- number and sub type
-opening : ℕ → List Bool
+unfoldable pub opening : ℕ → List Bool
 opening subType = spell 12 4073 ++ spell 4 subType
 
 -- a mask of GPS satellites with one signal
-maskOf : ℕ → ℕ → List Bool
+unfoldable pub maskOf : ℕ → ℕ → List Bool
 maskOf issue satellites =
     opening 1 ++ flatten (spell 20 100 ∷ spell 4 5 ∷ spell 1 0 ∷ spell 4 issue ∷ spell 4 1 ∷ spell 4 0 ∷ spell 40 satellites ∷ spell 16 0x8000 ∷ spell 1 0 ∷ [])
 
@@ -46,11 +46,15 @@ clocks : ℕ → List Bool
 clocks issue = opening 3 ++ flatten (spell 12 100 ∷ spell 4 2 ∷ spell 1 0 ∷ spell 4 issue ∷ spell 15 5 ∷ spell 15 16384 ∷ [])
 
 -- satellites 1 and 3, and 1 and 2
-one-and-three : ℕ
+unfoldable pub one-and-three : ℕ
 one-and-three = 0xA000000000
 
 one-and-two : ℕ
 one-and-two = 0xC000000000
+
+-- the last byte's spare bits are ones: nothing looks at them
+unfoldable pub bytesOf : List Bool → List ℕ
+bytesOf l = bytes ((length l + 7) / 8) (l ++ replicate 7 true)
 
 -- a stretch that the second gets, or misses
 record Sent : Type 0 where
@@ -61,7 +65,7 @@ turn : Sent → Turn
 turn x =
     let l : List Bool = x .over in
     record {
-      bytes = bytes ((length l + 7) / 8) (l ++ replicate 7 true);
+      bytes = bytesOf l;
       end = length l;
       rows = replicate rowRoom (pos 0);
       gets = x .gets;
@@ -109,8 +113,8 @@ room-enough [] f s = tt
 room-enough (x ∷ xs) f s = ((λ _. rw length-replicate (le-refl rowRoom)), room-enough xs _ _)
 
 -- what the runs compute with
-computing : Unit {0}
-unfolding opening maskOf clocks one-and-three one-and-two turn turns said report reports _at_says_ row saidMask saidClocks spell bits bytes number signed flatMap flatten saidAt numberOf answerOf Late.received Late.first Late.second Late.firstAfter Late.secondAfter Late.Throughout Late.IsIdle Late.Unrefused Late.SameIssueSameMask Late.ShowsTheTruth Late.OpeningPart Walking.walkBy Walking.walkFrom Walking.goOn Walking.hand Reading.readingBy Reading.placed Reading.readFrom Reading.bitsFrom Reading.endedAt Reading.rowsAfter Reading.over Reading.heldAfter Programs.run Programs._>>=_ Programs._>>_ Programs.later Programs.unlessShort Programs.numbered Programs.taking Programs.require Table.messageBy Table.table Table.kinds Table.alone Table.byKind Table.gate Table.clockLines Messages.common Messages.headOf Messages.rowsAlone Messages.body Messages.satelliteLines Messages.clockShape Messages.maskMessage Messages.systems Messages.system Messages.named Assigned.known Assigned.blank Assigned.assigned Assigned.satellitePlaces Assigned.signalPlaces Masks.placesFrom Masks.satellitesOf Masks.pairsOf Masks.cellsOf Masks.satellites Masks.cells Rows.widthOf Rows.valueOf Rows.shapeWidth Rows.valuesOf Rows.bodyWidth Rows.rowsOf Good.good Good.goodSystems Good.goodSystem
+unfoldable pub computing : Unit {0}
+unfolding opening maskOf clocks one-and-three one-and-two bytesOf turn turns said report reports _at_says_ row saidMask saidClocks spell bits bytes number signed flatMap flatten saidAt numberOf answerOf Late.received Late.first Late.second Late.firstAfter Late.secondAfter Late.Throughout Late.IsIdle Late.Unrefused Late.SameIssueSameMask Late.ShowsTheTruth Late.OpeningPart Walking.walkBy Walking.walkFrom Walking.goOn Walking.hand Reading.readingBy Reading.placed Reading.readFrom Reading.bitsFrom Reading.endedAt Reading.rowsAfter Reading.over Reading.heldAfter Programs.run Programs._>>=_ Programs._>>_ Programs.later Programs.unlessShort Programs.numbered Programs.taking Programs.require Table.messageBy Table.table Table.kinds Table.alone Table.byKind Table.gate Table.clockLines Messages.common Messages.headOf Messages.rowsAlone Messages.body Messages.satelliteLines Messages.clockShape Messages.maskMessage Messages.systems Messages.system Messages.named Assigned.known Assigned.blank Assigned.assigned Assigned.satellitePlaces Assigned.signalPlaces Masks.placesFrom Masks.satellitesOf Masks.pairsOf Masks.cellsOf Masks.satellites Masks.cells Rows.widthOf Rows.valueOf Rows.shapeWidth Rows.valuesOf Rows.bodyWidth Rows.rowsOf Good.good Good.goodSystems Good.goodSystem
 computing = tt
 
 -- ---- a late joiner: it misses the mask, refuses the clocks under it by name, and shows all from the next mask on

@@ -4,3 +4,5 @@ pub mod Behind
 pub mod TwoWalks
 pub mod LateJoiners
 pub mod LateRuns
+pub mod Determined
+pub mod Useless

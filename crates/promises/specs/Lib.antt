@@ -1,1 +1,3 @@
+pub mod Determination
 pub mod LateJoiners
+pub mod Useless

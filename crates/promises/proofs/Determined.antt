@@ -1,0 +1,85 @@
+-- Document 01, "How far the promises go": for each function that is called from outside, any two outcomes that its contract allows are equal, for all arguments. A section for each crate.
+-- `Learnt` is what a caller learns by the contract, as the check reads it off the source; what the function has to show, `Post`, computes to the same.
+-- Assumes nothing.
+use mathlib.Core.Path.{_≡_, refl, sym, _∙_}
+use Rattle.holding.proofs.Holding as holding
+use Rattle.host.proofs as host
+use Rattle.probe.proofs as probe
+use Rattle.reader.proofs as reader
+use Rattle.promises.specs.Determination.{DeterminedBy, Determined, SamePart}
+
+-- two values that are equal to a third are equal
+alike : {A : Type 0} {x y z : A} → x ≡ z → y ≡ z → x ≡ y
+alike p q = p ∙ sym q
+
+-- ---- holding
+
+-- "A fresh receiver starts from the empty holding"
+pub empty-determined : Determined holding.empty.Kinds.ps holding.empty.Kinds.r holding.empty.Reads.Learnt
+unfolding Determined DeterminedBy
+empty-determined κs args x y v w p q = (alike p q, refl)
+
+-- whether it is "empty or what a good mask message makes"
+pub is-sound-determined : Determined holding.is_sound.Kinds.ps holding.is_sound.Kinds.r holding.is_sound.Reads.Learnt
+unfolding Determined DeterminedBy
+is-sound-determined κs args x y v w p q = (alike p q, refl)
+
+-- "adopting takes mut self and hands the new holding back"
+pub adopt-determined : Determined holding.adopt.Kinds.ps holding.adopt.Kinds.r holding.adopt.Reads.Learnt
+unfolding Determined DeterminedBy
+adopt-determined κs args x y v w p q = (alike p q, refl)
+
+-- ---- reader
+
+-- reading one message: the answer with the holding, and the row buffer
+pub read-determined : Determined reader.read.Kinds.ps reader.read.Kinds.r reader.read.Reads.Learnt
+unfolding Determined DeterminedBy
+read-determined κs args x y v w p q = (alike (p .0) (q .0), λ i. (tt, (tt, (tt, (tt, (alike (p .1) (q .1) i, tt))))))
+
+-- "the message's raw bytes as a part of the caller's own stretch"
+pub raw-determined : DeterminedBy reader.raw.raw.Kinds.ps reader.raw.raw.Kinds.r (λ κs x y. SamePart x y) reader.raw.raw.Reads.Learnt
+unfolding DeterminedBy SamePart
+raw-determined κs args x y v w p q = ((alike (p .bytes) (q .bytes), λ i. (alike (p .memory) (q .memory) i, alike (p .offset) (q .offset) i)), refl)
+
+-- ---- host: "numbers and byte slices"
+
+-- the empty holding over the lent bytes
+pub hundurzek-empty-determined : Determined host.hundurzek_empty.Kinds.ps host.hundurzek_empty.Kinds.r host.hundurzek_empty.Reads.Learnt
+unfolding Determined DeterminedBy
+hundurzek-empty-determined κs args x y v w p q = (alike (p .0) (q .0), λ i. (alike (p .1) (q .1) i, tt))
+
+-- reading one message: the numbers handed out, the holding's bytes, and the row buffer
+pub hundurzek-read-determined : Determined host.hundurzek_read.Kinds.ps host.hundurzek_read.Kinds.r host.hundurzek_read.Reads.Learnt
+unfolding Determined DeterminedBy
+hundurzek-read-determined κs args x y v w p q = (alike (p .0) (q .0), λ i. (alike (p .1 .0) (q .1 .0) i, (tt, (tt, (tt, (alike (p .1 .1) (q .1 .1) i, tt))))))
+
+-- ---- probe: fields of a byte string, for comparing
+
+-- the number in a field
+pub read-field-determined : Determined probe.hundurzek_read_field.Kinds.ps probe.hundurzek_read_field.Kinds.r probe.hundurzek_read_field.Reads.Learnt
+unfolding Determined DeterminedBy
+read-field-determined κs args x y v w p q = (alike p q, refl)
+
+-- the number in a field that the bits' end may cut, and how many bits are missing
+pub take-field-determined : Determined probe.hundurzek_take_field.Kinds.ps probe.hundurzek_take_field.Kinds.r probe.hundurzek_take_field.Reads.Learnt
+unfolding Determined DeterminedBy
+take-field-determined κs args x y v w p q = (alike p q, refl)
+
+-- whether a field was written, and the lent part
+pub write-field-determined : Determined probe.hundurzek_write_field.Kinds.ps probe.hundurzek_write_field.Kinds.r probe.hundurzek_write_field.Reads.Learnt
+unfolding Determined DeterminedBy
+write-field-determined κs args x y v w p q = (alike (p .0) (q .0), λ i. (alike (p .1) (q .1) i, (tt, (tt, (tt, tt)))))
+
+-- whether "all remaining bits are zero, or none remain"
+pub zero-from-determined : Determined probe.hundurzek_zero_from.Kinds.ps probe.hundurzek_zero_from.Kinds.r probe.hundurzek_zero_from.Reads.Learnt
+unfolding Determined DeterminedBy
+zero-from-determined κs args x y v w p q = (alike p q, refl)
+
+-- the integer that some bits mean in two's complement, and back
+pub to-signed-determined : Determined probe.hundurzek_to_signed.Kinds.ps probe.hundurzek_to_signed.Kinds.r probe.hundurzek_to_signed.Reads.Learnt
+unfolding Determined DeterminedBy
+to-signed-determined κs args x y v w p q = (alike p q, refl)
+
+pub from-signed-determined : Determined probe.hundurzek_from_signed.Kinds.ps probe.hundurzek_from_signed.Kinds.r probe.hundurzek_from_signed.Reads.Learnt
+unfolding Determined DeterminedBy
+from-signed-determined κs args x y v w p q = (alike p q, refl)
