@@ -1,3 +1,3 @@
 pub mod Going
 pub mod Found
-pub mod First
+pub mod Begins

@@ -8,6 +8,7 @@ ghost use Rattle.walk.specs.Walks.{walkAt, walkedOf};
 use crate::under::under;
 use format::Answer;
 use holding::Holding;
+use reader::Lent;
 use reader::message::Found;
 use reader::message::adopted;
 
@@ -20,24 +21,16 @@ pub struct Walked {
     pub holding: Holding,
 }
 
-// From mask to mask, where some messages and rows were handed out already.
-fn on(
-    holding: Holding,
-    bytes: &[u8],
-    end: usize,
-    from: usize,
-    messages: usize,
-    count: usize,
-    rows: &mut [i32],
-) -> Walked
-    requires { ⌜ Stands (now bytes) end (stand holding from messages count (now rows)) ⌝ }
-    ensures { λ r. ⌜ r ≡ walkedFrom (now (bytes .entry)) end (stand holding from messages count (now (rows .entry))) ⌝ }
-    ensures { λ _. ⌜ now (rows .exit) ≡ rowsFrom (now (bytes .entry)) end (stand holding from messages count (now (rows .entry))) ⌝ }
+// From mask to mask, all that is lent being good.
+fn on(holding: Holding, bytes: &[u8], end: usize, rows: &mut [i32]) -> Walked
+    requires { ⌜ Stands (now bytes) end (stand holding 0 0 0 (now rows)) ⌝ }
+    ensures { λ r. ⌜ r ≡ walkedFrom (now (bytes .entry)) end (stand holding 0 0 0 (now (rows .entry))) ⌝ }
+    ensures { λ _. ⌜ now (rows .exit) ≡ rowsFrom (now (bytes .entry)) end (stand holding 0 0 0 (now (rows .entry))) ⌝ }
 {
     let mut held = holding;
-    let mut place = from;
-    let mut sum = messages;
-    let mut total = count;
+    let mut place = 0;
+    let mut sum = 0;
+    let mut total = 0;
     loop {
         let pause = under(held, bytes, end, place, sum, total, rows);
         let found = pause.found;
@@ -70,23 +63,22 @@ fn on(
     }
 }
 
-// Reads from place 0 until idle or a refusal. It refuses nothing itself: what is lent is tested by the first
-// reading. The row buffer ends as the readings, one after another, leave it.
+// Reads from place 0 until idle or a refusal. It refuses nothing itself: what is lent is tested as for a reading
+// there, once. The row buffer ends as the readings, one after another, leave it.
 pub fn walk(holding: Holding, bytes: &[u8], end: usize, rows: &mut [i32]) -> Walked
     ensures { λ r. ⌜ r ≡ walkedOf holding (walkAt holding (now (bytes .entry)) end (now (rows .entry))) ⌝ }
     ensures { λ _. ⌜ now (rows .exit) ≡ walkAt holding (now (bytes .entry)) end (now (rows .entry)) .rows ⌝ }
 {
-    let first = reader::read(holding, bytes, end, 0, rows);
-    let answer = first.answer;
-    let after = first.holding;
-    let Answer::Message(_, next, count) = answer else {
+    let room = rows.len();
+    let lent = reader::tested(holding, bytes, end, 0, room);
+    if let Lent::Refused(r) = lent {
         return Walked {
-            stop: answer,
+            stop: Answer::Refused(r),
             place: 0,
             messages: 0,
             rows: 0,
-            holding: after,
+            holding,
         };
-    };
-    on(after, bytes, end, next, 1, count, rows)
+    }
+    on(holding, bytes, end, rows)
 }

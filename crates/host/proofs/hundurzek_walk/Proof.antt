@@ -38,8 +38,7 @@ unfolding hostWalk
 returns c =
     let v = c .before .before .before .before .before .before .before in
     let x = s v .args in
-    let told = walked-to (lent v) (x .bytes .now) (x .end) (x .rows .now) (v .walk .result) (said v .0) in
-    (
+    let told = walked-to (lent v) (x .bytes .now) (x .end) (x .rows .now) (v .walk .result) (said v .0) in (
       ap (λ (n : ℕ). record { answer = n; place = v .walk .result .place; messages = v .walk .result .messages; rows = v .walk .result .rows }) (c .answer-number .ensures) ∙ told,
       (c .before .before .before .leave .ensures ∙ left (lent v) (x .bytes .now) (x .end) (x .rows .now) (v .walk .result) (said v .0), said v .1),
     )

@@ -1,53 +1,46 @@
 -- `reader::read` meets its contract.
 -- Assumes nothing.
-use mathlib.Core.Path.{_∙_, sym, refl}
-use native.Mathlib.Omega.{arith}
+use mathlib.Core.Path.{_∙_, sym, ap, refl}
 use borrow.Author.Needs.{needs}
-use borrow.Author.Tests.{not-true, not-false}
+use lib.ListN.{length}
+use denote.Enum.Declared.{tagOf}
 use Rattle.format.specs.Reading.{answerOf, rowsAfter}
+use Rattle.holding.specs.Pictures.{sound}
 use Rattle.reader.specs.Readings.{holdingAfter, readingOf}
-use Rattle.reader.proofs.Outcomes.{inside, no-room, no-place, no-holding, begun}
+use Rattle.reader.proofs.Lent.{the-type}
+use Rattle.reader.proofs.Outcomes.{inside, Fine, lent-good, no-reading, begun}
 use Rattle.reader.proofs.read.Statement.{statement}
 use Rattle.reader.proofs.read.Tie as tie
 
 returns : tie.Need-returns
 unfolding readingOf holdingAfter answerOf rowsAfter
 returns c =
-    let x = c .before .before .before .args in
-    rw (no-room (x .holding) (x .bytes .now) (x .end) (x .start) (x .rows .now) (omega arith)) (c .refused .ensures, refl)
+    let t = c .before .before .before .before in
+    let x = t .before .before .args in
+    let why = sym (t .tested .ensures) ∙ c .before .before .lent .given .1 in
+    rw (no-reading (x .holding) (x .bytes .now) (x .end) (x .start) (x .rows .now) _ why) (c .refused .ensures, refl)
 
-returns-2 : tie.Need-returns-2
-unfolding readingOf holdingAfter answerOf rowsAfter
-returns-2 c =
-    let x = c .before .before .before .before .before .args in
-    let out = sym (c .before .before .is-placed .ensures) ∙ not-true _ (c .before .if2 .taken) in
-    rw (no-place (x .holding) (x .bytes .now) (x .end) (x .start) (x .rows .now) (omega arith) out) (c .refused2 .ensures, refl)
+-- what is lent is good
+module _ (c : tie.At-match-keys2) where
+  abbrev s : tie.Start
+  s = c .before .before .before
 
-returns-3 : tie.Need-returns-3
-unfolding readingOf holdingAfter answerOf rowsAfter
-returns-3 c =
-    let x = c .before .before .before .before .before .before .before .args in
-    let placed = sym (c .before .before .before .before .is-placed .ensures) ∙ not-false _ (c .before .before .before .if2 .left) in
-    let stray = sym (c .before .before .is-sound .ensures) ∙ not-true _ (c .before .if3 .taken) in
-    rw (no-holding (x .holding) (x .bytes .now) (x .end) (x .start) (x .rows .now) (omega arith) placed stray) (c .refused3 .ensures, refl)
+  fine : Fine (sound (s .args .holding)) (s .args .bytes .now) (s .args .end) (s .args .start) (length (s .args .rows .now))
+  fine = lent-good _ _ _ _ _ (ap (tagOf the-type) (sym (c .before .tested .ensures)) ∙ c .match .keys2)
 
 at-requires : tie.Need-at-requires
 at-requires c κs =
-    let x = c .before .before .before .before .before .before .before .args in
-    let placed = sym (c .before .before .before .before .is-placed .ensures) ∙ not-false _ (c .before .before .before .if2 .left) in
-    let fine = sym (c .before .before .is-sound .ensures) ∙ not-false _ (c .before .if3 .left) in
-    let known = inside (x .bytes .now) (x .end) (x .start) placed in
-    (fine, known .lent, known .limit, known .there, omega arith)
+    let k = c .before .before in
+    let within = inside (s k .args .bytes .now) (s k .args .end) (s k .args .start) (fine k .inside) in
+    (fine k .held, within .lent, within .limit, within .there, fine k .rows)
 
-returns-4 : tie.Need-returns-4
-returns-4 c =
-    let x = c .before .before .before .before .before .before .before .before .before .args in
-    let placed = sym (c .before .before .before .before .before .before .is-placed .ensures) ∙ not-false _ (c .before .before .before .before .before .if2 .left) in
-    let fine = sym (c .before .before .before .before .is-sound .ensures) ∙ not-false _ (c .before .before .before .if3 .left) in
-    rw (begun (x .holding) (x .bytes .now) (x .end) (x .start) (x .rows .now) (omega arith) placed fine) (c .before .at .ensures)
+returns-2 : tie.Need-returns-2
+returns-2 c =
+    let k = c .before .before .before .before in
+    let x = s k .args in
+    rw (begun (x .holding) (x .bytes .now) (x .end) (x .start) (x .rows .now) (fine k)) (c .before .at .ensures)
 
 pub read-spec : {M : Type 1} → statement M
 read-spec =
     tie.close
-    (tie.spec (λ c κs. search needs) returns (λ c κs. search needs) (λ c κs. search needs) returns-2 (λ c κs. search needs) (λ c κs. search needs)
-    returns-3 at-requires (λ c. search needs) returns-4)
+    (tie.spec (λ c κs. search needs) (λ c. search needs) (λ c κs. search needs) returns (λ c. search needs) at-requires (λ c. search needs) returns-2)

@@ -17,13 +17,13 @@ use Rattle.walk.proofs.on.Statement.{statement}
 use Rattle.walk.proofs.on.Tie as tie
 
 abbrev Inv-loop : tie.InvT-loop
-Inv-loop bytes end from messages count rows₀ held₀ place₀ sum₀ total₀ rows held place sum total =
+Inv-loop bytes end rows₀ held₀ place₀ sum₀ total₀ rows held place sum total =
     Stands bytes end (stand held place sum total rows)
-    × Gone bytes end (stand held₀ from messages count rows₀) (stand held place sum total rows)
+    × Gone bytes end (stand held₀ 0 0 0 rows₀) (stand held place sum total rows)
     × (length rows ≡ length rows₀)
 
 abbrev μ-loop : tie.MeasureT-loop
-μ-loop bytes end from messages count rows₀ held₀ place₀ sum₀ total₀ rows held place sum total = end - place
+μ-loop bytes end rows₀ held₀ place₀ sum₀ total₀ rows held place sum total = end - place
 
 loop-holds : tie.Need-loop-holds Inv-loop μ-loop
 loop-holds c = (c .before .pre, gone-nowhere _ _ _, refl)
@@ -45,7 +45,7 @@ module _ (c : tie.After-under Inv-loop μ-loop) where
   abbrev outcome : Outcome
   outcome = readAt (l .loop .held) (s .args .bytes .now) (s .args .end) (c .under .result .place)
 
-  gone : Gone (s .args .bytes .now) (s .args .end) (stand (s .args .holding) (s .args .from) (s .args .messages) (s .args .count) (s .args .rows .now)) here
+  gone : Gone (s .args .bytes .now) (s .args .end) (stand (s .args .holding) 0 0 0 (s .args .rows .now)) here
   gone = gone-on (l .loop .inv .1) (c .under .ensures .gone)
 
 returns : tie.Need-returns Inv-loop μ-loop
