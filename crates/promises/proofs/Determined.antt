@@ -6,6 +6,7 @@ use Rattle.holding.proofs.Holding as holding
 use Rattle.host.proofs as host
 use Rattle.probe.proofs as probe
 use Rattle.reader.proofs as reader
+use Rattle.walk.proofs as walk
 use Rattle.promises.specs.Determination.{DeterminedBy, Determined, SamePart}
 
 -- two values that are equal to a third are equal
@@ -41,6 +42,13 @@ pub raw-determined : DeterminedBy reader.raw.raw.Kinds.ps reader.raw.raw.Kinds.r
 unfolding DeterminedBy SamePart
 raw-determined κs args x y v w p q = ((alike (p .bytes) (q .bytes), λ i. (alike (p .memory) (q .memory) i, alike (p .offset) (q .offset) i)), refl)
 
+-- ---- walk
+
+-- reading a stretch: the stop with the counts and the holding, and the row buffer
+pub walk-determined : Determined walk.walk.Kinds.ps walk.walk.Kinds.r walk.walk.Reads.Learnt
+unfolding Determined DeterminedBy
+walk-determined κs args x y v w p q = (alike (p .0) (q .0), λ i. (tt, (tt, (tt, (alike (p .1) (q .1) i, tt)))))
+
 -- ---- host: "numbers and byte slices"
 
 -- the empty holding over the lent bytes
@@ -52,6 +60,11 @@ hundurzek-empty-determined κs args x y v w p q = (alike (p .0) (q .0), λ i. (a
 pub hundurzek-read-determined : Determined host.hundurzek_read.Kinds.ps host.hundurzek_read.Kinds.r host.hundurzek_read.Reads.Learnt
 unfolding Determined DeterminedBy
 hundurzek-read-determined κs args x y v w p q = (alike (p .0) (q .0), λ i. (alike (p .1 .0) (q .1 .0) i, (tt, (tt, (tt, (alike (p .1 .1) (q .1 .1) i, tt))))))
+
+-- reading a stretch: the numbers handed out, the holding's bytes, and the row buffer
+pub hundurzek-walk-determined : Determined host.hundurzek_walk.Kinds.ps host.hundurzek_walk.Kinds.r host.hundurzek_walk.Reads.Learnt
+unfolding Determined DeterminedBy
+hundurzek-walk-determined κs args x y v w p q = (alike (p .0) (q .0), λ i. (alike (p .1 .0) (q .1 .0) i, (tt, (tt, (alike (p .1 .1) (q .1 .1) i, tt)))))
 
 -- ---- probe: fields of a byte string, for comparing
 

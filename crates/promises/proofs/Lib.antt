@@ -6,3 +6,4 @@ pub mod LateJoiners
 pub mod LateRuns
 pub mod Determined
 pub mod Useless
+pub mod Receivers
