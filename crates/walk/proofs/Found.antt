@@ -58,10 +58,9 @@ no-message Answers.Idle e = tt
 no-message (Answers.Refused r) e = tt
 
 -- the tag of a mask
-pub mask-halts : (f : Found) → tagOf the-type f ≡ 0 → Halts f
-unfolding Halts
-mask-halts Mask e = tt
-mask-halts (Answered a) e = absurd (omega arith)
+pub mask-tag : (f : Found) → tagOf the-type f ≡ 0 → Mask ≡ f
+mask-tag Mask e = refl
+mask-tag (Answered a) e = absurd (omega arith)
 
 -- one that is no message: the outcome is a stop
 pub stop-of : (o : Outcome) (a : Answer) → a ≡ answerOf o → Halts (Answered a) → Stopped o

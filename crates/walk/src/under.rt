@@ -33,7 +33,7 @@ pub fn under(
         let found = find(holding, bytes, end, place, rows);
         let Found::Answered(answer) = found else {
             return Pause {
-                found,
+                found: Found::Mask,
                 place,
                 messages: sum,
                 rows: total,

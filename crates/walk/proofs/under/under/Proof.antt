@@ -7,9 +7,9 @@ use native.Mathlib.Omega.{arith}
 use lib.IntN.{ℤ}
 use lib.ListN.{length}
 use borrow.Author.Needs.{needs}
-use Rattle.reader.specs.declared.message.Found.the-variants.{Answered}
-use Rattle.walk.specs.Standing.{Stand, stand, Stands, Gone}
-use Rattle.walk.proofs.Found.{no-message, mask-halts, under-goes, came}
+use Rattle.reader.specs.declared.message.Found.the-variants.{Mask, Answered}
+use Rattle.walk.specs.Standing.{Stand, stand, Stands, Gone, Halts}
+use Rattle.walk.proofs.Found.{no-message, mask-tag, under-goes, came}
 use Rattle.walk.proofs.Going.{gone-nowhere, gone-on, Goes}
 use Rattle.walk.proofs.under.under.Statement.{statement}
 use Rattle.walk.proofs.under.under.Tie as tie
@@ -44,11 +44,12 @@ find-requires c κs =
 
 -- a mask
 returns : tie.Need-returns Inv-loop μ-loop
+unfolding Halts
 returns c =
     let f = c .before .before .before in
     let l = f .before .before in
-    came (s l .args .bytes .now) (s l .args .end) (here l) (l .loop .inv .0) (start l) refl (l .loop .inv .1) (f .find .result) (f .find .ensures .0)
-    (mask-halts (f .find .result) (c .before .match .keys2)) _ (f .find .ensures .1)
+    came (s l .args .bytes .now) (s l .args .end) (here l) (l .loop .inv .0) (start l) refl (l .loop .inv .1) Mask (mask-tag (f .find .result) (c .before .match .keys2) ∙ f .find .ensures .0) tt
+    _ (f .find .ensures .1)
 
 -- a stop
 returns-2 : tie.Need-returns-2 Inv-loop μ-loop
