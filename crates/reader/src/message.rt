@@ -59,7 +59,7 @@ pub fn adopted(holding: Holding, bytes: &[u8], end: usize, place: usize) -> Read
         },
         Made::Refused(r, _) => Reading {
             answer: Answer::Refused(r),
-            holding: after,
+            holding,
         },
     }
 }

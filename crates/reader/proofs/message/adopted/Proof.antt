@@ -2,11 +2,12 @@
 -- Assumes nothing.
 use mathlib.Core.Path.{_∙_, sym, ap}
 use borrow.Author.Needs.{needs}
+use Rattle.adoption.specs.declared.Adoption.{Adoption}
 use Rattle.adoption.specs.declared.Made.{Made}
 use Rattle.format.specs.Messages.{maskMessage}
 use Rattle.format.specs.Programs.{run}
 use Rattle.format.specs.Reading.{bitsFrom}
-use Rattle.reader.proofs.Adopted.{answerBy, madeReading, adopted-by}
+use Rattle.reader.proofs.Adopted.{answerBy, madeReading, adopted-by, adopted-not}
 use Rattle.reader.proofs.message.adopted.Statement.{statement}
 use Rattle.reader.proofs.message.adopted.Tie as tie
 
@@ -19,12 +20,10 @@ returns c =
     ap (λ (m : Made). record { answer = answerBy m; holding = a .holding }) (sym (c .before .made .given .1)) ∙ ap madeReading (c .before .before .before .before .adopt .ensures) ∙ adopted-by (x .holding) (x .place) e
 
 returns-2 : tie.Need-returns-2
-unfolding madeReading answerBy
 returns-2 c =
-    let x = c .before .before .before .before .before .before .args in
-    let a = c .before .before .before .before .adopt .result in
-    let e = run maskMessage (bitsFrom (x .bytes .now) (x .end) (x .place)) in
-    ap (λ (m : Made). record { answer = answerBy m; holding = a .holding }) (sym (c .before .made2 .given .1)) ∙ ap madeReading (c .before .before .before .before .adopt .ensures) ∙ adopted-by (x .holding) (x .place) e
+    let a = c .before .before .before .before in
+    let x = a .before .before .args in
+    adopted-not (x .holding) (x .place) _ _ _ (ap (λ (d : Adoption). d .made) (sym (a .adopt .ensures)) ∙ c .before .made2 .given .1)
 
 pub adopted-spec : {M : Type 1} → statement M
 adopted-spec =
