@@ -36,18 +36,20 @@ static void print_message(size_t start, const hundurzek_reading *message) {
   }
 }
 
+/* The messages one by one; then the whole stretch at once, by a receiver that starts anew. */
 int main(void) {
-  size_t place = 0, messages = 0, row_count = 0;
+  size_t place = 0;
   hundurzek_reading reading;
+  hundurzek_walked walked;
   hundurzek_empty(holding, sizeof holding);
   for (;;) {
     reading = hundurzek_read(holding, sizeof holding, stretch, sizeof stretch, BITS, place, rows, HUNDURZEK_ROOM);
     if (reading.answer != HUNDURZEK_MESSAGE) break;
     print_message(place, &reading);
     place = reading.place;
-    messages++;
-    row_count += reading.rows;
   }
-  printf("E\t%" PRIu64 "\t%zu\t%zu\t%zu\n", reading.answer, reading.place, messages, row_count);
+  hundurzek_empty(holding, sizeof holding);
+  walked = hundurzek_walk(holding, sizeof holding, stretch, sizeof stretch, BITS, rows, HUNDURZEK_ROOM);
+  printf("E\t%" PRIu64 "\t%zu\t%zu\t%zu\n", walked.answer, walked.place, walked.messages, walked.rows);
   return 0;
 }
