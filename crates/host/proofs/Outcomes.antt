@@ -24,7 +24,7 @@ use Rattle.format.proofs.HeldGood.{reading-good}
 use Rattle.format.specs.Same.{sameℤ}
 use Rattle.format.proofs.Sames.{and-true, sameℤ-sound}
 use Rattle.holding.specs.declared.Holding.{Holding}
-use Rattle.holding.specs.Pictures.{pictureOf, maskOf, sound}
+use Rattle.holding.specs.Pictures.{maskOf, sound}
 use Rattle.holding.proofs.Pictured.{picture-sound, sound-picture}
 use Rattle.host.specs.Handing.{messageNumber, stopped, handed, keptBytes, holdingBytes}
 use Rattle.passing.specs.Passing.{passes, holdingIn}

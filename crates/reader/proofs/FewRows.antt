@@ -21,7 +21,6 @@ use Rattle.heads.specs.declared.Opening.{Opening}
 use Rattle.heads.specs.declared.Opening.the-variants.{SubType}
 use Rattle.heads.specs.declared.Opening.the-variants as Openings
 use Rattle.heads.specs.Headings.{isMasked, bodied, headedBy, Begins}
-use Rattle.heads.specs.Lines.{linesOf}
 use Rattle.heads.specs.Openings.{openingAt}
 use Rattle.heads.specs.Sorting.{adoptedBy, sortedAt}
 use Rattle.heads.proofs.Begun.{packet-begins, masked-begins}

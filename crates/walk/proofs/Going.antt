@@ -1,6 +1,6 @@
 -- How a walk goes from one stand to the next: by an accepted reading; and how it ends: by a stop. Assumes nothing.
 use mathlib.Core.Path.{_≡_, refl, sym, ap, subst, _∙_}
-use mathlib.Core.Bool.{Bool, true, false}
+use mathlib.Core.Bool.{true}
 use mathlib.Core.List.{List, [], flatten}
 use Prim.Native.Nat.{ℕ, suc, _+_, _*_, _≤_, _<_}
 use native.Mathlib.Nat.{le-refl, add-zero, add-assoc}
@@ -8,23 +8,19 @@ use native.Mathlib.Omega.{arith}
 use lib.IntN.{ℤ}
 use lib.ListN.{length}
 use borrow.Author.Tests.{le-leb}
-use Rattle.format.specs.declared.Answer.the-variants as Answers
-use Rattle.format.specs.declared.Head.{Head}
 use Rattle.format.specs.Good.{good}
 use Rattle.format.specs.Masks.{Held}
-use Rattle.format.specs.Reading.{stretchLimit, rowRoom, Outcome, accepted, idle, refused, placed, readingBy, reading, answerOf, heldAfter, rowsAfter}
+use Rattle.format.specs.Reading.{stretchLimit, rowRoom, Outcome, accepted, placed, readingBy, reading, answerOf, heldAfter, rowsAfter}
 use Rattle.format.specs.Table.{Message, table}
 use Rattle.format.specs.Walking.{Walk, hand, goOn, walkOn, messages, rowCount}
 use Rattle.format.proofs.CutWalks.{over-long}
 use Rattle.format.proofs.HeldGood.{reading-good}
 use Rattle.format.proofs.Stops.{Stopped, reading-ends, stop-holds}
 use Rattle.format.proofs.Walks.{ends-inside, walk-step, stop-ends}
-use Rattle.holding.specs.declared.Holding.{Holding}
-use Rattle.holding.specs.Pictures.{pictureOf, maskOf, sound}
+use Rattle.holding.specs.Pictures.{pictureOf, maskOf}
 use Rattle.holding.proofs.Pictured.{mask-picture, sound-picture, picture-sound}
 use Rattle.reader.specs.Readings.{readAt}
 use Rattle.reader.proofs.FewRows.{few-rows}
-use Rattle.walk.specs.declared.Walked.{Walked}
 use Rattle.walk.specs.Standing.{Stand, Stands, restOf, walkedWith, walkedFrom, rowsFrom, Gone}
 
 pub gone-nowhere : (bytes : List ℕ) (end : ℕ) (s : Stand) → Gone bytes end s s

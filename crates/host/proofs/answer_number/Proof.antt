@@ -1,6 +1,6 @@
 -- `host::answer_number` meets its contract.
 -- Assumes nothing.
-use mathlib.Core.Path.{_≡_, sym, ap, _∙_}
+use mathlib.Core.Path.{sym, ap, _∙_}
 use borrow.Author.Needs.{needs}
 use Rattle.host.specs.Handing.{answerNumber}
 use Rattle.host.proofs.Outcomes.{idle-tag}

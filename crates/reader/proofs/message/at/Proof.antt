@@ -1,6 +1,6 @@
 -- `reader::message::at` meets its contract.
 -- Assumes nothing.
-use mathlib.Core.Path.{_≡_, _∙_, sym, ap, refl}
+use mathlib.Core.Path.{_≡_, _∙_, sym, refl}
 use borrow.Author.Needs.{needs}
 use Rattle.heads.specs.declared.Opening.the-variants.{SubType}
 use Rattle.heads.specs.Openings.{openingAt}
