@@ -32,6 +32,7 @@ pub record Filling (all rows : List ℕ) (i : ℕ) (left : List ℕ) : Type 0 wh
   pub same : all ≡ take i rows ++ left
   pub room : length rows ≡ 64
 
+-- with the next row stored
 pub one-filled : (all rows : List ℕ) (i row : ℕ) (left : List ℕ) → Filling all rows i (row ∷ left) → i < 64 → Filling all (set rows i row) (suc i) left
 one-filled all rows i row left f more =
     let stored : take (suc i) (set rows i row) ≡ take i rows ++ (row ∷ []) = take-suc-set rows i row (omega (arith, f .room)) in
@@ -40,6 +41,7 @@ one-filled all rows i row left f more =
       room = length-set rows i row ∙ f .room;
     }
 
+-- with none left
 pub all-filled : (all rows : List ℕ) (i : ℕ) → Filling all rows i [] → take i rows ≡ all
 all-filled all rows i f = sym (f .same ∙ append-nil (take i rows))
 
@@ -51,6 +53,7 @@ take-replicate (suc n) (suc m) x fits = ap (λ (l : List ℕ). x ∷ l) (take-re
 
 -- ---- the next row
 
+-- the rows left begin with the row of the next bits
 pub next-row : (n i at signals : ℕ) (l : List Bool) → i < n → signals < 2 ^ 16
     → let mask = spell 16 signals in rowsFrom (n - i) mask (drop at l) ≡ number (spread mask (drop at l)) ∷ rowsFrom (n - suc i) mask (drop (at + ones signals) l)
 unfolding rowsFrom
