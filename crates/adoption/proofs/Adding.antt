@@ -1,44 +1,23 @@
--- Rows added to a holding: what is left to add while they are, where each comes from, and what they build.
+-- Rows added to a holding: where each comes from, the array that they stand in, and what they build.
 -- Assumes nothing.
 use mathlib.Core.Path.{_≡_, refl, sym, ap, _∙_}
 use mathlib.Core.Bool.{Bool, true, false}
 use mathlib.Core.List.{List, [], _∷_, _++_, append-nil, flatMap}
-use Prim.Native.Nat.{ℕ, suc, _+_, _-_, _*_, _^_, _≤_, _<_}
+use Prim.Native.Nat.{ℕ, zero, suc, _+_, _-_, _*_, _^_, _≤_, _<_}
 use native.Mathlib.Omega.{arith}
-use lib.Count.{ones, ones-le}
-use lib.ListN.{length, take, drop, replicate, length-append}
-use lib.Seq.{append-snoc, drop-drop}
-use Rattle.adoption.specs.Growing.{withRows}
+use lib.Count.{ones}
+use lib.ListN.{length, take, drop, set, replicate, length-append, length-set}
+use lib.Seq.{append-snoc, drop-drop, take-suc-set}
 use Rattle.bits.proofs.Bridge.{spell-field}
 use Rattle.bits.specs.BitLists.{number, spell, bits}
 use Rattle.bits.specs.Places.{field}
 use Rattle.format.specs.Masks.{Mask, placesFrom}
 use Rattle.holding.proofs.Built.{row-built}
 use Rattle.holding.proofs.Places.{ones-places}
-use Rattle.holding.specs.Building.{withRow, begun}
+use Rattle.holding.specs.Building.{withRow, withRows, begun}
 use Rattle.holding.specs.declared.Holding.{Holding}
 use Rattle.holding.specs.Pictures.{rowsFrom, rowsOf}
 use Rattle.holding.specs.Spread.{spread}
-
--- ---- rows left to add
-
--- all rows on the first holding make what those left make on the one that the others built; there is room for them
-pub record Adding (first : Holding) (rows : List ℕ) (h : Holding) (left : List ℕ) : Type 0 where
-  pub same : withRows first rows ≡ withRows h left
-  pub room : h .nsat + length left ≤ 64
-  pub cells : h .ncell + 16 * length left ≤ 1280
-
-pub all-left : (h : Holding) (rows : List ℕ) → h .nsat + length rows ≤ 64 → h .ncell ≤ 256 → Adding h rows h rows
-all-left h rows room few = record { same = refl; room = room; cells = omega arith }
-
-pub one-less : (first : Holding) (rows : List ℕ) (h : Holding) (row : ℕ) (left : List ℕ) → Adding first rows h (row ∷ left) → row < 2 ^ 16 → Adding first rows (withRow h row) left
-unfolding withRows withRow
-one-less first rows h row left a small =
-    record { same = a .same; room = omega (arith, a .room); cells = omega (arith, a .cells, ones-le 16 row small) }
-
-pub none-left : (first : Holding) (rows : List ℕ) (h : Holding) → Adding first rows h [] → h ≡ withRows first rows
-unfolding withRows
-none-left first rows h a = sym (a .same)
 
 -- no row adds a system
 pub rows-count : (h : Holding) (rows : List ℕ) → withRows h rows .count ≡ h .count
@@ -46,13 +25,35 @@ unfolding withRows withRow
 rows-count h [] = refl
 rows-count h (row ∷ rows) = rows-count (withRow h row) rows
 
+-- ---- an array filled with rows
+
+-- the first rows of an array of 64, and those left, are all rows
+pub record Filling (all rows : List ℕ) (i : ℕ) (left : List ℕ) : Type 0 where
+  pub same : all ≡ take i rows ++ left
+  pub room : length rows ≡ 64
+
+-- with the next row stored
+pub one-filled : (all rows : List ℕ) (i row : ℕ) (left : List ℕ) → Filling all rows i (row ∷ left) → i < 64 → Filling all (set rows i row) (suc i) left
+one-filled all rows i row left f more =
+    let stored : take (suc i) (set rows i row) ≡ take i rows ++ (row ∷ []) = take-suc-set rows i row (omega (arith, f .room)) in
+    record {
+      same = f .same ∙ sym (append-snoc (take i rows) row left) ∙ ap (λ (l : List ℕ). l ++ left) (sym stored);
+      room = length-set rows i row ∙ f .room;
+    }
+
+-- with none left
+pub all-filled : (all rows : List ℕ) (i : ℕ) → Filling all rows i [] → take i rows ≡ all
+all-filled all rows i f = sym (f .same ∙ append-nil (take i rows))
+
+-- the first of an array's rows that are all the same
+pub take-replicate : (n m x : ℕ) → n ≤ m → take n (replicate m x) ≡ replicate n x
+take-replicate zero m x fits = refl
+take-replicate (suc n) zero x fits = absurd (omega arith)
+take-replicate (suc n) (suc m) x fits = ap (λ (l : List ℕ). x ∷ l) (take-replicate n m x (omega arith))
+
 -- ---- the next row
 
-pub next-same : {A : Type 0} (n i : ℕ) (x : A) → i < n → replicate (n - i) x ≡ x ∷ replicate (n - suc i) x
-next-same n i x more =
-    let e : n - i ≡ suc (n - suc i) = omega arith in
-    rw e
-
+-- the rows left begin with the row of the next bits
 pub next-row : (n i at signals : ℕ) (l : List Bool) → i < n → signals < 2 ^ 16
     → let mask = spell 16 signals in rowsFrom (n - i) mask (drop at l) ≡ number (spread mask (drop at l)) ∷ rowsFrom (n - suc i) mask (drop (at + ones signals) l)
 unfolding rowsFrom

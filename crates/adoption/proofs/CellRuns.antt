@@ -12,7 +12,7 @@ use Rattle.adoption.proofs.Adding.{rows-built}
 use Rattle.adoption.specs.Adoptions.{grownAt}
 use Rattle.adoption.specs.declared.Grown.{Grown}
 use Rattle.adoption.specs.declared.Step.the-variants as Step
-use Rattle.adoption.specs.Growing.{withRows, settled}
+use Rattle.adoption.specs.Growing.{settled}
 use Rattle.adoption.specs.Stages.{BothMasks, systemWith, systemCells}
 use Rattle.bits.specs.BitLists.{number, spell, bits}
 use Rattle.bits.specs.Places.{field}
@@ -23,7 +23,7 @@ use Rattle.format.specs.Programs.{done, _>>=_, _>>_, require, Ended, well, badl
 use Rattle.format.specs.Reading.{bitsFrom}
 use Rattle.holding.proofs.Built.{begun-picture, rows-ones, flatMap-snoc, system-built}
 use Rattle.holding.proofs.PicturedRows.{picture-rows}
-use Rattle.holding.specs.Building.{withSystem, begun}
+use Rattle.holding.specs.Building.{withRows, withSystem, begun}
 use Rattle.holding.specs.declared.Holding.{Holding}
 use Rattle.holding.specs.Pictures.{rowsOf, pictureOf}
 

@@ -12,7 +12,7 @@ use lib.Seq.{take-take}
 use Rattle.adoption.proofs.Adding.{spread-front}
 use Rattle.adoption.proofs.CellRuns.{endOf, plain-run, mask-short, flagged-run, begun-rows, settled-end}
 use Rattle.adoption.specs.Adoptions.{grownAt}
-use Rattle.adoption.specs.Growing.{withRows, settled}
+use Rattle.adoption.specs.Growing.{settled}
 use Rattle.adoption.specs.Stages.{BothMasks, systemWith, systemCells}
 use Rattle.bits.proofs.BitLists.{number-spell, length-spell, length-bits}
 use Rattle.bits.proofs.Bridge.{spell-field}
@@ -25,6 +25,7 @@ use Rattle.format.specs.Programs.{badly, run}
 use Rattle.format.specs.Reading.{bitsFrom}
 use Rattle.holding.proofs.PicturedRows.{length-rows}
 use Rattle.holding.proofs.Places.{ones-places}
+use Rattle.holding.specs.Building.{withRows}
 use Rattle.holding.specs.declared.Holding.{Holding}
 use Rattle.holding.specs.Pictures.{rowsFrom, rowsOf, pictureOf}
 use Rattle.holding.specs.Spread.{spread}

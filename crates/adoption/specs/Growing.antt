@@ -1,17 +1,12 @@
--- A holding with one more system: its rows one after the other, then its slot.
+-- A holding with one more system: its slot beside its rows.
 use mathlib.Core.Bool.{Bool, cond}
-use mathlib.Core.List.{List, [], _∷_}
 use Prim.Native.Nat.{ℕ}
 use lib.Dec.{leb}
 use Rattle.adoption.specs.declared.Grown.{Grown}
 use Rattle.adoption.specs.declared.Step.the-variants as Step
 use Rattle.format.specs.declared.Refusal.the-variants as Refusal
 use Rattle.holding.specs.declared.Holding.{Holding}
-use Rattle.holding.specs.Building.{withRow, withSystem}
-
-unfoldable pub withRows : Holding → List ℕ → Holding
-withRows h [] = h
-withRows h (row ∷ rows) = withRows (withRow h row) rows
+use Rattle.holding.specs.Building.{withSystem}
 
 -- the slot, unless the cells are too many: then what was there before
 unfoldable pub settled : Holding → Holding → ℕ → ℕ → ℕ → Bool → ℕ → Grown

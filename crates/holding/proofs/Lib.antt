@@ -8,6 +8,7 @@ pub mod Pictured
 pub mod PicturedCells
 pub mod Counts
 pub mod Built
+pub mod Adding
 pub mod Kths
 pub mod Tests
 pub mod Noughts

@@ -29,6 +29,10 @@ withCells h cells nsat ncell =
 unfoldable pub withRow : Holding → ℕ → Holding
 withRow h row = withCells h (set (h .cells) (h .nsat) row) (h .nsat + 1) (h .ncell + ones row)
 
+unfoldable pub withRows : Holding → List ℕ → Holding
+withRows h [] = h
+withRows h (row ∷ rows) = withRows (withRow h row) rows
+
 unfoldable pub withSystem : Holding → ℕ → ℕ → ℕ → Bool → Holding
 withSystem h id sats signals flag =
     record {

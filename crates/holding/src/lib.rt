@@ -13,9 +13,9 @@ ghost use mathlib.Core.Path.{_≡_};
 ghost use mathlib.Core.Bool.{true};
 ghost use mathlib.Core.List.{[]};
 ghost use lib.ListN.{length, getD};
-ghost use Prim.Native.Nat.{_<_, _^_};
+ghost use Prim.Native.Nat.{_+_, _<_, _≤_};
 ghost use Rattle.format.specs.Masks.{nothing, mask};
-ghost use Rattle.holding.specs.Building.{withRow, withSystem};
+ghost use Rattle.holding.specs.Building.{withRows, withSystem};
 ghost use Rattle.holding.specs.Pictures.{pictureOf, maskOf, sound};
 ghost use Rattle.holding.specs.Kth.{satellitesHeld, cellsHeld, nobody, noCell, satelliteOf, cellOf};
 
@@ -152,16 +152,22 @@ impl Holding {
         self
     }
 
-    // With a row for one more satellite.
-    pub fn with_row(mut self, row: u16) -> Self
-        requires { ⌜ (self .nsat < 64) × (self .ncell < 2 ^ 32) ⌝ }
-        ensures { λ r. ⌜ r ≡ withRow self row ⌝ }
+    // With a row for each of the next satellites.
+    pub fn with_rows(mut self, rows: &[u16]) -> Self
+        requires { ⌜ (self .nsat + length (now rows) ≤ 64) × (self .ncell ≤ 256) ⌝ }
+        ensures { λ r. ⌜ r ≡ withRows self (now (rows .entry)) ⌝ }
     {
-        let k = self.nsat;
-        let cells = self.ncell;
-        self.cells[k] = row;
-        self.nsat = k + 1;
-        self.ncell = cells + set_places::count(row as u64);
+        let first = self.nsat;
+        let mut sum = self.ncell;
+        let mut i = 0;
+        while i < rows.len() {
+            let row = rows[i];
+            self.cells[first + i] = row;
+            sum += set_places::count(row as u64);
+            i += 1;
+        }
+        self.nsat = first + i;
+        self.ncell = sum;
         self
     }
 

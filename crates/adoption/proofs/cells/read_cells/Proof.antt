@@ -14,12 +14,13 @@ use Rattle.adoption.proofs.CellsMade.{plain-made, mask-short-by, flagge
 use Rattle.adoption.proofs.Holds.{Holds, holds, refused-held}
 use Rattle.adoption.specs.Adoptions.{maskIn, grownAt}
 use Rattle.adoption.specs.declared.Grown.{Grown}
-use Rattle.adoption.specs.Growing.{withRows, settled}
+use Rattle.adoption.specs.Growing.{settled}
 use Rattle.bits.proofs.Fields.{field-lt}
 use Rattle.bits.specs.BitLists.{spell, bits}
 use Rattle.bits.specs.Places.{field}
 use Rattle.format.specs.declared.Refusal.the-variants.{Short}
 use Rattle.format.specs.Programs.{badly}
+use Rattle.holding.specs.Building.{withRows}
 use Rattle.holding.specs.declared.Holding.{Holding}
 use Rattle.holding.specs.Pictures.{rowsFrom}
 use Rattle.adoption.proofs.cells.read_cells.Statement.{statement}
