@@ -15,10 +15,10 @@ use Rattle.format.specs.Masks.{System, Mask, Held, nothing, mask, Satellite, sa
 use Rattle.holding.proofs.Built.{few-systems}
 use Rattle.holding.proofs.Kths.{masksOf}
 use Rattle.holding.proofs.Pictured.{picture-sound}
-use Rattle.holding.proofs.PicturedCells.{rowCells, rowCells-append, picture-cells}
+use Rattle.holding.proofs.PicturedCells.{rowCells-append, picture-cells}
 use Rattle.holding.proofs.PicturedRows.{sized, picture-rows, spell-bits, few-satellites, few-cells}
 use Rattle.holding.specs.declared.Holding.{Holding}
-use Rattle.holding.specs.Kth.{satellitesHeld, cellsHeld}
+use Rattle.holding.specs.Kth.{satellitesHeld, cellsHeld, rowCells}
 use Rattle.holding.specs.Pictures.{filled, rowsOf, pictureOf, maskOf, sound}
 use Rattle.body.specs.Slots.{satellitesIn, slotSatellites}
 

@@ -13,9 +13,8 @@ use Rattle.format.specs.Masks.{Satellite}
 use Rattle.format.specs.Messages.{satelliteLines, cellLines, packetLines, codeShape, phaseShape, combinedShape}
 use Rattle.format.specs.Rows.{Column, gap, Line, widthOf, shapeWidth, bodyWidth}
 use Rattle.holding.proofs.HeldKths.{held-counts, held-masks}
-use Rattle.holding.proofs.PicturedCells.{rowCells}
 use Rattle.holding.specs.declared.Holding.{Holding}
-use Rattle.holding.specs.Kth.{narrow, satellitesHeld, cellsHeld}
+use Rattle.holding.specs.Kth.{narrow, satellitesHeld, cellsHeld, rowCells}
 use Rattle.holding.specs.Pictures.{maskOf, sound}
 use Rattle.rows.proofs.RowsAt.{rows-length}
 use Rattle.rows.proofs.Columns.{Fine, fine-gap, fine-plain, fine-counts}

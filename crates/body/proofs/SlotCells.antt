@@ -12,7 +12,7 @@ use Rattle.format.specs.Rows.{Column, shapeWidth, widthOf}
 use Rattle.rows.proofs.Columns.{width-of}
 use Rattle.rows.specs.declared.shape.Column.{Column as CodeColumn}
 use Rattle.holding.proofs.Kths.{spots-up}
-use Rattle.holding.proofs.PicturedCells.{rowCells}
+use Rattle.holding.specs.Kth.{rowCells}
 use Rattle.holding.proofs.Places.{no-place, next-place}
 use Rattle.body.specs.Slots.{satellitesIn, slotSatellites, cellsIn, slimOf}
 use Rattle.body.proofs.Slots.{next-in, up-in, count-in, next-slot}

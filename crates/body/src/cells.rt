@@ -8,8 +8,7 @@ ghost use Rattle.body.specs.Slots.{satellitesIn, slotSatellites, cellsIn
 ghost use Rattle.body.specs.Written.{numbersAt, Room, Wrote};
 ghost use Rattle.format.specs.Messages.{cellLines};
 ghost use Rattle.format.specs.Reading.{over};
-ghost use Rattle.holding.proofs.PicturedCells.{rowCells};
-ghost use Rattle.holding.specs.Kth.{narrow};
+ghost use Rattle.holding.specs.Kth.{narrow, rowCells};
 use crate::End;
 use holding::set_places;
 use rows::row;

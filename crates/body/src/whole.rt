@@ -9,7 +9,7 @@ ghost use Rattle.body.specs.Written.{numbersAt, Room};
 ghost use Rattle.format.specs.Messages.{cellLines};
 ghost use Rattle.format.specs.Reading.{over};
 ghost use Rattle.format.specs.Rows.{bodyWidth};
-ghost use Rattle.holding.proofs.PicturedCells.{rowCells};
+ghost use Rattle.holding.specs.Kth.{rowCells};
 ghost use Rattle.holding.specs.Pictures.{maskOf, sound};
 ghost use Rattle.rows.specs.Plans.{planned};
 ghost use Rattle.rows.specs.Shapes.{Formed};

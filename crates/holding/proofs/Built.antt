@@ -17,7 +17,8 @@ use Rattle.holding.specs.Spread.{spread}
 use Rattle.holding.proofs.Counts.{ones-append}
 use Rattle.holding.proofs.Places.{ones-number}
 use Rattle.holding.proofs.PicturedRows.{length-rows, length-satellites, picture-rows, spell-bits, spell-row}
-use Rattle.holding.proofs.PicturedCells.{rowCells, row-cells}
+use Rattle.holding.specs.Kth.{rowCells}
+use Rattle.holding.proofs.PicturedCells.{row-cells}
 -- a good mask has at most five systems, and room for one that it does not name
 pub use Rattle.format.proofs.MakesBack.{few-systems, room-for}
 

@@ -20,14 +20,14 @@ use Rattle.format.specs.Good.{goodSystem, goodSystems, good}
 use Rattle.format.specs.Masks.{System, Mask, mask, Satellite, Cell, placesFrom, satellitesOf, satellites, cells}
 use Rattle.holding.specs.declared.kth.Spot.{Spot}
 use Rattle.holding.specs.Building.{onesIn}
-use Rattle.holding.specs.Kth.{spotsAt, spots, nowhere, narrow, below}
+use Rattle.holding.specs.Kth.{spotsAt, spots, nowhere, narrow, below, rowCells}
 use Rattle.holding.specs.Pictures.{rowsFrom, rowsOf}
 use Rattle.holding.specs.Spread.{spread}
 use Rattle.holding.proofs.Counts.{ones-append}
 use Rattle.holding.proofs.Places.{ones-places, places-up, no-place}
 use Rattle.holding.proofs.Spreads.{length-spread}
 use Rattle.holding.proofs.PicturedRows.{sized, picture-rows, spell-bits}
-use Rattle.holding.proofs.PicturedCells.{rowCells, picture-cells}
+use Rattle.holding.proofs.PicturedCells.{picture-cells}
 
 -- ---- the k-th place set
 

@@ -8,23 +8,14 @@ use native.Mathlib.Nat.{suc-inj}
 use native.Mathlib.Omega.{arith}
 use lib.Dec.{ltb}
 use lib.ListN.{length, drop, replicate, length-map}
-use Rattle.bits.specs.BitLists.{number, spell}
+use Rattle.bits.specs.BitLists.{number}
 use Rattle.format.proofs.Sames.{and-true}
 use Rattle.format.specs.Good.{goodSystem, goodSystems, good}
-use Rattle.format.specs.Masks.{System, Mask, mask, Satellite, Cell, placesFrom, pick, satellitesOf, pairsOf, cellsOf, satellites, cells}
+use Rattle.format.specs.Masks.{System, Mask, mask, Satellite, placesFrom, pick, satellitesOf, pairsOf, cellsOf, satellites, cells}
+use Rattle.holding.specs.Kth.{cellsAt, rowCells}
 use Rattle.holding.specs.Pictures.{rowsFrom, rowsOf}
 use Rattle.holding.proofs.Spreads.{places-spread}
 use Rattle.holding.proofs.PicturedRows.{sized, length-rows, length-satellites, spell-bits, spell-row}
-
--- one satellite's cells, by the places of its signals
-abbrev pub cellsAt : Satellite → List ℕ → List Cell
-cellsAt sat places = map (λ place. record { satellite = sat; signal = place }) places
-
--- satellites each with the places of its row
-unfoldable pub rowCells : List Satellite → List ℕ → List Cell
-rowCells [] rows = []
-rowCells (sat ∷ sats) [] = []
-rowCells (sat ∷ sats) (row ∷ rows) = cellsAt sat (placesFrom 0 (spell 16 row)) ++ rowCells sats rows
 
 -- ---- picking
 

@@ -40,6 +40,15 @@ unfoldable pub cellsHeld : Held → List Cell
 cellsHeld nothing = []
 cellsHeld (mask m) = cells (m .systems)
 
+-- satellites, each with the places of its row of signals
+abbrev pub cellsAt : Satellite → List ℕ → List Cell
+cellsAt sat places = map (λ place. record { satellite = sat; signal = place }) places
+
+unfoldable pub rowCells : List Satellite → List ℕ → List Cell
+rowCells [] rows = []
+rowCells (sat ∷ sats) [] = []
+rowCells (sat ∷ sats) (row ∷ rows) = cellsAt sat (placesFrom 0 (spell 16 row)) ++ rowCells sats rows
+
 -- where there is none
 abbrev pub nobody : Satellite
 nobody = record { system = 0; number = 0 }

@@ -13,7 +13,7 @@ use lib.Pow.{pow-pos}
 use Rattle.format.specs.Masks.{Satellite}
 use Rattle.format.specs.Messages.{cellLines}
 use Rattle.format.specs.Rows.{Column, Line}
-use Rattle.holding.proofs.PicturedCells.{rowCells}
+use Rattle.holding.specs.Kth.{rowCells}
 use Rattle.holding.proofs.Places.{next-place}
 use Rattle.body.specs.Slots.{satellitesIn, cellsIn, slimOf}
 use Rattle.body.proofs.Going.{Going, going-start, part-start, part-room, part-written, going-end}

@@ -13,7 +13,7 @@ use Rattle.format.specs.Masks.{Satellite}
 use Rattle.format.specs.Messages.{cellLines}
 use Rattle.format.specs.Rows.{Column, Line}
 use Rattle.holding.proofs.Highest.{below-at}
-use Rattle.holding.proofs.PicturedCells.{rowCells}
+use Rattle.holding.specs.Kth.{rowCells}
 use Rattle.body.specs.Slots.{satellitesIn, slotSatellites, slimOf}
 use Rattle.body.proofs.Going.{lent, Going, going-start, part-start, part-room, part-written, going-end}
 use Rattle.body.proofs.Slots.{slot-count, no-slot}
