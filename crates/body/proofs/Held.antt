@@ -6,17 +6,16 @@ use mathlib.Core.List.{List, [], _∷_, _++_, append-nil, map, flatMap}
 use Prim.Native.Nat.{ℕ, _-_, _≤_}
 use native.Mathlib.Omega.{arith}
 use lib.Dec.{ltb}
-use lib.ListN.{length, take, replicate, length-append, length-map, length-replicate}
+use lib.ListN.{length, take, replicate, length-map}
 use lib.Seq.{take-at}
-use Rattle.bits.specs.BitLists.{number}
 use Rattle.format.proofs.Sames.{and-true}
 use Rattle.format.specs.Good.{goodSystem, goodSystems, good}
 use Rattle.format.specs.Masks.{System, Mask, Held, nothing, mask, Satellite, satellitesOf, satellites, cells}
-use Rattle.holding.proofs.Built.{few-systems}
 use Rattle.holding.proofs.Kths.{masksOf}
 use Rattle.holding.proofs.Pictured.{picture-sound}
 use Rattle.holding.proofs.PicturedCells.{rowCells-append, picture-cells}
-use Rattle.holding.proofs.PicturedRows.{sized, picture-rows, spell-bits, few-satellites, few-cells}
+use Rattle.holding.proofs.PicturedRows.{sized, picture-rows, spell-bits}
+use Rattle.holding.proofs.Sizes.{picture-sizes}
 use Rattle.holding.specs.declared.Holding.{Holding}
 use Rattle.holding.specs.Kth.{satellitesHeld, cellsHeld, rowCells}
 use Rattle.holding.specs.Pictures.{filled, rowsOf, pictureOf, maskOf, sound}
@@ -61,28 +60,21 @@ pub record Says (g : Held) (h : Holding) : Type 0 where
   pub few-satellites : length (satellitesHeld g) ≤ 64
   pub few-cells : length (cellsHeld g) ≤ 256
 
-length-filled : {A : Type 0} (n : ℕ) (d : A) (l : List A) → length l ≤ n → length (filled n d l) ≡ n
-unfolding filled
-length-filled n d l h = length-append l (replicate (n - length l) d) ∙ omega (arith, length-replicate (n - length l) d)
-
 picture-says : (g : Held) → good g ≡ true → Says g (pictureOf g)
 unfolding pictureOf satellitesHeld cellsHeld rowCells slotSatellites
 picture-says nothing e =
     record { slots = refl; rows = refl; count = omega arith; ids = refl; masks = refl; cells = refl; few-satellites = omega arith; few-cells = omega arith }
 picture-says (mask m) e =
-    let ss : List System = m .systems in
-    let names : List ℕ = map (λ s. s .id) ss in
-    let rows : List ℕ = flatMap rowsOf ss in
-    let few = few-systems m e in
+    let sizes = picture-sizes (mask m) e in
     record {
       slots = mask-slots m e;
       rows = mask-rows m e;
-      count = few;
-      ids = length-filled 5 0 names (omega (arith, length-map ss (λ s. s .id)));
-      masks = length-filled 5 0 (masksOf ss) (omega (arith, length-map ss (λ s. number (s .satellites))));
-      cells = length-filled 64 0 rows (omega (arith, picture-rows ss, few-satellites m e));
-      few-satellites = few-satellites m e;
-      few-cells = few-cells m e;
+      count = sizes .count;
+      ids = sizes .ids;
+      masks = sizes .satellites;
+      cells = sizes .cells;
+      few-satellites = sizes .nsat;
+      few-cells = sizes .ncell;
     }
 
 -- and so what a sound struct says

@@ -21,3 +21,4 @@ pub mod OneSlot
 pub mod TestedSound
 pub mod Shapes
 pub mod HeldKths
+pub mod Sizes

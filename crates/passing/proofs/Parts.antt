@@ -3,11 +3,11 @@ use mathlib.Core.Path.{_≡_, refl, sym, ap, _∙_}
 use mathlib.Core.Bool.{Bool, true, false}
 use mathlib.Core.List.{List, [], _∷_, _++_, append-nil, append-assoc}
 use Prim.Native.Nat.{ℕ, zero, suc, _+_, _-_, _*_, _/_, _%_, _^_, _≤_, _<_}
-use native.Mathlib.Nat.{div-div-eq-div-mul}
+use native.Mathlib.Nat.{le-refl, mul-zero, mul-le-mul-left, div-div-eq-div-mul}
 use native.Mathlib.Numerals.{add-one}
 use native.Mathlib.Omega.{arith}
 use lib.ListN.{length, getD, take, drop, length-append, length-drop}
-use lib.Seq.{length-take-le, take-at, take-suc}
+use lib.Seq.{length-take-le, take-all, take-at, take-suc}
 use borrow.Rule.Slice.PartMut.{postOf, putMid, same-len-mid}
 use mir.Val.{boolByte}
 use Rattle.bits.specs.BitLists.{digit}
@@ -58,20 +58,35 @@ parts-snoc k (m ∷ ns) n = rw (parts-snoc k ns n, append-assoc)
 pub parts-more : (k : ℕ) (ns : List ℕ) (i : ℕ) → i < length ns → partsOf k (take (suc i) ns) ≡ partsOf k (take i ns) ++ parts k (getD ns i 0)
 parts-more k ns i inside = ap (partsOf k) (take-suc ns i 0 inside) ∙ parts-snoc k (take i ns) (getD ns i 0)
 
--- ---- numbers written one after the other
+-- ---- numbers of k bytes written one after the other
 
-module _ (k : ℕ) (ns : List ℕ) (i : ℕ) (inside : i < length ns) (part : List ℕ) (room : k * i + k ≤ length part) (new : List ℕ) (e : new ≡ parts k (getD ns i 0)) where
-  pub written-length : length (putMid (k * i) (k * i + k - k * i) part new) ≡ length part
-  written-length =
+-- so many are: their bytes stand first in the part, which keeps its length
+abbrev pub Written : ℕ → List ℕ → List ℕ → List ℕ → ℕ → Type 0
+Written k ns part₀ part i = (i ≤ length ns) × (length part ≡ length part₀) × (take (k * i) part ≡ partsOf k (take i ns))
+
+module _ (k : ℕ) (ns part₀ : List ℕ) (size : length part₀ ≡ k * length ns) where
+  pub written-none : Written k ns part₀ part₀ 0
+  unfolding partsOf
+  written-none = (omega arith, refl, rw (mul-zero k) refl)
+
+  pub written-one : (part : List ℕ) (i : ℕ) → i < length ns → Written k ns part₀ part i → (new : List ℕ) → new ≡ parts k (getD ns i 0)
+      → Written k ns part₀ (putMid (k * i) (k * i + k - k * i) part new) (i + 1)
+  written-one part i inside inv new e =
+      let room : k * i + k ≤ length part = omega (arith, mul-le-mul-left k inside, size, inv .1) in
       let count : k * i + k - k * i ≡ k = omega arith in
       let there : length (take k (drop (k * i) part)) ≡ k = length-take-le k (drop (k * i) part) (rw length-drop (omega arith)) in
-      same-len-mid (k * i) (k * i + k - k * i) part new (rw (e, count, there) (length-parts k (getD ns i 0)))
-
-  pub written-more : take (k * i) part ≡ partsOf k (take i ns) → take (k * (i + 1)) (putMid (k * i) (k * i + k - k * i) part new) ≡ partsOf k (take (i + 1) ns)
-  written-more before =
       let rest = postOf (k * i) (k * i + k - k * i) part in
       let done = partsOf k (take i ns) in
       let here = parts k (getD ns i 0) in
       let few : length (take i ns) ≡ i = length-take-le i ns (omega arith) in
-      let long : length (done ++ here) ≡ k * (i + 1) = simp (length-append, length-parts) (rw (length-partsOf k (take i ns), few) (omega arith)) in
-      rw (before, e, ← (append-assoc done here rest)) (take-at (done ++ here) rest (k * (i + 1)) long ∙ rw (add-one i) (sym (parts-more k ns i inside)))
+      let long : length (done ++ here) ≡ k * (i + 1) = simp (length-append, length-parts) (rw (length-partsOf k (take i ns), few) (omega arith)) in (
+        omega arith,
+        same-len-mid (k * i) (k * i + k - k * i) part new (rw (e, count, there) (length-parts k (getD ns i 0))) ∙ inv .1,
+        rw (inv .2, e, ← (append-assoc done here rest)) (take-at (done ++ here) rest (k * (i + 1)) long ∙ rw (add-one i) (sym (parts-more k ns i inside))),
+      )
+
+  pub written-all : (part : List ℕ) (i : ℕ) → length ns ≤ i → Written k ns part₀ part i → part ≡ partsOf k ns
+  written-all part i all inv =
+      let whole : i ≡ length ns = omega (arith, inv .0) in
+      let front : take (k * length ns) part ≡ partsOf k (take (length ns) ns) = rw whole at (inv .2) in
+      sym (take-all (k * length ns) part (omega (arith, inv .1))) ∙ front ∙ ap (partsOf k) (take-all (length ns) ns (le-refl (length ns)))

@@ -29,7 +29,7 @@ use Rattle.passing.specs.Bytes.{little, littles, parts, partsOf}
 use Rattle.passing.specs.Passing.{truths, truth, passes, said, stray, holdingIn, bytesOf}
 use Rattle.passing.proofs.Parts.{length-parts, length-partsOf}
 use Rattle.passing.proofs.Segments.{startOf, systemsIn, rowsIn, start-length, systems-length, rows-length, three-segments}
-use Rattle.passing.proofs.Sizes.{Sizes, sound-sizes}
+use Rattle.holding.proofs.Sizes.{Sizes, sound-sizes}
 
 -- ---- numbers to bytes and back
 

@@ -9,7 +9,7 @@ use Rattle.holding.specs.declared.Holding.{Holding}
 use Rattle.passing.specs.Bytes.{parts, partsOf}
 use Rattle.passing.specs.Passing.{bytesOf}
 use Rattle.passing.proofs.Parts.{length-partsOf}
-use Rattle.passing.proofs.Sizes.{Sizes}
+use Rattle.holding.proofs.Sizes.{Sizes}
 
 abbrev pub startOf : Holding → List ℕ
 startOf h = digit (h .held) ∷ h .iod ∷ h .count ∷ h .nsat ∷ parts 2 (h .ncell)

@@ -9,7 +9,7 @@ use lib.Seq.{length-take-le}
 use Rattle.format.specs.Reading.{over}
 use Rattle.passing.proofs.Placing.{put-three, put-room}
 use Rattle.passing.proofs.Segments.{startOf, systemsIn, rowsIn, start-length, systems-length, rows-length, three-segments}
-use Rattle.passing.proofs.Sizes.{sound-sizes}
+use Rattle.holding.proofs.Sizes.{sound-sizes}
 use Rattle.passing.proofs.give.holding_over.Statement.{statement}
 use Rattle.passing.proofs.give.holding_over.Tie as tie
 

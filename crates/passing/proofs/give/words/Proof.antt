@@ -1,52 +1,37 @@
--- `passing::give::words` meets its contract. The loop's invariant: the bytes of the numbers passed are written.
+-- `passing::give::words` meets its contract. The loop's invariant: so many numbers are written.
 -- Assumes nothing.
-use mathlib.Core.Path.{_≡_, refl, sym, ap, _∙_}
-use mathlib.Core.List.{List}
-use Prim.Native.Nat.{ℕ, _-_, _*_, _≤_}
-use native.Mathlib.Nat.{le-refl}
+use Prim.Native.Nat.{_-_}
 use native.Mathlib.Omega.{arith}
 use borrow.Author.Needs.{needs}
-use lib.ListN.{length, take}
-use lib.Seq.{take-all}
-use Rattle.passing.specs.Bytes.{partsOf}
-use Rattle.passing.proofs.Parts.{written-length, written-more}
+use lib.ListN.{length}
+use Rattle.passing.proofs.Parts.{Written, written-none, written-one, written-all}
 use Rattle.passing.proofs.give.words.Statement.{statement}
 use Rattle.passing.proofs.give.words.Tie as tie
 
 abbrev Inv-loop : tie.InvT-loop
-Inv-loop part₀ ns i₀ part i = (i ≤ length ns) × (length part ≡ length part₀) × (take (2 * i) part ≡ partsOf 2 (take i ns))
+Inv-loop part₀ ns i₀ part i = Written 2 ns part₀ part i
 
 abbrev μ-loop : tie.MeasureT-loop
 μ-loop part₀ ns i₀ part i = length ns - i
 
 loop-holds : tie.Need-loop-holds Inv-loop μ-loop
-unfolding partsOf
-loop-holds c = (omega arith, refl, refl)
+loop-holds c = written-none 2 (c .before .before .args .ns .now) (c .before .before .args .part .now) (c .before .before .pre .0)
 
 loop-again : tie.Need-loop-again Inv-loop μ-loop
 loop-again c =
-    let ns : List ℕ = c .before .before .before .before .before .before .before .before .before .args .ns .now in
-    let i : ℕ = c .before .before .before .before .before .before .loop .i in
-    let part = c .before .before .before .before .before .before .loop .part in
-    let inv = c .before .before .before .before .before .before .loop .inv in
-    let new = c .before .before .word .last .0 in
-    let e = c .before .before .word .ensures in
-    (omega arith, written-length 2 ns i (omega arith) part (omega arith) new e ∙ inv .1, written-more 2 ns i (omega arith) part (omega arith) new e (inv .2))
-
-same-length : tie.Need-same-length Inv-loop μ-loop
-same-length c = c .before .loop .inv .1
+    let l = c .before .before .before .before .before .before in
+    let s = l .before .before .before in
+    written-one 2 (s .args .ns .now) (s .args .part .now) (s .pre .0) (l .loop .part) (l .loop .i) (omega arith) (l .loop .inv) _ (c .before .before .word .ensures)
 
 returns : tie.Need-returns Inv-loop μ-loop
 returns c =
-    let ns : List ℕ = c .before .before .before .before .args .ns .now in
-    let part = c .before .loop .part in
-    let inv = c .before .loop .inv in
-    let whole : c .before .loop .i ≡ length ns = omega arith in
-    sym (take-all (2 * c .before .loop .i) part (omega arith)) ∙ inv .2 ∙ ap (λ (n : ℕ). partsOf 2 (take n ns)) whole ∙ ap (partsOf 2) (take-all (length ns) ns (le-refl (length ns)))
+    let l = c .before in
+    let s = l .before .before .before in
+    written-all 2 (s .args .ns .now) (s .args .part .now) (s .pre .0) (l .loop .part) (l .loop .i) (omega arith) (l .loop .inv)
 
 pub words-spec : {M : Type 1} → statement M
 words-spec =
     tie.close
     (tie.spec Inv-loop μ-loop loop-holds (λ c. search needs) (λ c. search needs) (λ c. search needs) (λ c. search needs) (λ c. search needs)
-    (λ c. search needs) (λ c. search needs) (λ c. search needs) (λ c κs. search needs) (λ c. search needs) (λ c. search needs) loop-again same-length
-    returns)
+    (λ c. search needs) (λ c. search needs) (λ c. search needs) (λ c κs. search needs) (λ c. search needs) (λ c. search needs) loop-again
+    (λ c. c .before .loop .inv .1) returns)

@@ -32,7 +32,7 @@ length-filled n d l few = simp (length-append, length-replicate) (omega arith)
 by-system : {A : Type 0} (f : System → A) (d : A) (ss : List System) → length ss ≤ 5 → length (filled 5 d (map f ss)) ≡ 5
 by-system f d ss few = length-filled 5 d (map f ss) (rw (length-map ss f) few)
 
-picture-sizes : (g : Held) → good g ≡ true → Sizes (pictureOf g)
+pub picture-sizes : (g : Held) → good g ≡ true → Sizes (pictureOf g)
 unfolding pictureOf
 picture-sizes nothing e =
     record { ids = refl; satellites = refl; signals = refl; flags = refl; cells = refl; count = omega arith; nsat = omega arith; ncell = omega arith }
