@@ -1,13 +1,15 @@
-/* One run makes ROUNDS calls at each of the eight alignments with eight bytes left, all of one kind and
-   width, for an instruction counter to count. The kinds `none-..` call a function that is one return. */
+/* Calls of one kind at one width, with eight bytes left, for an instruction counter.
+
+     fields KIND WIDTH ROUNDS    a round more is a call more at each of the eight alignments
+
+   KIND is read or write; with -bits, a plain loop in C; with none- before it, a function that is one return. */
 #include <stdint.h>
-#include <stdio.h>
 #include <stdlib.h>
 #include <string.h>
 
 #include "probe.h"
 
-enum { ROUNDS = 1000, COUNT = 16 };
+enum { COUNT = 16 };
 
 /* The plain way: a loop over the bits. */
 __attribute__((noinline)) static uint64_t read_bits(const uint8_t *bytes, uint64_t count, uint64_t w, uint64_t place) {
@@ -36,28 +38,29 @@ typedef __typeof__(hundurzek_write_field) writer;
 
 __attribute__((naked)) static void nothing(void) { __asm__("ret"); }
 
-static void read_all(reader *f, const uint8_t *bytes, uint64_t w) {
-  for (int round = 0; round < ROUNDS; round++)
+static void read_all(int rounds, reader *f, const uint8_t *bytes, uint64_t w) {
+  for (; rounds > 0; rounds--)
     for (uint64_t place = 0; place < 8; place++) f(bytes, COUNT, w, place);
 }
 
-static void write_all(writer *f, uint8_t *bytes, uint64_t w, uint64_t value) {
-  for (int round = 0; round < ROUNDS; round++)
+static void write_all(int rounds, writer *f, uint8_t *bytes, uint64_t w, uint64_t value) {
+  for (; rounds > 0; rounds--)
     for (uint64_t skip = 0; skip < 8; skip++) f(bytes, COUNT, skip, w, value);
 }
 
 int main(int argc, char **argv) {
   static uint8_t bytes[COUNT];
-  if (argc != 3) return 2;
+  if (argc != 4) return 2;
+  int rounds = atoi(argv[3]);
   uint64_t w = (uint64_t)atoi(argv[2]);
   uint64_t value = (UINT64_C(1) << w) - 2;
   for (uint64_t i = 0; i < COUNT; i++) bytes[i] = (uint8_t)(37 * i + 11);
-  if (!strcmp(argv[1], "none-read")) read_all((reader *)nothing, bytes, w);
-  else if (!strcmp(argv[1], "read")) read_all(hundurzek_read_field, bytes, w);
-  else if (!strcmp(argv[1], "read-bits")) read_all(read_bits, bytes, w);
-  else if (!strcmp(argv[1], "none-write")) write_all((writer *)nothing, bytes, w, value);
-  else if (!strcmp(argv[1], "write")) write_all(hundurzek_write_field, bytes, w, value);
-  else if (!strcmp(argv[1], "write-bits")) write_all(write_bits, bytes, w, value);
+  if (!strcmp(argv[1], "none-read")) read_all(rounds, (reader *)nothing, bytes, w);
+  else if (!strcmp(argv[1], "read")) read_all(rounds, hundurzek_read_field, bytes, w);
+  else if (!strcmp(argv[1], "read-bits")) read_all(rounds, read_bits, bytes, w);
+  else if (!strcmp(argv[1], "none-write")) write_all(rounds, (writer *)nothing, bytes, w, value);
+  else if (!strcmp(argv[1], "write")) write_all(rounds, hundurzek_write_field, bytes, w, value);
+  else if (!strcmp(argv[1], "write-bits")) write_all(rounds, write_bits, bytes, w, value);
   else return 2;
   return 0;
 }
