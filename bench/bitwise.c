@@ -5,7 +5,8 @@
 
 /* "Answer numbers", and the one of docs/HOST.md for a message. */
 enum {
-  IDLE, ROOM, PLACE, SHORT, NUMBER, SUBTYPE, NO_MASK, OTHER_ISSUE, SYSTEM, RESERVED, SIZE, NETWORK, VALUE, MESSAGE
+  IDLE, ROOM, PLACE, SHORT, NUMBER, SUBTYPE, NO_MASK, OTHER_ISSUE, SYSTEM, RESERVED, SIZE, NETWORK, VALUE,
+  MESSAGE = HUNDURZEK_MESSAGE
 };
 
 /* "Held mask and assigned places": how many places each system has, and the house limits. */
@@ -145,7 +146,7 @@ static int read_mask(struct cursor *c, bitwise_holding *holding, hundurzek_head 
 
 struct rows {
   int32_t *numbers;
-  size_t count;
+  uint64_t count;
 };
 
 static int32_t *open_row(struct rows *rows, int system, int satellite, int signal) {
@@ -280,7 +281,7 @@ static int read_message(struct cursor *c, bitwise_holding *holding, hundurzek_he
 }
 
 /* "Reader's order: 1, 2, 12", before a bit is looked at. */
-static int test_lent(size_t holding_count, size_t count, size_t end, size_t start, size_t row_count) {
+static int test_lent(uint64_t holding_count, uint64_t count, uint64_t end, uint64_t start, uint64_t row_count) {
   if (row_count < HUNDURZEK_ROOM) return ROOM;
   if (end > LONGEST || (end + 7) / 8 > count || start > end) return PLACE;
   if (holding_count < sizeof(bitwise_holding)) return VALUE;
@@ -295,24 +296,27 @@ static int read_next(struct cursor *c, bitwise_holding *holding, hundurzek_head 
   return answer;
 }
 
-hundurzek_reading bitwise_read(uint8_t *holding, size_t holding_count, const uint8_t *bytes, size_t count, size_t end,
-                               size_t start, int32_t *rows, size_t row_count) {
+hundurzek_reading *bitwise_read(hundurzek_reading *out, uint8_t *holding, uint64_t holding_count, const uint8_t *bytes,
+                                uint64_t count, uint64_t end, uint64_t start, int32_t *rows, uint64_t row_count) {
   struct cursor c = {bytes, (int)start, (int)end};
   struct rows table = {rows, 0};
-  hundurzek_reading reading = {.head = nothing};
+  *out = (hundurzek_reading){.place = start, .head = nothing};
   int answer = test_lent(holding_count, count, end, start, row_count);
-  if (answer == MESSAGE) answer = read_next(&c, (bitwise_holding *)(void *)holding, &reading.head, &table);
-  if (answer != MESSAGE) return (hundurzek_reading){.answer = (uint64_t)answer, .place = start, .head = nothing};
-  reading.answer = MESSAGE;
-  reading.rows = table.count;
-  reading.place = (size_t)c.place;
-  reading.raw_offset = start / 8;
-  reading.raw_count = (reading.place + 7) / 8 - start / 8;
-  return reading;
+  if (answer == MESSAGE) answer = read_next(&c, (bitwise_holding *)(void *)holding, &out->head, &table);
+  out->answer = (uint64_t)answer;
+  if (answer == MESSAGE) {
+    out->place = (uint64_t)c.place;
+    out->rows = table.count;
+    out->raw_offset = start / 8;
+    out->raw_count = (out->place + 7) / 8 - start / 8;
+  } else {
+    out->head = nothing; /* the fields before the one that was refused are in it */
+  }
+  return out;
 }
 
-hundurzek_walked bitwise_walk(uint8_t *holding, size_t holding_count, const uint8_t *bytes, size_t count, size_t end,
-                              int32_t *rows, size_t row_count) {
+hundurzek_walked *bitwise_walk(hundurzek_walked *out, uint8_t *holding, uint64_t holding_count, const uint8_t *bytes,
+                               uint64_t count, uint64_t end, int32_t *rows, uint64_t row_count) {
   struct cursor c = {bytes, 0, (int)end};
   hundurzek_walked walked = {0};
   hundurzek_head head; /* not handed out */
@@ -324,6 +328,7 @@ hundurzek_walked bitwise_walk(uint8_t *holding, size_t holding_count, const uint
     walked.rows += table.count;
   }
   walked.answer = (uint64_t)answer;
-  walked.place = (size_t)c.place;
-  return walked;
+  walked.place = (uint64_t)c.place;
+  *out = walked;
+  return out;
 }

@@ -33,11 +33,9 @@ typedef struct {
 } bitwise_holding;
 
 /* As hundurzek_read; the bytes lent as a holding are those of a bitwise_holding. */
-hundurzek_reading bitwise_read(uint8_t *holding, size_t holding_count, const uint8_t *bytes, size_t count, size_t end,
-                               size_t start, int32_t *rows, size_t row_count);
+__typeof__(hundurzek_read) bitwise_read;
 
 /* As hundurzek_walk; what is lent is tested once. */
-hundurzek_walked bitwise_walk(uint8_t *holding, size_t holding_count, const uint8_t *bytes, size_t count, size_t end,
-                              int32_t *rows, size_t row_count);
+__typeof__(hundurzek_walk) bitwise_walk;
 
 #endif

@@ -19,27 +19,25 @@
 
 /* ---- decoders */
 
-typedef hundurzek_reading reader(uint8_t *holding, size_t holding_count, const uint8_t *bytes, size_t count, size_t end,
-                                 size_t start, int32_t *rows, size_t row_count);
-typedef hundurzek_walked walker(uint8_t *holding, size_t holding_count, const uint8_t *bytes, size_t count, size_t end,
-                                int32_t *rows, size_t row_count);
-
 typedef struct {
   const char *name;
-  reader *read;
-  walker *walk;
+  __typeof__(hundurzek_read) *read;
+  __typeof__(hundurzek_walk) *walk;
 } decoder;
 
-static hundurzek_reading no_read(uint8_t *holding, size_t holding_count, const uint8_t *bytes, size_t count, size_t end,
-                                 size_t start, int32_t *rows, size_t row_count) {
+static hundurzek_reading *no_read(hundurzek_reading *out, uint8_t *holding, uint64_t holding_count,
+                                  const uint8_t *bytes, uint64_t count, uint64_t end, uint64_t start, int32_t *rows,
+                                  uint64_t row_count) {
   (void)holding, (void)holding_count, (void)bytes, (void)count, (void)end, (void)start, (void)rows, (void)row_count;
-  return (hundurzek_reading){.answer = 0};
+  out->answer = 0;
+  return out;
 }
 
-static hundurzek_walked no_walk(uint8_t *holding, size_t holding_count, const uint8_t *bytes, size_t count, size_t end,
-                                int32_t *rows, size_t row_count) {
+static hundurzek_walked *no_walk(hundurzek_walked *out, uint8_t *holding, uint64_t holding_count, const uint8_t *bytes,
+                                 uint64_t count, uint64_t end, int32_t *rows, uint64_t row_count) {
   (void)holding, (void)holding_count, (void)bytes, (void)count, (void)end, (void)rows, (void)row_count;
-  return (hundurzek_walked){.answer = 0};
+  out->answer = 0;
+  return out;
 }
 
 /* The last is always idle; its stack is its return address. */
@@ -64,25 +62,28 @@ static receiver by_message, by_walk;
 static stretch stretches[HOUR];
 static size_t stretch_count;
 
-static hundurzek_reading read_at(const stretch *s, size_t start) {
-  return decoding->read((uint8_t *)&by_message.holding, sizeof by_message.holding, s->bytes, (s->end + 7) / 8, s->end,
-                        start, by_message.rows, HUNDURZEK_ROOM);
+/* Reads on, from the place where a reading of the stretch ended; whether there was a message. */
+static bool read_on(hundurzek_reading *reading, const stretch *s) {
+  decoding->read(reading, (uint8_t *)&by_message.holding, sizeof by_message.holding, s->bytes, (s->end + 7) / 8, s->end,
+                 reading->place, by_message.rows, HUNDURZEK_ROOM);
+  return reading->answer == HUNDURZEK_MESSAGE;
 }
 
-static hundurzek_walked walk(const stretch *s) {
-  return decoding->walk((uint8_t *)&by_walk.holding, sizeof by_walk.holding, s->bytes, (s->end + 7) / 8, s->end,
-                        by_walk.rows, HUNDURZEK_ROOM);
+static void walk(hundurzek_walked *walked, const stretch *s) {
+  decoding->walk(walked, (uint8_t *)&by_walk.holding, sizeof by_walk.holding, s->bytes, (s->end + 7) / 8, s->end,
+                 by_walk.rows, HUNDURZEK_ROOM);
 }
 
 static void read_messages(void) {
   for (size_t k = 0; k < stretch_count; k++) {
-    hundurzek_reading reading = {.answer = HUNDURZEK_MESSAGE};
-    while (reading.answer == HUNDURZEK_MESSAGE) reading = read_at(&stretches[k], reading.place);
+    hundurzek_reading reading = {.place = 0};
+    while (read_on(&reading, &stretches[k])) continue;
   }
 }
 
 static void read_walks(void) {
-  for (size_t k = 0; k < stretch_count; k++) walk(&stretches[k]);
+  hundurzek_walked walked;
+  for (size_t k = 0; k < stretch_count; k++) walk(&walked, &stretches[k]);
 }
 
 /* ---- what was handed out */
@@ -106,12 +107,13 @@ static void tell(const void *answer, size_t size, const int32_t *rows) {
 /* Tells the readings of a stretch one by one; answers the walk that they make up. */
 static hundurzek_walked check_messages(const stretch *s) {
   hundurzek_walked made = {0};
+  hundurzek_reading reading = {.place = 0};
   for (;;) {
-    hundurzek_reading reading = read_at(s, made.place);
+    bool message = read_on(&reading, s);
     tell(&reading, sizeof reading, by_message.rows);
     made.answer = reading.answer;
     made.place = reading.place;
-    if (reading.answer != HUNDURZEK_MESSAGE) return made;
+    if (!message) return made;
     made.messages++;
     made.rows += reading.rows;
     totals.subtypes[reading.head.subtype]++;
@@ -119,11 +121,12 @@ static hundurzek_walked check_messages(const stretch *s) {
 }
 
 static void check_stretch(const stretch *s) {
-  hundurzek_walked made = check_messages(s), walked = walk(s);
+  hundurzek_walked made = check_messages(s), walked;
+  walk(&walked, s);
   tell(&walked, sizeof walked, by_walk.rows);
   bool same = !memcmp(&made, &walked, sizeof made) && !memcmp(&by_message, &by_walk, sizeof by_walk);
   if (!same || walked.answer != 0) {
-    fprintf(stderr, "stop %" PRIu64 " at %zu: %s\n", walked.answer, walked.place,
+    fprintf(stderr, "stop %" PRIu64 " at %" PRIu64 ": %s\n", walked.answer, walked.place,
             same ? "the inputs have no such message" : "the readings, one after another, leave something else");
     exit(1);
   }

@@ -2,29 +2,10 @@
 # bench/read.sh: instructions of reading whole stretches, the holding kept, through the host interface ('host') and
 # with a decoder in C that gets its fields bit by bit ('bitwise'), by walks and message by message; as the tables of
 # docs/PERFORMANCE.md. Fails where the two do not hand out the same, or a walk is not its readings one after another.
-# ICOUNT names the instruction counter.
 set -eu
 cd "$(dirname "$0")/.."
-. bench/lib/count.sh
-build read host bench/read.c bench/stretches.c bench/bitwise.c bench/getbit.c
-
-# handed_out INPUT: what both decoders hand out for it, a checksum and totals
-handed_out() {
-    host=$($RUN target/bench/read host "$1" check)
-    bitwise=$($RUN target/bench/read bitwise "$1" check)
-    if [ "$host" != "$bitwise" ]; then
-        echo "input $1: the decoders differ" >&2
-        exit 1
-    fi
-    echo "$host"
-}
-
-# instructions DECODER INPUT WAY: of reading it once; what comes before falls out of the difference
-instructions() {
-    twice=$(count read "$1" "$2" "$3" 2)
-    once=$(count read "$1" "$2" "$3" 1)
-    echo $((twice - once))
-}
+. bench/lib/measure.sh
+build_read
 
 # columns NUMBER..: as the columns of a table
 columns() {
@@ -38,18 +19,14 @@ input_row() {
     echo "| ($input) | $(columns "$@") |"
 }
 
-# decoder_rows WAY INPUT CHECKSUM STRETCHES BITS PADDING ROWS MESSAGES ..
+# decoder_rows WAY INPUT CHECKSUM TOTAL..
 decoder_rows() {
-    bitwise=$(instructions bitwise "$2" "$1")
-    for decoder in host bitwise; do
-        n=$bitwise
-        [ $decoder = bitwise ] || n=$(instructions $decoder "$2" "$1")
-        stack=$($RUN target/bench/read $decoder "$2" "$1" stack)
-        printf '| (%s) | %s' "$2" $decoder
-        awk -v n="$n" -v bits="$5" -v rows="$7" -v messages="$8" -v bitwise="$bitwise" 'BEGIN {
-            per_row = rows > 0 ? sprintf("%.1f", n / rows) : "-"
-            printf " | %.2f | %s | %.0f | %.3f", n / bits, per_row, n / messages, n / bitwise }'
-        echo " | $stack |"
+    read_so=$(reading "$@")
+    echo "$read_so" | while read -r decoder per_bit per_row per_message to_bitwise; do
+        [ "$per_row" = - ] || per_row=$(printf %.1f "$per_row")
+        stack=$($RUN target/bench/read "$decoder" "$2" "$1" stack)
+        printf '| (%s) | %s | %.2f | %s' "$2" "$decoder" "$per_bit" "$per_row"
+        printf ' | %.0f | %.3f | %s |\n' "$per_message" "$to_bitwise" "$stack"
     done
 }
 
@@ -65,7 +42,7 @@ decoder_table() {
 
 # growth_row PARTS CHECKSUM STRETCHES BITS PADDING ROWS MESSAGES ..
 growth_row() {
-    n=$(instructions host "$1" walks)
+    n=$(round read host "$1" walks)
     per_bit=$(awk -v n="$n" -v bits="$4" 'BEGIN { printf "%.3f", n / bits }')
     echo "| $(columns "$1" "$3" "$4" "$6" "$7" "$n" $((n / $3)) "$per_bit") |"
 }

@@ -10,7 +10,7 @@
 enum { PART = 1695, LONGEST = 30 * PART, SUBFRAME = 5 * PART, HOUR = 720 };
 
 typedef struct {
-  size_t end; /* length in bits */
+  uint64_t end; /* length in bits */
   uint8_t bytes[(LONGEST + 7) / 8];
 } stretch;
 

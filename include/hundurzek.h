@@ -1,10 +1,10 @@
 /* Hundurzek for C: one Compact SSR message at a time, or a whole stretch of them. docs/HOST.md fixes, byte by
-   byte, how a holding and rows pass, and what each function answers for every input. A slice is a pointer and
-   a count; the pointer of a slice of no elements may point anywhere but must not be null. */
+   byte, how a holding and rows pass, what each function answers for every input, and what its caller sees to. A
+   slice is a pointer and a count, never null. A result of more than one number is written where the first pointer
+   points, and that pointer is returned. Counts and places have 64 bits on every processor. */
 #ifndef HUNDURZEK_H
 #define HUNDURZEK_H
 
-#include <stddef.h>
 #include <stdint.h>
 
 /* Bytes of a holding, numbers of a row, the numbers that a row buffer needs, and what isn't there. */
@@ -14,7 +14,7 @@
 #define HUNDURZEK_ABSENT (-32768)
 
 /* The answer to reading that is a message; 0 to 12 are document 01's numbers. */
-#define HUNDURZEK_MESSAGE 13
+#define HUNDURZEK_MESSAGE 255
 
 typedef struct {
   int32_t subtype;
@@ -28,31 +28,32 @@ typedef struct {
 } hundurzek_head;
 
 typedef struct {
-  uint64_t answer;    /* 0 to 12, or HUNDURZEK_MESSAGE */
-  size_t place;       /* after the message; else the start asked for */
-  size_t rows;        /* of the message; else 0 */
-  size_t raw_offset;  /* the message's raw bytes: where they begin in the stretch, */
-  size_t raw_count;   /* and how many; else 0 and 0 */
+  uint64_t answer;     /* 0 to 12, or HUNDURZEK_MESSAGE */
+  uint64_t place;      /* after the message; else the start asked for */
+  uint64_t rows;       /* of the message; else 0 */
+  uint64_t raw_offset; /* the message's raw bytes: where they begin in the stretch, */
+  uint64_t raw_count;  /* and how many; else 0 and 0 */
   hundurzek_head head; /* of the message; else eight times HUNDURZEK_ABSENT */
 } hundurzek_reading;
 
 typedef struct {
-  uint64_t answer; /* why the walk stopped: 0 to 12 */
-  size_t place;    /* and where */
-  size_t messages; /* accepted before the stop, */
-  size_t rows;     /* and the rows of all of them */
+  uint64_t answer;   /* why the walk stopped: 0 to 12 */
+  uint64_t place;    /* and where */
+  uint64_t messages; /* accepted before the stop, */
+  uint64_t rows;     /* and the rows of all of them */
 } hundurzek_walked;
 
 /* Makes the empty holding: 0, or 1 and nothing changed where fewer than HUNDURZEK_HOLDING bytes are lent. */
-uint64_t hundurzek_empty(uint8_t *holding, size_t holding_count);
+uint64_t hundurzek_empty(uint8_t *holding, uint64_t holding_count);
 
 /* Reads the message at bit place start of a stretch of end bits. */
-hundurzek_reading hundurzek_read(uint8_t *holding, size_t holding_count, const uint8_t *bytes, size_t count, size_t end,
-                                 size_t start, int32_t *rows, size_t row_count);
+hundurzek_reading *hundurzek_read(hundurzek_reading *out, uint8_t *holding, uint64_t holding_count,
+                                  const uint8_t *bytes, uint64_t count, uint64_t end, uint64_t start, int32_t *rows,
+                                  uint64_t row_count);
 
 /* Reads a stretch of end bits message by message, from place 0 until idle or a refusal. The holding becomes the one
    after the last message accepted; the row buffer is left as those readings, one after another, leave it. */
-hundurzek_walked hundurzek_walk(uint8_t *holding, size_t holding_count, const uint8_t *bytes, size_t count, size_t end,
-                                int32_t *rows, size_t row_count);
+hundurzek_walked *hundurzek_walk(hundurzek_walked *out, uint8_t *holding, uint64_t holding_count, const uint8_t *bytes,
+                                 uint64_t count, uint64_t end, int32_t *rows, uint64_t row_count);
 
 #endif

@@ -1,31 +1,31 @@
-/* Crate probe for C: fields of a byte string, most significant bit first, places counted from 0.
-   A slice is a pointer and a count. Each function takes every number there is; crates/probe/src/lib.rt
-   states what it answers. */
+/* Crate probe for C: fields of a byte string, most significant bit first, places counted from 0. All passes as
+   docs/HOST.md has it, but for the results: x86-64, which is all that the comparison needs, returns a struct of at
+   most 16 bytes in registers, and there is no pointer to spell out. Each function takes every number there is;
+   crates/probe/src/lib.rt states what it answers. */
 #ifndef HUNDURZEK_PROBE_H
 #define HUNDURZEK_PROBE_H
 
 #include <stdbool.h>
-#include <stddef.h>
 #include <stdint.h>
 
 /* The number in w bits at a place, bits past the last byte being 0; UINT64_MAX where w is over 56. */
-uint64_t hundurzek_read_field(const uint8_t *bytes, size_t count, size_t w, size_t place);
+uint64_t hundurzek_read_field(const uint8_t *bytes, uint64_t count, uint64_t w, uint64_t place);
 
 typedef struct {
   uint64_t value;
-  size_t missing;
+  uint64_t missing;
 } hundurzek_probed;
 
 /* The same where the bits end at end: missing is how many of the w lie past it, and value counts where
    that is 0. Both are UINT64_MAX where w is over 56. */
-hundurzek_probed hundurzek_take_field(const uint8_t *bytes, size_t count, size_t end, size_t place, size_t w);
+hundurzek_probed hundurzek_take_field(const uint8_t *bytes, uint64_t count, uint64_t end, uint64_t place, uint64_t w);
 
 /* Sets the w bits after the first skip to a number. False, and nothing changed, where skip is over 7,
    w over 56, the part too short or the number too large. */
-bool hundurzek_write_field(uint8_t *part, size_t count, size_t skip, size_t w, uint64_t value);
+bool hundurzek_write_field(uint8_t *part, uint64_t count, uint64_t skip, uint64_t w, uint64_t value);
 
 /* Whether every bit from a place to end is zero. */
-bool hundurzek_zero_from(const uint8_t *bytes, size_t count, size_t end, size_t place);
+bool hundurzek_zero_from(const uint8_t *bytes, uint64_t count, uint64_t end, uint64_t place);
 
 typedef struct {
   bool good;
@@ -33,9 +33,9 @@ typedef struct {
 } hundurzek_meant;
 
 /* Two's complement of w bits, 1 to 32: not good, and 0, for another width or a number of more bits. */
-hundurzek_meant hundurzek_to_signed(uint64_t n, size_t w);
+hundurzek_meant hundurzek_to_signed(uint64_t n, uint64_t w);
 
 /* The w bits, 1 to 32, that mean an integer; UINT64_MAX for another width or an integer out of their range. */
-uint64_t hundurzek_from_signed(int32_t z, size_t w);
+uint64_t hundurzek_from_signed(int32_t z, uint64_t w);
 
 #endif

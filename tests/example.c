@@ -14,7 +14,7 @@ static uint8_t holding[HUNDURZEK_HOLDING];
 static int32_t rows[HUNDURZEK_ROOM];
 
 static void print_numbers(const int32_t *numbers) {
-  for (size_t i = 0; i < HUNDURZEK_ROW; i++) {
+  for (int i = 0; i < HUNDURZEK_ROW; i++) {
     if (numbers[i] == HUNDURZEK_ABSENT)
       printf("\t-");
     else
@@ -22,14 +22,14 @@ static void print_numbers(const int32_t *numbers) {
   }
 }
 
-static void print_message(size_t start, const hundurzek_reading *message) {
+static void print_message(uint64_t start, const hundurzek_reading *message) {
   const hundurzek_head *head = &message->head;
   const int32_t numbers[HUNDURZEK_ROW] = {head->subtype, head->epoch, head->interval, head->indicator,
                                           head->iod,     head->a,     head->b,        head->c};
-  printf("M\t%zu\t%zu", start, message->place - start);
+  printf("M\t%" PRIu64 "\t%" PRIu64, start, message->place - start);
   print_numbers(numbers);
-  printf("\t%zu\n", message->rows);
-  for (size_t row = 0; row < message->rows; row++) {
+  printf("\t%" PRIu64 "\n", message->rows);
+  for (uint64_t row = 0; row < message->rows; row++) {
     printf("R");
     print_numbers(rows + row * HUNDURZEK_ROW);
     printf("\n");
@@ -38,18 +38,19 @@ static void print_message(size_t start, const hundurzek_reading *message) {
 
 /* The messages one by one; then the whole stretch at once, by a receiver that starts anew. */
 int main(void) {
-  size_t place = 0;
+  uint64_t place = 0;
   hundurzek_reading reading;
   hundurzek_walked walked;
   hundurzek_empty(holding, sizeof holding);
   for (;;) {
-    reading = hundurzek_read(holding, sizeof holding, stretch, sizeof stretch, BITS, place, rows, HUNDURZEK_ROOM);
+    hundurzek_read(&reading, holding, sizeof holding, stretch, sizeof stretch, BITS, place, rows, HUNDURZEK_ROOM);
     if (reading.answer != HUNDURZEK_MESSAGE) break;
     print_message(place, &reading);
     place = reading.place;
   }
   hundurzek_empty(holding, sizeof holding);
-  walked = hundurzek_walk(holding, sizeof holding, stretch, sizeof stretch, BITS, rows, HUNDURZEK_ROOM);
-  printf("E\t%" PRIu64 "\t%zu\t%zu\t%zu\n", walked.answer, walked.place, walked.messages, walked.rows);
+  hundurzek_walk(&walked, holding, sizeof holding, stretch, sizeof stretch, BITS, rows, HUNDURZEK_ROOM);
+  printf("E\t%" PRIu64 "\t%" PRIu64, walked.answer, walked.place);
+  printf("\t%" PRIu64 "\t%" PRIu64 "\n", walked.messages, walked.rows);
   return 0;
 }

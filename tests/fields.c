@@ -31,38 +31,38 @@ static void expect(bool good, const char *what) {
 
 /* ---- the same, bit by bit */
 
-static unsigned bit(const uint8_t *bytes, size_t count, size_t place) {
+static unsigned bit(const uint8_t *bytes, uint64_t count, uint64_t place) {
   if (place / 8 >= count) return 0;
   return bytes[place / 8] >> (7 - place % 8) & 1;
 }
 
-static uint64_t field(const uint8_t *bytes, size_t count, size_t place, size_t w) {
+static uint64_t field(const uint8_t *bytes, uint64_t count, uint64_t place, uint64_t w) {
   uint64_t n = 0;
-  for (size_t k = 0; k < w; k++) n = n << 1 | bit(bytes, count, place + k);
+  for (uint64_t k = 0; k < w; k++) n = n << 1 | bit(bytes, count, place + k);
   return n;
 }
 
-static void set_bit(uint8_t *bytes, size_t place, unsigned value) {
+static void set_bit(uint8_t *bytes, uint64_t place, unsigned value) {
   uint8_t mask = (uint8_t)(0x80 >> place % 8);
   bytes[place / 8] = (uint8_t)(value ? bytes[place / 8] | mask : bytes[place / 8] & ~mask);
 }
 
-static int64_t signed_of(uint64_t n, size_t w) {
+static int64_t signed_of(uint64_t n, uint64_t w) {
   int64_t z = 0;
-  for (size_t k = 0; k + 1 < w; k++) z += (int64_t)(n >> k & 1) << k;
+  for (uint64_t k = 0; k + 1 < w; k++) z += (int64_t)(n >> k & 1) << k;
   return z - ((int64_t)(n >> (w - 1) & 1) << (w - 1));
 }
 
 /* ---- cases */
 
-static size_t fill(uint8_t *bytes) {
-  size_t count = below(LONGEST + 1);
+static uint64_t fill(uint8_t *bytes) {
+  uint64_t count = below(LONGEST + 1);
   unsigned kind = (unsigned)below(8);
-  for (size_t i = 0; i < LONGEST; i++) bytes[i] = kind == 0 ? 0 : kind == 1 ? 0xff : (uint8_t)next();
+  for (uint64_t i = 0; i < LONGEST; i++) bytes[i] = kind == 0 ? 0 : kind == 1 ? 0xff : (uint8_t)next();
   return count;
 }
 
-static size_t width(void) {
+static uint64_t width(void) {
   switch (below(8)) {
     case 0: return 0;
     case 1: return 40;
@@ -72,48 +72,48 @@ static size_t width(void) {
   }
 }
 
-static size_t somewhere(size_t bits) { return below(16) ? below(bits + 20) : (size_t)next(); }
+static uint64_t somewhere(uint64_t bits) { return below(16) ? below(bits + 20) : next(); }
 
 static void read_one(void) {
   uint8_t bytes[LONGEST];
-  size_t count = fill(bytes), w = width(), place = somewhere(8 * count);
+  uint64_t count = fill(bytes), w = width(), place = somewhere(8 * count);
   uint64_t got = hundurzek_read_field(bytes, count, w, place);
   expect(got == (w > 56 ? UINT64_MAX : field(bytes, count, place, w)), "read_field");
 }
 
 static void take_one(void) {
   uint8_t bytes[LONGEST];
-  size_t count = fill(bytes), w = width(), end = below(8 * count + 1), place = below(end + 1);
+  uint64_t count = fill(bytes), w = width(), end = below(8 * count + 1), place = below(end + 1);
   hundurzek_probed got = hundurzek_take_field(bytes, count, end, place, w);
-  size_t missing = place + w > end ? place + w - end : 0;
+  uint64_t missing = place + w > end ? place + w - end : 0;
   if (w > 56)
-    expect(got.value == UINT64_MAX && got.missing == SIZE_MAX, "take_field, too wide");
+    expect(got.value == UINT64_MAX && got.missing == UINT64_MAX, "take_field, too wide");
   else
     expect(got.missing == missing && got.value == (missing ? 0 : field(bytes, count, place, w)), "take_field");
 }
 
 static void write_one(void) {
   uint8_t part[LONGEST], want[LONGEST];
-  size_t count = fill(part), w = width(), skip = below(9);
+  uint64_t count = fill(part), w = width(), skip = below(9);
   uint64_t value = below(6) ? (w == 0 || w > 63 ? 0 : next() >> (64 - w)) : next();
   bool can = skip < 8 && w <= 56 && skip + w <= 8 * count && value >> w == 0;
   memcpy(want, part, LONGEST);
-  for (size_t k = 0; can && k < w; k++) set_bit(want, skip + k, value >> (w - 1 - k) & 1);
+  for (uint64_t k = 0; can && k < w; k++) set_bit(want, skip + k, value >> (w - 1 - k) & 1);
   bool got = hundurzek_write_field(part, count, skip, w, value);
   expect(got == can && memcmp(part, want, LONGEST) == 0, "write_field");
 }
 
 static void zero_one(void) {
   uint8_t bytes[LONGEST] = {0};
-  size_t count = below(LONGEST + 1), end = below(8 * count + 1), place = below(end + 2);
+  uint64_t count = below(LONGEST + 1), end = below(8 * count + 1), place = below(end + 2);
   if (count && below(3)) set_bit(bytes, below(8 * count), 1);
   bool zero = true;
-  for (size_t k = place; k < end; k++) zero = zero && bit(bytes, count, k) == 0;
+  for (uint64_t k = place; k < end; k++) zero = zero && bit(bytes, count, k) == 0;
   expect(hundurzek_zero_from(bytes, count, end, place) == zero, "zero_from");
 }
 
 static void signed_one(void) {
-  size_t w = below(35);
+  uint64_t w = below(35);
   uint64_t n = below(5) ? next() >> (w ? 64 - (w > 32 ? 32 : w) : 0) : next();
   bool good = w >= 1 && w <= 32 && n >> w == 0;
   hundurzek_meant got = hundurzek_to_signed(n, w);
@@ -122,7 +122,7 @@ static void signed_one(void) {
 }
 
 static void unsigned_one(void) {
-  size_t w = below(35);
+  uint64_t w = below(35);
   int32_t z = (int32_t)((int64_t)(next() >> 32) - INT64_C(0x80000000));
   if (below(4)) z /= (int32_t)1 << below(31);
   bool good = w >= 1 && w <= 32 && z >= -(INT64_C(1) << (w - 1)) && z < INT64_C(1) << (w - 1);

@@ -7,8 +7,8 @@
 
 enum { ROW_BYTES = 4 * HUNDURZEK_ROW };
 
-/* What is counted: each answer, and each sub type of the messages read. */
-enum { ANSWERS = HUNDURZEK_MESSAGE + 1, SUBTYPE = ANSWERS };
+/* What is counted: each stop, messages, and each sub type of these. */
+enum { MESSAGES = STOPS, SUBTYPE };
 
 enum { FIXED, READ, STRETCH, KINDS };
 static kind kinds[KINDS] = {
@@ -37,23 +37,26 @@ static hundurzek_reading take_expected(void) {
   want.rows = number(4);
   want.raw_offset = number(8);
   want.raw_count = number(8);
-  if (want.answer > HUNDURZEK_MESSAGE || want.rows * ROW_BYTES > rows.count) broken("no such answer");
+  if (want.answer >= STOPS && want.answer != HUNDURZEK_MESSAGE) broken("no such answer");
+  if (want.rows * ROW_BYTES > rows.count) broken("too many rows");
   get(content(rows.want), want.rows * ROW_BYTES);
   get(content(holding.want), holding.count);
   return want;
 }
 
 static void count_answer(kind *k, const hundurzek_reading *want) {
+  bool message = want->answer == HUNDURZEK_MESSAGE;
   k->calls++;
-  k->counts[want->answer]++;
-  if (want->answer == HUNDURZEK_MESSAGE) k->counts[SUBTYPE + want->head.subtype]++;
+  k->counts[message ? MESSAGES : want->answer]++;
+  if (message) k->counts[SUBTYPE + want->head.subtype]++;
 }
 
 /* One reading at the place where the last one ended; goes to the place where it must end. */
 static void compare_reading(kind *k) {
-  hundurzek_reading want = take_expected();
-  hundurzek_reading got = hundurzek_read(content(holding.got), holding.count, content(stretch.got), stretch.count,
-                                         now.end, now.place, numbers(rows.got), rows.count / 4);
+  hundurzek_reading want = take_expected(), got;
+  const void *out = hundurzek_read(&got, content(holding.got), holding.count, content(stretch.got), stretch.count,
+                                   now.end, now.place, numbers(rows.got), rows.count / 4);
+  if (out != &got) differ("another pointer is returned");
   compare("answer", got.answer, want.answer);
   compare("place", got.place, want.place);
   compare("row count", got.rows, want.rows);
@@ -82,7 +85,7 @@ static void compare_empty(void) {
     memset(content(holding.got), 0x5A, count);
     memset(content(holding.want), 0x5A, count);
     if (room) memset(content(holding.want), 0, HUNDURZEK_HOLDING);
-      compare("answer", hundurzek_empty(content(holding.got), count), room ? 0 : 1);
+    compare("answer", hundurzek_empty(content(holding.got), count), room ? 0 : 1);
     compare_lent();
   }
 }
@@ -95,11 +98,11 @@ static void judge(const char *what, unsigned long which, size_t count, unsigned 
   need(kinds[READ].counts[count] >= least, what, which);
 }
 
-/* Every answer and every sub type often, messages over a third of the single readings. */
+/* Every stop and every sub type often, messages over a third of the single readings. */
 static void judge_all(void) {
   static const unsigned subtypes[] = {1, 2, 3, 4, 5, 10, 11};
-  for (unsigned i = 0; i < HUNDURZEK_MESSAGE; i++) judge("answer", i, i, 1000);
-  judge("answer", HUNDURZEK_MESSAGE, HUNDURZEK_MESSAGE, kinds[READ].calls / 3 + 1);
+  for (unsigned i = 0; i < STOPS; i++) judge("answer", i, i, 1000);
+  judge("answer", HUNDURZEK_MESSAGE, MESSAGES, kinds[READ].calls / 3 + 1);
   for (size_t i = 0; i < sizeof subtypes / sizeof *subtypes; i++)
     judge("sub type", subtypes[i], SUBTYPE + subtypes[i], 1000);
 }

@@ -6,7 +6,7 @@
 
 /* What is counted: each stop, each stop after a message, walks of many messages, and walks that were lent what the
    walk before left. */
-enum { STOPS = 13, AFTER = STOPS, LONG = 2 * STOPS, KEPT, MANY = 30 };
+enum { AFTER = STOPS, LONG = 2 * STOPS, KEPT, MANY = 30 };
 
 enum { BENCH, WALK, KINDS };
 static kind kinds[KINDS] = {
@@ -39,10 +39,11 @@ static void compare_walk(kind *k) {
   static uint8_t left[HUNDURZEK_HOLDING]; /* by the walk before */
   bool sufficient = holding.count >= sizeof left;
   bool kept = sufficient && memcmp(content(holding.got), left, sizeof left) == 0;
-  hundurzek_walked want = take_expected();
-  hundurzek_walked got = hundurzek_walk(content(holding.got), holding.count, content(stretch.got), stretch.count,
-                                        now.end, numbers(rows.got), rows.count / 4);
+  hundurzek_walked want = take_expected(), got;
+  const void *out = hundurzek_walk(&got, content(holding.got), holding.count, content(stretch.got), stretch.count,
+                                   now.end, numbers(rows.got), rows.count / 4);
   if (sufficient) memcpy(left, content(holding.got), sizeof left);
+  if (out != &got) differ("another pointer is returned");
   compare("stop", got.answer, want.answer);
   compare("place", got.place, want.place);
   compare("messages", got.messages, want.messages);

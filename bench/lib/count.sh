@@ -1,22 +1,35 @@
-# Sourced by the bench scripts, in the repository's root.
-#   ICOUNT                     the instruction counter
-#   build NAME CRATE WORD..    makes target/bench/NAME from C sources (flags too) and a crate's static library
+# Sourced in the repository's root by what counts instructions.
+#   build NAME CRATE WORD..    makes target/bench/NAME of C sources (flags too) and a crate's static library
 #   count NAME WORD..          runs it with these words: how many instructions it executes
-: "${ICOUNT:=../shared/tools/icount}"
+#   round NAME WORD..          of a program whose last word is a number of rounds: how many a round takes
 . tests/lib/tools.sh
+
+# The counter is a plugin of the emulator, on every machine (Debian 12's: Debian 13's takes no plugins). It runs in the
+# emulator, so it is made for this machine.
+need qemu-x86_64 qemu-user
+need gcc gcc libc6-dev
+mkdir -p target/bench
+gcc $FLAGS -shared -fPIC bench/lib/icount.c -o target/bench/icount.so
 
 build() {
     program=$1
     crate=$2
     shift 2
-    rt staticlib "$crate" >/dev/null
-    mkdir -p target/bench
-    # static: the counter runs the program under an emulator on every machine
-    $CC -static -O2 -std=c11 -Wall -Wextra -Werror -Iinclude "$@" "target/staticlib/lib$crate.a" -o "target/bench/$program"
+    archive "$crate" >/dev/null
+    # static: the emulator needs no x86-64 libraries then
+    $CC -static $FLAGS -Iinclude "$@" "target/staticlib/lib$crate.a" -o "target/bench/$program"
 }
 
 count() {
     program=$1
     shift
-    "$ICOUNT" "target/bench/$program" "$@" 2>&1 | sed -n 's/^instructions //p'
+    qemu-x86_64 -plugin target/bench/icount.so -d plugin -D target/bench/counted "target/bench/$program" "$@"
+    grep -x '[0-9][0-9]*' target/bench/counted
+}
+
+# what comes before and after the rounds falls out of the difference
+round() {
+    two=$(count "$@" 2)
+    one=$(count "$@" 1)
+    echo $((two - one))
 }

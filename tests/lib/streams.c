@@ -105,8 +105,8 @@ static unsigned long told;
 
 void differ(const char *format, ...) {
   if (same && told++ < TOLD) {
-    printf("%s %lu (%s), call %lu at place %zu of %zu bits;", now.kind, now.record, now.family, now.call, now.place,
-           now.end);
+    printf("%s %lu (%s), call %lu", now.kind, now.record, now.family, now.call);
+    printf(" at place %" PRIu64 " of %" PRIu64 " bits;", now.place, now.end);
     printf(" lent: holding of %zu bytes, stretch of %zu, %zu numbers\n", holding.count, stretch.count, rows.count / 4);
   }
   same = false;
@@ -177,13 +177,13 @@ void compare_streams(kind *kinds, size_t count, void compare_record(kind *k)) {
     compare_stream(kind_of(kinds, count, name), compare_record);
   if (letters > 0) broken("it ends early");
   for (size_t k = 0; k < count; k++) need(kinds[k].records >= kinds[k].least, kinds[k].name, kinds[k].records);
-  printf("%18s", "");
+  printf("%19s", "");
   for (size_t k = 0; k < count; k++) printf(" %9s", kinds[k].name);
   printf("\n");
 }
 
 void print_counts(const char *what, unsigned long which, const kind *kinds, size_t count, size_t counted) {
-  printf("%-15s %2lu", what, which);
+  printf("%-15s %3lu", what, which);
   for (size_t k = 0; k < count; k++) printf(" %9lu", kinds[k].counts[counted]);
   printf("\n");
 }

@@ -10,6 +10,9 @@
 
 #include "hundurzek.h"
 
+/* Document 01's answers that are no message: 0 to 12. */
+enum { STOPS = 13 };
+
 /* A kind of stream: how many records of it must come, and what came. A program numbers what it counts as it likes. */
 enum { COUNTS = 32 };
 typedef struct {
@@ -31,7 +34,7 @@ typedef struct {
   const char *kind;
   unsigned long record, call;
   char family[256];
-  size_t end, place;
+  uint64_t end, place;
 } case_name;
 
 extern case_name now;

@@ -1,10 +1,13 @@
 # Sourced by the test and bench scripts: what compiles and runs an x86-64 program here.
 #   CC    compiles C for x86-64, statically linked where the program is emulated
+#   FLAGS go with every C source
 #   RUN   goes in front of such a program; empty on x86-64
 # need COMMAND PACKAGE..: installs Debian's packages where the command is missing.
+# archive CRATE: makes its static library, target/staticlib/libCRATE.a, where there is none since the last change.
 # compile NAME CRATE SOURCE..: makes target/tests/NAME of tests/NAME.c, further sources and the crate's static library.
 # second: makes the second program, target/tests/second.
-# agree NAME STREAM..: runs tests/NAME.c over crate host on these streams of the second program (second/README.md, emit).
+# agree NAME STREAM..: runs tests/NAME.c over crate host on these streams of the second program (second/README.md,
+# emit).
 need() {
     command -v "$1" >/dev/null 2>&1 && return 0
     shift
@@ -15,6 +18,7 @@ need() {
     DEBIAN_FRONTEND=noninteractive apt-get install -y -qq "$@" >/dev/null 2>&1
 }
 
+FLAGS='-O2 -std=c11 -Wall -Wextra -Werror'
 case $(uname -m) in
 x86_64)
     need gcc gcc libc6-dev
@@ -29,13 +33,20 @@ x86_64)
     ;;
 esac
 
+archive() {
+    archived=target/staticlib/lib$1.a
+    if [ ! -f "$archived" ] || [ -n "$(find crates crates.txt -newer "$archived")" ]; then
+        rt staticlib "$1"
+    fi
+}
+
 compile() {
     program=$1
     crate=$2
     shift 2
-    rt staticlib "$crate"
+    archive "$crate"
     mkdir -p target/tests
-    $CC -O2 -std=c11 -Wall -Wextra -Werror -Iinclude -Itests/lib "tests/$program.c" "$@" \
+    $CC $FLAGS -Iinclude -Itests/lib "tests/$program.c" "$@" \
         "target/staticlib/lib$crate.a" -o "target/tests/$program"
 }
 

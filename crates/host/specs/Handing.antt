@@ -28,7 +28,7 @@ noHead = record { subtype = absent; epoch = absent; interval = absent; indicator
 
 -- the answer to a message
 abbrev pub messageNumber : ℕ
-messageNumber = 13
+messageNumber = 255
 
 -- a stop: its number and the start asked for
 unfoldable pub stopped : ℕ → ℕ → Handed

@@ -37,6 +37,9 @@ pub struct Walked {
 // What isn't there.
 const ABSENT: i32 = -32768;
 
+// The answer to a message.
+const MESSAGE: u64 = 255;
+
 // Document 01's number of a refusal.
 fn number(r: Refusal) -> u64
     ensures { λ n. ⌜ n ≡ numberOf r ⌝ }
@@ -57,12 +60,12 @@ fn number(r: Refusal) -> u64
     }
 }
 
-// Document 01's number of a stop; 13 for a message.
+// Document 01's number of a stop, and the one for a message.
 fn answer_number(answer: Answer) -> u64
     ensures { λ n. ⌜ n ≡ answerNumber answer ⌝ }
 {
     match answer {
-        Answer::Message(_, _, _) => 13,
+        Answer::Message(_, _, _) => MESSAGE,
         Answer::Idle => 0,
         Answer::Refused(r) => number(r),
     }
@@ -113,7 +116,7 @@ fn message(head: Head, start: usize, next: usize, rows: usize) -> Handed
     ensures { λ r. ⌜ r ≡ record { answer = messageNumber; place = next; rows = rows; offset = startOf start next; count = countOf start next; head = head } ⌝ }
 {
     Handed {
-        answer: 13,
+        answer: MESSAGE,
         place: next,
         rows,
         offset: first(start, next),
