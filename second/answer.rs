@@ -14,6 +14,9 @@ pub const SIZE: u8 = 10;
 pub const NETWORK: u8 = 11;
 pub const VALUE: u8 = 12;
 
+/// How many of them there are.
+pub const STOPS: usize = VALUE as usize + 1;
+
 /// Idle or a refusal: "each of 0 to 12 returns its number and the start asked
 /// for (0 for the saved form)".
 #[derive(Clone, Copy, Debug, PartialEq, Eq)]

@@ -29,7 +29,8 @@
 //!   u32       number n of readings, 1 or more; the first is made at the start
 //!             and each other at the place that the one before answered
 //!   n times, expected, as docs/HOST.md has it:
-//!     u8      answer: 0 to 12, or 13 for a message
+//!     u8      answer: 0 to 12, or 255 for a message; 64 bits wide in C, but a
+//!             byte holds all there are
 //!     u64     place: after the message; else where the reading was made
 //!     8 x i32 head; eight times -32768 when there is no message
 //!     u32     row count r; 0 when there is no message
@@ -50,6 +51,7 @@
 
 use std::io::{self, Write};
 
+use super::answer::STOPS;
 use super::generate::{bench, filled, plain, single, stretches, sweeps, Case};
 use super::holding::Holding;
 use super::host::{self, Answer, MESSAGE};
@@ -57,8 +59,14 @@ use super::random::Random;
 use super::walk::walk;
 use super::COLUMNS;
 
-/// How often each answer occurred: 0 to 12, and accepted at 13.
-pub type Answers = [usize; 14];
+/// How often each answer occurred.
+#[derive(Default)]
+pub struct Answers {
+    /// Idle and the refusals, each at its number.
+    pub stops: [usize; STOPS],
+    /// Messages, apart from them because their number is far from the others.
+    pub accepted: usize,
+}
 
 /// Readings of a record: a single one, or as many as there are until a stop.
 const SINGLE: usize = 1;
@@ -154,7 +162,10 @@ fn put_readings(
     loop {
         let answer = host::read(&mut holding, &case.bytes, case.bit_length, place, &mut rows);
         put_reading(&mut readings, &answer, &rows, &holding);
-        answers[usize::from(answer.number)] += 1;
+        match answer.number {
+            MESSAGE => answers.accepted += 1,
+            stop => answers.stops[usize::from(stop)] += 1,
+        }
         place = answer.place;
         count += 1;
         if answer.number != MESSAGE || count == most {
@@ -177,8 +188,8 @@ fn put_walk(output: &mut impl Write, answers: &mut Answers, case: &Case) -> io::
     let lent = host::decode(&holding);
     let walk = walk(&lent, &case.bytes, case.bit_length, &mut rows, |_, _, _| {});
     host::put(&walk.holding, &mut holding);
-    answers[usize::from(walk.stop.number)] += 1;
-    answers[usize::from(MESSAGE)] += walk.messages;
+    answers.stops[usize::from(walk.stop.number)] += 1;
+    answers.accepted += walk.messages;
     let mut record = Vec::new();
     put_lent(&mut record, case);
     put(&mut record, u64::from(walk.stop.number), 1);

@@ -10,8 +10,9 @@ use super::{ABSENT, COLUMNS};
 
 /// Bytes of a holding. A slice may be longer; later bytes are left alone.
 pub const HOLDING_BYTES: usize = 194;
-/// The answer number of a message that was read.
-pub const MESSAGE: u8 = 13;
+/// The answer number of a message that was read: past all that document 02
+/// gives to later refusals, so that it stays when they come.
+pub const MESSAGE: u8 = 255;
 
 /// Systems that a holding has room for: the five of document 01's table.
 const SYSTEMS: usize = 5;
@@ -19,7 +20,7 @@ const SYSTEMS: usize = 5;
 /// The answer to a reading, as the host gets it.
 #[derive(Clone, Debug, PartialEq, Eq)]
 pub struct Answer {
-    /// 0 to 12, or 13 for a message.
+    /// 0 to 12, or `MESSAGE`.
     pub number: u8,
     /// After the message; else the start asked for.
     pub place: usize,

@@ -64,12 +64,10 @@ fn emit(emitted: impl FnOnce(&mut Output) -> io::Result<Answers>) -> io::Result<
     Ok(())
 }
 
-/// The distribution over the answer numbers.
+/// The distribution over the answers.
 fn print_answers(answers: &Answers) {
-    for (number, count) in answers.iter().enumerate() {
-        match number {
-            13 => eprintln!("accepted {count}"),
-            _ => eprintln!("{number} {count}"),
-        }
+    for (number, count) in answers.stops.iter().enumerate() {
+        eprintln!("{number} {count}");
     }
+    eprintln!("accepted {}", answers.accepted);
 }

@@ -5,7 +5,7 @@ use super::Group;
 use crate::codec::bits::pack;
 use crate::codec::generate::{filled, single, sweeps};
 use crate::codec::holding::{Holding, Mask, System};
-use crate::codec::host::{decode, encode, put, read, Answer, HOLDING_BYTES, MESSAGE};
+use crate::codec::host::{decode, encode, put, read, Answer, HOLDING_BYTES};
 use crate::codec::random::Random;
 
 const CASES: usize = 40_000;
@@ -170,13 +170,14 @@ pub fn readings(group: &mut Group) {
         let answer = read(&mut holding, &stretch, LISTING_BITS, place, rows);
         (answer, holding.clone())
     };
+    let message = |place, rows, raw, head| Answer { number: 255, place, rows, raw, head };
     let (answer, held) = at(0, &mut rows);
     let head = [1, 100, 5, 0, 3, 1, NO, NO];
-    group.same("mask", answer, Answer { number: MESSAGE, place: 114, rows: 0, raw: 0..15, head });
+    group.same("mask", answer, message(114, 0, 0..15, head));
     group.same("adopted", held.clone(), [&listing_bytes()[..], &[7; 6]].concat());
     let (answer, after) = at(114, &mut rows);
     let head = [3, 100, 2, 0, 3, NO, NO, NO];
-    group.same("clock", answer, Answer { number: MESSAGE, place: 181, rows: 2, raw: 14..23, head });
+    group.same("clock", answer, message(181, 2, 14..23, head));
     group.check("still held", after == held);
     let nothing = |number, place| Answer { number, place, rows: 0, raw: 0..0, head: [NO; 8] };
     group.same("idle", at(181, &mut rows), (nothing(0, 181), held.clone()));

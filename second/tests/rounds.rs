@@ -3,6 +3,7 @@
 
 use super::tools::row_buffer;
 use super::Group;
+use crate::codec::answer::STOPS;
 use crate::codec::bits::bit;
 use crate::codec::generate::messages::{self, Drawn};
 use crate::codec::generate::{filled, masks, single, Case};
@@ -86,7 +87,7 @@ fn check_read(
 /// and any other changes nothing.
 pub fn generated(group: &mut Group) {
     let mut random = Random::new(8);
-    let mut seen = [0; 13];
+    let mut seen = [0; STOPS];
     for _ in 0..GENERATED {
         let case = single::case(&mut random);
         let holding = decode(&case.holding);

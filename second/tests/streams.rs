@@ -5,7 +5,6 @@ use std::io::{self, sink};
 
 use super::Group;
 use crate::codec::emit::{emit_bench, emit_fixed, emit_read, emit_stretch, emit_walk, Answers};
-use crate::codec::host::MESSAGE;
 
 const CASES: usize = 30_000;
 
@@ -19,9 +18,11 @@ pub fn answers(group: &mut Group) {
 }
 
 fn often(group: &mut Group, kind: &str, answers: io::Result<Answers>, least: usize) {
-    for (number, &count) in answers.unwrap_or_default().iter().enumerate() {
+    let Answers { stops, accepted } = answers.unwrap_or_default();
+    for (number, &count) in stops.iter().enumerate() {
         group.check(&format!("{kind}: answer {number}, {count} times"), count >= least);
     }
+    group.check(&format!("{kind}: accepted {accepted} times"), accepted >= least);
 }
 
 pub fn formats(group: &mut Group) {
@@ -78,7 +79,7 @@ fn skip_readings(left: &mut &[u8], holding: usize) -> Option<()> {
         let answer = take(left, 1)?;
         skip(left, 8 + 32)?;
         let rows = take(left, 4)?;
-        if answer > u64::from(MESSAGE) || rows > 256 {
+        if !matches!(answer, 0..=12 | 255) || rows > 256 {
             return None;
         }
         skip(left, 8 + 8 + 32 * rows as usize + holding)?;

@@ -3,7 +3,7 @@
 
 use super::tools::{adopted, head_bits, listing_bits, mask_bits, row_buffer};
 use super::Group;
-use crate::codec::answer::Stop;
+use crate::codec::answer::{Stop, STOPS};
 use crate::codec::bits::pack;
 use crate::codec::generate::{filled, stretches, Case};
 use crate::codec::holding::Holding;
@@ -36,7 +36,7 @@ fn retold(case: &Case, holding: &Holding, rows: &mut [i32]) -> (Walk, usize) {
 pub fn generated(group: &mut Group) {
     by_hand(group);
     let mut run = stretches::Run::new(9);
-    let mut after_messages = [0; 13];
+    let mut after_messages = [0; STOPS];
     let (mut changed, mut kept) = (0, 0);
     for _ in 0..CASES {
         let case = run.case();
