@@ -4,7 +4,7 @@ use mathlib.Core.Path.{_≡_, refl, sym, ap, _∙_}
 use mathlib.Core.Bool.{Bool, true, false}
 use mathlib.Core.List.{List, [], _∷_, _++_, append-nil}
 use Prim.Native.Nat.{ℕ, zero, suc, _+_, _-_, _*_, _/_, _%_, _^_, _<_}
-use native.Mathlib.Nat.{suc-inj, pow-suc, mul-assoc, mul-comm}
+use native.Mathlib.Nat.{add-zero, suc-inj, pow-suc, mul-assoc, mul-comm}
 use native.Mathlib.Numerals.{add-one}
 use native.Mathlib.Omega.{arith}
 use lib.Bits.{bitAnd, and-step, and-self}
@@ -17,7 +17,7 @@ use Rattle.holding.proofs.Places.{ones-places}
 use Rattle.holding.proofs.Spreads.{length-spread}
 use Rattle.holding.specs.Spread.{spread}
 
--- the row that the low bits of a number make over a mask of w bits
+-- the strip that the low bits of a number make over a mask of w bits
 unfoldable pub spreadOf : ℕ → ℕ → ℕ → ℕ
 spreadOf w mask bits = number (spread (spell w mask) (spell (ones mask) bits))
 
@@ -53,25 +53,19 @@ last-bit (suc zero) h = refl
 last-bit (suc (suc b)) h = absurd (omega arith)
 
 -- the ones of a mask with a last place
-ones-even : (mask : ℕ) → ones (mask * 2 + 0) ≡ ones mask
-ones-even mask =
-    let half : (mask * 2 + 0) / 2 ≡ mask = omega arith in
-    let rest : (mask * 2 + 0) % 2 ≡ 0 = omega arith in
-    ones-step (mask * 2 + 0) ∙ rw (half, rest) (omega arith)
+ones-last : (mask d : ℕ) → d < 2 → ones (mask * 2 + d) ≡ ones mask + d
+ones-last mask d bit =
+    let half : (mask * 2 + d) / 2 ≡ mask = omega arith in
+    let rest : (mask * 2 + d) % 2 ≡ d = omega arith in
+    ones-step (mask * 2 + d) ∙ rw (half, rest) (omega arith)
 
-ones-odd : (mask : ℕ) → ones (mask * 2 + 1) ≡ ones mask + 1
-ones-odd mask =
-    let half : (mask * 2 + 1) / 2 ≡ mask = omega arith in
-    let rest : (mask * 2 + 1) % 2 ≡ 1 = omega arith in
-    ones-step (mask * 2 + 1) ∙ rw (half, rest) (omega arith)
-
--- not set: the row is doubled
+-- not set: the strip is doubled
 spread-even : (w mask bits : ℕ) → mask < 2 ^ w → spreadOf (suc w) (mask * 2 + 0) bits ≡ spreadOf w mask bits * 2
 unfolding spreadOf
 spread-even w mask bits small =
-    let row : List Bool → ℕ = λ (x : List Bool). number (spread (spell (suc w) (mask * 2 + 0)) x) in
-    ap (λ (n : ℕ). row (spell n bits)) (ones-even mask)
-    ∙ ap row (sym (append-nil (spell (ones mask) bits)))
+    let strip : List Bool → ℕ = λ (x : List Bool). number (spread (spell (suc w) (mask * 2 + 0)) x) in
+    ap (λ (n : ℕ). strip (spell n bits)) (ones-last mask 0 (omega arith) ∙ add-zero (ones mask))
+    ∙ ap strip (sym (append-nil (spell (ones mask) bits)))
     ∙ spread-last w mask 0 (spell (ones mask) bits) [] small (omega arith) (length-spell (ones mask) bits)
     ∙ omega (arith, last-none)
 
@@ -79,12 +73,12 @@ spread-even w mask bits small =
 spread-odd : (w mask bits : ℕ) → mask < 2 ^ w → spreadOf (suc w) (mask * 2 + 1) bits ≡ spreadOf w mask (bits / 2) * 2 + bits % 2
 unfolding spreadOf
 spread-odd w mask bits small =
-    let row : List Bool → ℕ = λ (x : List Bool). number (spread (spell (suc w) (mask * 2 + 1)) x) in
+    let strip : List Bool → ℕ = λ (x : List Bool). number (spread (spell (suc w) (mask * 2 + 1)) x) in
     let parts : bits ≡ bits / 2 * 2 + bits % 2 = omega arith in
     let bit : bits % 2 < 2 = omega arith in
-    ap (λ (n : ℕ). row (spell n bits)) (ones-odd mask)
-    ∙ ap (λ (n : ℕ). row (spell (ones mask + 1) n)) parts
-    ∙ ap row (spell-append (ones mask) 1 (bits / 2) (bits % 2) bit)
+    ap (λ (n : ℕ). strip (spell n bits)) (ones-last mask 1 (omega arith))
+    ∙ ap (λ (n : ℕ). strip (spell (ones mask + 1) n)) parts
+    ∙ ap strip (spell-append (ones mask) 1 (bits / 2) (bits % 2) bit)
     ∙ spread-last w mask 1 (spell (ones mask) (bits / 2)) (spell 1 (bits % 2)) small (omega arith) (length-spell (ones mask) (bits / 2))
     ∙ ap (λ (n : ℕ). number (spread (spell w mask) (spell (ones mask) (bits / 2))) * 2 + n) (last-bit (bits % 2) bit)
 
@@ -92,18 +86,18 @@ spread-odd w mask bits small =
 pub spread-lt : (w mask bits : ℕ) → spreadOf w mask bits < 2 ^ w
 unfolding spreadOf
 spread-lt w mask bits =
-    let row = spread (spell w mask) (spell (ones mask) bits) in
-    rw (length-spread (spell w mask) (spell (ones mask) bits) ∙ length-spell w mask) at (number-lt row)
+    let strip = spread (spell w mask) (spell (ones mask) bits) in
+    rw (length-spread (spell w mask) (spell (ones mask) bits) ∙ length-spell w mask) at (number-lt strip)
 
--- no place set: no row
+-- no place set: no strip
 pub spread-none : (bits : ℕ) → spreadOf 16 0 bits ≡ 0
 unfolding spreadOf number spread spell ones
 spread-none bits = refl
 
--- the mask without its last place, and the row without the last bit
+-- the mask without its last place, and the strip without the last bit
 pub record Next (w mask bits : ℕ) : Type 0 where
   pub less : bitAnd mask (mask - 1) < mask
-  pub row : spreadOf w mask bits ≡ spreadOf w (bitAnd mask (mask - 1)) (bits / 2) + (mask - bitAnd mask (mask - 1)) * (bits % 2)
+  pub strip : spreadOf w mask bits ≡ spreadOf w (bitAnd mask (mask - 1)) (bits / 2) + (mask - bitAnd mask (mask - 1)) * (bits % 2)
 
 -- by the mask's last place
 next-even : (w mask bits : ℕ) → 0 < mask → mask < 2 ^ w → Next w mask bits → Next (suc w) (mask * 2 + 0) bits
@@ -118,7 +112,7 @@ next-even w mask bits some small n =
     let up = spread-even w mask bits small in
     let up′ = spread-even w rest (bits / 2) (omega (arith, n .less)) in
     let low = doubled mask rest (bits % 2) in
-    record { less = rw and (omega (arith, n .less)); row = rw and (omega (arith, up, up′, low, n .row)) }
+    record { less = rw and (omega (arith, n .less)); strip = rw and (omega (arith, up, up′, low, n .strip)) }
   where
     doubled : (x y d : ℕ) → (x * 2 + 0 - (y * 2 + 0)) * d ≡ (x - y) * d * 2
     doubled x y d =
@@ -134,7 +128,7 @@ next-odd w mask bits small =
     let digit′ : (a - 1) % 2 ≡ 0 = omega arith in
     let and : bitAnd a (a - 1) ≡ mask * 2 + 0 = and-step a (a - 1) ∙ rw (half, half′, digit, digit′, and-self mask) in
     let low : a - (mask * 2 + 0) ≡ 1 = omega arith in
-    record { less = rw and (omega arith); row = rw (and, low) (omega (arith, spread-odd w mask bits small, spread-even w mask (bits / 2) small)) }
+    record { less = rw and (omega arith); strip = rw (and, low) (omega (arith, spread-odd w mask bits small, spread-even w mask (bits / 2) small)) }
 
 pub next : (w mask bits : ℕ) → 0 < mask → mask < 2 ^ w → Next w mask bits
 next zero mask bits some small = absurd (omega arith)

@@ -1,9 +1,7 @@
 pub mod Bitwise
 pub mod Adding
-pub mod StageRuns
-pub mod CellRuns
-pub mod CellsMade
+pub mod Ends
+pub mod StageEnds
 pub mod Holds
-pub mod SystemRuns
+pub mod CellsMade
 pub mod ManySystems
-pub mod Adopting

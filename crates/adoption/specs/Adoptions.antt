@@ -1,5 +1,5 @@
--- What the code answers to a mask message, to one system of it and to all of them, by how crate format's program ends.
-use mathlib.Core.List.{List, [], _∷_, _++_}
+-- What the code answers to a mask message and to one system of it, by how crate format's program ends.
+use mathlib.Core.List.{[], _∷_, _++_}
 use Prim.Native.Nat.{ℕ, _+_}
 use Rattle.adoption.specs.declared.Adoption.{Adoption}
 use Rattle.adoption.specs.declared.Grown.{Grown}
@@ -17,17 +17,20 @@ unfoldable pub adoptionAt : Holding → ℕ → Ended Adopted → Adoption
 adoptionAt old place (well d taken) = record { made = Made.Mask (d .head) (place + taken); holding = pictureOf (mask (d .made)) }
 adoptionAt old place (badly r missing) = record { made = Made.Refused r missing; holding = old }
 
+-- the same by the place where it ends, as all that follows
+unfoldable pub adoptionBy : Holding → Ended Adopted → Adoption
+adoptionBy old (well d next) = record { made = Made.Mask (d .head) next; holding = pictureOf (mask (d .made)) }
+adoptionBy old (badly r missing) = record { made = Made.Refused r missing; holding = old }
+
 -- the mask that a holding holds; one of no systems where it holds none
 unfoldable pub maskIn : Holding → Mask
 maskIn h = maskOr (maskOf h)
 
--- one more system after those of a mask
-unfoldable pub grownAt : Mask → ℕ → Ended System → Grown
-grownAt m place (well s taken) =
-    record { step = Step.Fine (place + taken); holding = pictureOf (mask (record { iod = m .iod; systems = m .systems ++ (s ∷ []) })) }
-grownAt m place (badly r missing) = record { step = Step.Refused r missing; holding = pictureOf (mask m) }
+-- a mask with one more system
+abbrev pub withOne : Mask → System → Mask
+withOne m s = record { iod = m .iod; systems = m .systems ++ (s ∷ []) }
 
--- all systems of a message: the mask with them; or the refusal, and what was held before the message
-unfoldable pub builtAt : Holding → ℕ → ℕ → Ended (List System) → Grown
-builtAt old iod place (well all taken) = record { step = Step.Fine (place + taken); holding = pictureOf (mask (record { iod = iod; systems = all })) }
-builtAt old iod place (badly r missing) = record { step = Step.Refused r missing; holding = old }
+-- one more system after those of a mask
+unfoldable pub grownBy : Mask → Ended System → Grown
+grownBy m (well s next) = record { step = Step.Fine next; holding = pictureOf (mask (withOne m s)) }
+grownBy m (badly r missing) = record { step = Step.Refused r missing; holding = pictureOf (mask m) }

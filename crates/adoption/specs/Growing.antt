@@ -1,12 +1,27 @@
--- A holding with one more system: its slot beside its rows.
-use mathlib.Core.Bool.{Bool, cond}
-use Prim.Native.Nat.{ℕ}
+-- A holding that grows by one more system: what it is before, and its slot beside its strips.
+use mathlib.Core.Path.{_≡_}
+use mathlib.Core.Bool.{Bool, true, cond}
+use Prim.Native.Nat.{ℕ, _+_, _^_, _≤_, _<_}
+use lib.Count.{ones}
 use lib.Dec.{leb}
 use Rattle.adoption.specs.declared.Grown.{Grown}
 use Rattle.adoption.specs.declared.Step.the-variants as Step
 use Rattle.format.specs.declared.Refusal.the-variants as Refusal
 use Rattle.holding.specs.declared.Holding.{Holding}
 use Rattle.holding.specs.Building.{withSystem}
+use Rattle.holding.specs.Pictures.{sound}
+
+-- a sound holding that holds a mask
+pub record HasMask (h : Holding) : Type 0 where
+  pub is-sound : sound h ≡ true
+  pub is-held : h .held ≡ true
+
+-- and has room for a system with these satellites
+pub record HasRoom (h : Holding) (sats : ℕ) : Type 0 where
+  pub has-mask : HasMask h
+  pub slot : h .count < 5
+  pub strips : h .nsat + ones sats ≤ 64
+  pub whole : sats < 2 ^ 40
 
 -- the slot, unless the cells are too many: then what was there before
 unfoldable pub settled : Holding → Holding → ℕ → ℕ → ℕ → Bool → ℕ → Grown

@@ -1,3 +1,4 @@
 pub mod Adoptions
+pub mod Ends
 pub mod Growing
 pub mod Stages

@@ -1,26 +1,25 @@
 // One system of a mask message from its cell flag on: the cell mask is one field, and the test of 256 cells comes
 // after it, or after a zero flag (document 01, "Reader's order").
 ghost use mathlib.Core.Path.{_≡_};
-ghost use mathlib.Core.Bool.{true};
-ghost use Prim.Native.Nat.{_+_, _*_, _^_, _≤_, _<_};
-ghost use lib.Count.{ones};
-ghost use lib.ListN.{length};
-ghost use Rattle.adoption.specs.Adoptions.{maskIn, grownAt};
-ghost use Rattle.adoption.specs.Growing.{settled};
-ghost use Rattle.adoption.specs.Stages.{systemCells};
-ghost use Rattle.bits.specs.BitLists.{spell};
-ghost use Rattle.format.specs.Programs.{run};
-ghost use Rattle.format.specs.Reading.{bitsFrom};
-ghost use Rattle.holding.specs.Pictures.{sound};
+ghost use Prim.Native.Nat.{_<_};
+ghost use Rattle.adoption.specs.Adoptions.{maskIn, grownBy};
+ghost use Rattle.adoption.specs.Ends.{Within, endFrom};
+ghost use Rattle.adoption.specs.Growing.{HasRoom, settled};
+ghost use Rattle.adoption.specs.Stages.{masksBy, cellsBy};
+ghost use Rattle.format.specs.Messages.{systemCells};
 use crate::Grown;
 use crate::Step;
 use crate::grow;
-use bits::read::read_field;
+use bits::read::Taken;
+use bits::read::take_field;
 use format::Refusal;
 use holding::Holding;
 use holding::set_places;
 
-// The system's slot beside its rows, unless the cells are too many: then what was there before.
+// How many bits the flag has.
+const FLAG: usize = 1;
+
+// The system's slot beside its strips, unless the cells are too many: then what was there before.
 fn settle(
     before: Holding,
     grown: Holding,
@@ -45,6 +44,32 @@ fn settle(
     }
 }
 
+// The cell mask at a place, behind a flag that is set.
+fn flagged_cells(
+    h: Holding,
+    bytes: &[u8],
+    end: usize,
+    place: usize,
+    id: u8,
+    satellites: u64,
+    signals: u16,
+) -> Grown
+    requires { ⌜ HasRoom h satellites × Within (now bytes) end place ⌝ }
+    ensures { λ r. ⌜ r ≡ grownBy (maskIn h) (endFrom (cellsBy (maskIn h .systems) id (masksBy satellites signals) 1) (now (bytes .entry)) end place) ⌝ }
+{
+    let n = set_places::count(satellites);
+    let width = n * set_places::count(signals as u64);
+    let left = end - place;
+    if left < width {
+        return Grown {
+            step: Step::Refused(Refusal::Short, width - left),
+            holding: h,
+        };
+    }
+    let grown = grow::cell_strips(h, bytes, place, n, signals);
+    settle(h, grown, id, satellites, signals, true, place + width)
+}
+
 // The flag at a place and what it says of the cells.
 pub fn read_cells(
     h: Holding,
@@ -55,43 +80,22 @@ pub fn read_cells(
     satellites: u64,
     signals: u16,
 ) -> Grown
-    requires { ⌜ (sound h ≡ true) × (h .held ≡ true) × (h .count < 5) × (h .nsat + ones satellites ≤ 64) × (satellites < 2 ^ 40) × (end ≤ 8 * length (now bytes)) × (end < 2 ^ 32) × (place ≤ end) ⌝ }
-    ensures { λ r. ⌜ r ≡ grownAt (maskIn h) place (run (systemCells (maskIn h .systems) id (record { satellites = spell 40 satellites; signals = spell 16 signals })) (bitsFrom (now (bytes .entry)) end place)) ⌝ }
+    requires { ⌜ HasRoom h satellites × Within (now bytes) end place ⌝ }
+    ensures { λ r. ⌜ r ≡ grownBy (maskIn h) (endFrom (systemCells (maskIn h .systems) id (masksBy satellites signals)) (now (bytes .entry)) end place) ⌝ }
 {
-    if place == end {
-        return Grown {
-            step: Step::Refused(Refusal::Short, 1),
+    let taken = take_field(bytes, end, place, FLAG);
+    match taken {
+        Taken::Short(missing) => Grown {
+            step: Step::Refused(Refusal::Short, missing),
             holding: h,
-        };
+        },
+        Taken::Whole(flag) => {
+            let at = place + FLAG;
+            if flag != 0 {
+                return flagged_cells(h, bytes, end, at, id, satellites, signals);
+            }
+            let grown = grow::all_strips(h, set_places::count(satellites), signals);
+            settle(h, grown, id, satellites, signals, false, at)
+        }
     }
-    let n = set_places::count(satellites);
-    let at = place + 1;
-    if read_field(bytes, place, 1) == 0 {
-        return settle(
-            h,
-            grow::all_rows(h, n, signals),
-            id,
-            satellites,
-            signals,
-            false,
-            at,
-        );
-    }
-    let width = n * set_places::count(signals as u64);
-    let left = end - at;
-    if left < width {
-        return Grown {
-            step: Step::Refused(Refusal::Short, width - left),
-            holding: h,
-        };
-    }
-    settle(
-        h,
-        grow::cell_rows(h, bytes, at, n, signals),
-        id,
-        satellites,
-        signals,
-        true,
-        at + width,
-    )
 }

@@ -6,20 +6,26 @@ pub mod stages;
 pub mod systems;
 
 ghost use mathlib.Core.Path.{_≡_};
-ghost use Prim.Native.Nat.{_*_, _^_, _≤_, _<_};
+ghost use Prim.Native.Nat.{_*_, _≤_};
 ghost use lib.ListN.{length};
-ghost use Rattle.adoption.specs.Adoptions.{adoptionAt};
+ghost use Rattle.adoption.specs.Adoptions.{adoptionAt, adoptionBy};
+ghost use Rattle.adoption.specs.Ends.{Within, endFrom};
 ghost use Rattle.adoption.specs.Stages.{afterCommonHead};
-ghost use Rattle.format.specs.Messages.{maskMessage};
+ghost use Rattle.format.specs.Messages.{common, maskMessage};
 ghost use Rattle.format.specs.Programs.{run};
 ghost use Rattle.format.specs.Reading.{bitsFrom};
-ghost use Rattle.heads.specs.Openings.{Small};
-use bits::read::read_field;
+ghost use Rattle.heads.specs.Heads.{Small, commonBy};
+use bits::read::Taken;
+use bits::read::Widths;
+use bits::read::short_by;
+use bits::read::take_field;
+use format::ABSENT;
 use format::Head;
 use format::Refusal;
 use heads::CommonHead;
-use heads::Opened;
+use heads::CommonTaken;
 use heads::heading;
+use heads::parted;
 use holding::Holding;
 
 // One more system: the place after it, or the refusal and how many bits were missing; beside it what is built so far.
@@ -44,34 +50,49 @@ pub struct Adoption {
     pub holding: Holding,
 }
 
+// A mask message's sub type, and how many bits its common head and its number of systems have.
+const MASK: usize = 1;
+
+const COMMON: usize = heads::EPOCH + heads::AFTER_EPOCH;
+
+const COUNT: usize = 4;
+
+// The common head's fields, as a mask has it.
+const HEAD: Widths = Widths {
+    first: heads::EPOCH,
+    second: 4,
+    third: 1,
+    fourth: 4,
+};
+
+// A mask message's common head: as heads::common, whose copy for the other sub types is one of its own for speed.
+fn head(bytes: &[u8], end: usize, place: usize) -> CommonTaken
+    requires { ⌜ (end ≤ 8 * length (now bytes)) × (place ≤ end) ⌝ }
+    ensures { λ r. ⌜ r ≡ commonBy (run (common 20) (bitsFrom (now (bytes .entry)) end place)) ⌝ }
+{
+    let taken = take_field(bytes, end, place, COMMON);
+    match taken {
+        Taken::Whole(n) => CommonTaken::Whole(parted(n)),
+        Taken::Short(_) => CommonTaken::Short(short_by(HEAD, end - place)),
+    }
+}
+
 // A mask message from its number of systems on.
 fn after_head(old: Holding, h: CommonHead, bytes: &[u8], end: usize, place: usize) -> Adoption
-    requires { ⌜ Small h × (end ≤ 8 * length (now bytes)) × (end < 2 ^ 32) × (place ≤ end) ⌝ }
-    ensures { λ r. ⌜ r ≡ adoptionAt old place (run (afterCommonHead h) (bitsFrom (now (bytes .entry)) end place)) ⌝ }
+    requires { ⌜ Small h × Within (now bytes) end place ⌝ }
+    ensures { λ r. ⌜ r ≡ adoptionBy old (endFrom (afterCommonHead h) (now (bytes .entry)) end place) ⌝ }
 {
-    let left = end - place;
-    if left < 4 {
-        return Adoption {
-            made: Made::Refused(Refusal::Short, 4 - left),
+    let taken = take_field(bytes, end, place, COUNT);
+    match taken {
+        Taken::Short(missing) => Adoption {
+            made: Made::Refused(Refusal::Short, missing),
             holding: old,
-        };
-    }
-    let n = read_field(bytes, place, 4);
-    let first = old.adopt(h.iod as u8);
-    let grown = systems::all_systems(old, first, bytes, end, place + 4, n as usize);
-    let step = grown.step;
-    let holding = grown.holding;
-    match step {
-        Step::Refused(r, missing) => Adoption {
-            made: Made::Refused(r, missing),
-            holding,
         },
-        Step::Fine(next) => {
-            let numbers = heading::head(1, h, n as i32, heading::ABSENT, heading::ABSENT);
-            Adoption {
-                made: Made::Mask(numbers, next),
-                holding,
-            }
+        Taken::Whole(n) => {
+            let numbers = heading::head(MASK, h, n as i32, ABSENT, ABSENT);
+            let first = old.adopt(h.iod as u8);
+            let at = place + COUNT;
+            systems::all_systems(old, first, numbers, bytes, end, at, n as usize)
         }
     }
 }
@@ -81,11 +102,11 @@ pub fn adopt(old: Holding, bytes: &[u8], end: usize, place: usize) -> Adoption
     requires { ⌜ (end ≤ 8 * length (now bytes)) × (end ≤ 50850) × (place ≤ end) ⌝ }
     ensures { λ r. ⌜ r ≡ adoptionAt old place (run maskMessage (bitsFrom (now (bytes .entry)) end place)) ⌝ }
 {
-    match heads::common(bytes, end, place, 20) {
-        Opened::Short(missing) => Adoption {
+    match head(bytes, end, place) {
+        CommonTaken::Short(missing) => Adoption {
             made: Made::Refused(Refusal::Short, missing),
             holding: old,
         },
-        Opened::Common(h) => after_head(old, h, bytes, end, place + 29),
+        CommonTaken::Whole(h) => after_head(old, h, bytes, end, place + COMMON),
     }
 }

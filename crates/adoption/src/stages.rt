@@ -1,17 +1,26 @@
 // One system of a mask message up to its cells: its ID, then its masks, each refused at its point (document 01,
 // "Reader's order").
 ghost use mathlib.Core.Path.{_≡_};
-ghost use Prim.Native.Nat.{_*_, _^_, _≤_, _<_};
+ghost use Prim.Native.Nat.{_^_, _≤_, _<_};
 ghost use lib.ListN.{length, take};
-ghost use Rattle.adoption.specs.Stages.{systemId, namedAt, systemMasks, maskedAt};
-ghost use Rattle.format.specs.Programs.{run};
-ghost use Rattle.format.specs.Reading.{bitsFrom};
-use bits::read::read_field;
+ghost use Rattle.adoption.specs.Ends.{Within, endFrom};
+ghost use Rattle.adoption.specs.Stages.{endNamed, endMasked, FitsMasked, signalsAfter};
+ghost use Rattle.bits.specs.BitLists.{spell};
+ghost use Rattle.format.specs.Messages.{systemId, systemMasks};
+use bits::read::Taken;
+use bits::read::take_field;
 use format::Refusal;
 use holding::Holding;
 use holding::assigned;
 use holding::named;
 use holding::set_places;
+
+// How many bits an ID and the two masks have.
+const ID: usize = 4;
+
+const SATELLITE_MASK: usize = 40;
+
+const SIGNAL_MASK: usize = 16;
 
 // An ID that is known and new, and the place after it; or the refusal and how many bits were missing.
 pub enum Named {
@@ -21,21 +30,23 @@ pub enum Named {
 
 // The ID at a place, after count others.
 pub fn read_id(ids: &[u8], count: usize, bytes: &[u8], end: usize, place: usize) -> Named
-    requires { ⌜ (count ≤ length (now ids)) × (end ≤ 8 * length (now bytes)) × (end < 2 ^ 32) × (place ≤ end) ⌝ }
-    ensures { λ r. ⌜ r ≡ namedAt place (run (systemId (take count (now (ids .entry)))) (bitsFrom (now (bytes .entry)) end place)) ⌝ }
+    requires { ⌜ (count ≤ length (now ids)) × Within (now bytes) end place ⌝ }
+    ensures { λ r. ⌜ endNamed r ≡ endFrom (systemId (take count (now (ids .entry)))) (now (bytes .entry)) end place ⌝ }
 {
-    let left = end - place;
-    if left < 4 {
-        return Named::Refused(Refusal::Short, 4 - left);
+    let taken = take_field(bytes, end, place, ID);
+    match taken {
+        Taken::Short(missing) => Named::Refused(Refusal::Short, missing),
+        Taken::Whole(n) => {
+            let id = n as u8;
+            if id as usize >= Holding::SYSTEMS {
+                return Named::Refused(Refusal::System, 0);
+            }
+            if named::named_in(ids, count, id) {
+                return Named::Refused(Refusal::System, 0);
+            }
+            Named::Fine(id, place + ID)
+        }
     }
-    let id = read_field(bytes, place, 4) as u8;
-    if id > 4 {
-        return Named::Refused(Refusal::System, 0);
-    }
-    if named::named_in(ids, count, id) {
-        return Named::Refused(Refusal::System, 0);
-    }
-    Named::Fine(id, place + 4)
 }
 
 // The satellite and the signal mask, and the place after them; or the refusal and how many bits were missing.
@@ -44,28 +55,41 @@ pub enum Masked {
     Refused(Refusal, usize),
 }
 
+// The signal mask at a place, after a satellite mask.
+fn read_signals(id: u8, satellites: u64, bytes: &[u8], end: usize, place: usize) -> Masked
+    requires { ⌜ (id < 5) × (satellites < 2 ^ 40) × Within (now bytes) end place ⌝ }
+    ensures { λ r. ⌜ endMasked r ≡ endFrom (signalsAfter id (spell 40 satellites)) (now (bytes .entry)) end place ⌝ }
+    ensures { λ r. ⌜ FitsMasked r ⌝ }
+{
+    let taken = take_field(bytes, end, place, SIGNAL_MASK);
+    match taken {
+        Taken::Short(missing) => Masked::Refused(Refusal::Short, missing),
+        Taken::Whole(signals) => {
+            if !assigned::signals_assigned(id as usize, signals) {
+                return Masked::Refused(Refusal::Reserved, 0);
+            }
+            Masked::Fine(satellites, signals as u16, place + SIGNAL_MASK)
+        }
+    }
+}
+
 // The masks at a place, after n satellites of other systems.
 pub fn read_masks(n: usize, id: u8, bytes: &[u8], end: usize, place: usize) -> Masked
-    requires { ⌜ (n ≤ 64) × (id < 5) × (end ≤ 8 * length (now bytes)) × (end < 2 ^ 32) × (place ≤ end) ⌝ }
-    ensures { λ r. ⌜ r ≡ maskedAt place (run (systemMasks n id) (bitsFrom (now (bytes .entry)) end place)) ⌝ }
+    requires { ⌜ (n ≤ 64) × (id < 5) × Within (now bytes) end place ⌝ }
+    ensures { λ r. ⌜ endMasked r ≡ endFrom (systemMasks n id) (now (bytes .entry)) end place ⌝ }
+    ensures { λ r. ⌜ FitsMasked r ⌝ }
 {
-    let left = end - place;
-    if left < 40 {
-        return Masked::Refused(Refusal::Short, 40 - left);
+    let taken = take_field(bytes, end, place, SATELLITE_MASK);
+    match taken {
+        Taken::Short(missing) => Masked::Refused(Refusal::Short, missing),
+        Taken::Whole(satellites) => {
+            if !assigned::satellites_assigned(id as usize, satellites) {
+                return Masked::Refused(Refusal::Reserved, 0);
+            }
+            if n + set_places::count(satellites) > Holding::SATELLITES {
+                return Masked::Refused(Refusal::Size, 0);
+            }
+            read_signals(id, satellites, bytes, end, place + SATELLITE_MASK)
+        }
     }
-    let satellites = read_field(bytes, place, 40);
-    if !assigned::satellites_assigned(id as usize, satellites) {
-        return Masked::Refused(Refusal::Reserved, 0);
-    }
-    if n + set_places::count(satellites) > Holding::SATELLITES {
-        return Masked::Refused(Refusal::Size, 0);
-    }
-    if left < 56 {
-        return Masked::Refused(Refusal::Short, 56 - left);
-    }
-    let signals = read_field(bytes, place + 40, 16);
-    if !assigned::signals_assigned(id as usize, signals) {
-        return Masked::Refused(Refusal::Reserved, 0);
-    }
-    Masked::Fine(satellites, signals as u16, place + 56)
 }

@@ -1,25 +1,25 @@
 // The systems of a mask message, one after the other.
 ghost use mathlib.Core.Path.{_≡_};
-ghost use mathlib.Core.Bool.{true};
-ghost use Prim.Native.Nat.{_*_, _^_, _≤_, _<_};
-ghost use lib.ListN.{length};
-ghost use Rattle.adoption.specs.Adoptions.{maskIn, grownAt, builtAt};
-ghost use Rattle.format.specs.Messages.{system, systems};
-ghost use Rattle.format.specs.Programs.{run};
-ghost use Rattle.format.specs.Reading.{bitsFrom};
-ghost use Rattle.holding.specs.Pictures.{sound};
+ghost use Rattle.adoption.specs.Adoptions.{adoptionBy, maskIn, grownBy};
+ghost use Rattle.adoption.specs.Ends.{Within, endFrom};
+ghost use Rattle.adoption.specs.Growing.{HasMask};
+ghost use Rattle.adoption.specs.Stages.{withSystems};
+ghost use Rattle.format.specs.Messages.{system};
+use crate::Adoption;
 use crate::Grown;
+use crate::Made;
 use crate::Step;
 use crate::cells;
 use crate::stages;
 use crate::stages::Masked;
 use crate::stages::Named;
+use format::Head;
 use holding::Holding;
 
 // One more system, at a place.
 pub fn one_system(h: Holding, bytes: &[u8], end: usize, place: usize) -> Grown
-    requires { ⌜ (sound h ≡ true) × (h .held ≡ true) × (end ≤ 8 * length (now bytes)) × (end < 2 ^ 32) × (place ≤ end) ⌝ }
-    ensures { λ r. ⌜ r ≡ grownAt (maskIn h) place (run (system (maskIn h .systems)) (bitsFrom (now (bytes .entry)) end place)) ⌝ }
+    requires { ⌜ HasMask h × Within (now bytes) end place ⌝ }
+    ensures { λ r. ⌜ r ≡ grownBy (maskIn h) (endFrom (system (maskIn h .systems)) (now (bytes .entry)) end place) ⌝ }
 {
     let ids = h.ids;
     match stages::read_id(&ids, h.count, bytes, end, place) {
@@ -39,18 +39,19 @@ pub fn one_system(h: Holding, bytes: &[u8], end: usize, place: usize) -> Grown
     }
 }
 
-// n systems from a place on, on top of a holding that has those before them; where one is refused, another holding is
-// handed back: the one held before the message.
+// n systems from a place on, on top of a holding that has those before them, and the message under a head that they end;
+// where one is refused, another holding is handed back: the one held before the message.
 pub fn all_systems(
     old: Holding,
     first: Holding,
+    numbers: Head,
     bytes: &[u8],
     end: usize,
     place: usize,
     n: usize,
-) -> Grown
-    requires { ⌜ (sound first ≡ true) × (first .held ≡ true) × (end ≤ 8 * length (now bytes)) × (end < 2 ^ 32) × (place ≤ end) ⌝ }
-    ensures { λ r. ⌜ r ≡ builtAt old (maskIn first .iod) place (run (systems n (maskIn first .systems)) (bitsFrom (now (bytes .entry)) end place)) ⌝ }
+) -> Adoption
+    requires { ⌜ HasMask first × Within (now bytes) end place ⌝ }
+    ensures { λ r. ⌜ r ≡ adoptionBy old (endFrom (withSystems numbers n (maskIn first)) (now (bytes .entry)) end place) ⌝ }
 {
     let mut h = first;
     let mut at = place;
@@ -60,8 +61,8 @@ pub fn all_systems(
         let step = grown.step;
         match step {
             Step::Refused(r, missing) => {
-                return Grown {
-                    step: Step::Refused(r, missing),
+                return Adoption {
+                    made: Made::Refused(r, missing),
                     holding: old,
                 };
             }
@@ -72,8 +73,8 @@ pub fn all_systems(
             }
         }
     }
-    Grown {
-        step: Step::Fine(at),
+    Adoption {
+        made: Made::Mask(numbers, at),
         holding: h,
     }
 }

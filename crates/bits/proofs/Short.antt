@@ -1,11 +1,17 @@
 -- When a field is whole, and by how much it is short. Assumes nothing.
-use mathlib.Core.Path.{_≡_}
-use mathlib.Core.List.{List}
-use Prim.Native.Nat.{ℕ, zero, suc, _-_, _≤_, _<_}
+use mathlib.Core.Path.{_≡_, refl}
+use mathlib.Core.Bool.{cond}
+use mathlib.Core.List.{List, [], _∷_}
+use Prim.Native.Nat.{ℕ, zero, suc, _+_, _-_, _≤_, _<_}
 use native.Mathlib.Nat.{suc-pred-eq-of-pos}
+use native.Mathlib.Decide.{decLt}
 use native.Mathlib.Omega.{arith}
+use lib.Dec.{ltb}
+use borrow.Author.Tests.{lt-ltb, le-ltb}
 use Rattle.bits.specs.Places.{field}
-use Rattle.bits.specs.Short.{missing, unlessShort, takenAt}
+use Rattle.bits.specs.Short.{missing, unlessShort, takenAt, bitsOf, shortBy, widthsOf}
+use Rattle.bits.specs.declared.read.Widths.{Widths}
+use Rattle.bits.specs.declared.read.Taken.{Taken}
 use Rattle.bits.specs.declared.read.Taken.the-variants.{Whole, Short}
 
 pub taken-whole : (bs : List ℕ) (end place w : ℕ) → w ≤ end - place → takenAt bs end place w ≡ Whole (field bs place w)
@@ -31,3 +37,50 @@ some-missing whole (suc n) m e =
 pub short-some : (bs : List ℕ) (end place w m : ℕ) → takenAt bs end place w ≡ Short m → 0 < m
 unfolding takenAt
 short-some bs end place w m e = some-missing (field bs place w) (missing end place w) m e
+
+-- ---- fields one after the other
+
+pub widths-sum : (w : Widths) → w .first + w .second + w .third + w .fourth ≡ bitsOf (widthsOf w)
+unfolding bitsOf widthsOf
+widths-sum w = omega arith
+
+-- none is short where the bits of all are there
+pub none-short : (ws : List ℕ) (left : ℕ) → bitsOf ws ≤ left → shortBy ws left ≡ 0
+unfolding bitsOf shortBy
+none-short [] left room = refl
+none-short (w ∷ ws) left room = rw (le-ltb left w (omega arith)) (none-short ws (left - w) (omega arith))
+
+-- and one is where they are not
+pub one-short : (ws : List ℕ) (left : ℕ) → left < bitsOf ws → 0 < shortBy ws left
+unfolding bitsOf shortBy
+one-short [] left over = absurd (omega arith)
+one-short (w ∷ ws) left over = go (decLt left w) (one-short ws (left - w))
+  where
+    go : Dec (left < w) → (left - w < bitsOf ws → 0 < shortBy ws (left - w)) → 0 < cond (ltb left w) (w - left) (shortBy ws (left - w))
+    go (yes short) rest = rw (lt-ltb left w short) (omega arith)
+    go (no there) rest = rw (le-ltb left w (omega arith)) (rest (omega arith))
+
+-- ---- back from what was taken
+
+-- which of two answers it is, where one is known
+module _ (t : Taken) (whole short : ℕ) (left needed : ℕ) (there : needed ≤ left → t ≡ Whole whole) (over : left < needed → t ≡ Short short) where
+  is-whole : (n : ℕ) → t ≡ Whole n → (needed ≤ left) × (n ≡ whole)
+  is-whole n e = go (decLt left needed)
+    where
+      go : Dec (left < needed) → (needed ≤ left) × (n ≡ whole)
+      go (yes h) = let f = over h in absurd (let z : _≡_ {A = ℕ} 0 1 = cc in omega arith)
+      go (no h) = let f = there (omega arith) in (omega arith, cc)
+
+  is-short : (m : ℕ) → t ≡ Short m → (left < needed) × (m ≡ short)
+  is-short m e = go (decLt left needed)
+    where
+      go : Dec (left < needed) → (left < needed) × (m ≡ short)
+      go (yes h) = let f = over h in (h, cc)
+      go (no h) = let f = there (omega arith) in absurd (let z : _≡_ {A = ℕ} 0 1 = cc in omega arith)
+
+module _ (bs : List ℕ) (end place : ℕ) where
+  pub field-whole : (w n : ℕ) → takenAt bs end place w ≡ Whole n → (w ≤ end - place) × (n ≡ field bs place w)
+  field-whole w = is-whole (takenAt bs end place w) (field bs place w) (w - (end - place)) (end - place) w (taken-whole bs end place w) (taken-short bs end place w)
+
+  pub field-short : (w m : ℕ) → takenAt bs end place w ≡ Short m → (end - place < w) × (m ≡ w - (end - place))
+  field-short w = is-short (takenAt bs end place w) (field bs place w) (w - (end - place)) (end - place) w (taken-whole bs end place w) (taken-short bs end place w)

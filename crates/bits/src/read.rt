@@ -3,7 +3,7 @@ use crate::window;
 ghost use mathlib.Core.Path.{_≡_};
 ghost use Prim.Native.Nat.{_+_, _-_, _*_, _/_, _%_, _^_, _≤_, _<_};
 ghost use Rattle.bits.specs.Places.{field};
-ghost use Rattle.bits.specs.Short.{takenAt};
+ghost use Rattle.bits.specs.Short.{takenAt, bitsOf, shortBy, widthsOf};
 
 // The w bits after the first skip of a window.
 pub fn cut(window: u64, skip: usize, w: usize) -> u64
@@ -56,4 +56,31 @@ pub fn take_field(bytes: &[u8], end: usize, place: usize, w: usize) -> Taken
     } else {
         Taken::Short(w - left)
     }
+}
+
+// The widths of fields that stand one after the other: four at most, the later ones being 0 where there are fewer.
+pub struct Widths {
+    pub first: usize,
+    pub second: usize,
+    pub third: usize,
+    pub fourth: usize,
+}
+
+// By how much the first of them is short that is, where fewer bits are left than they have.
+pub fn short_by(w: Widths, left: usize) -> usize
+    requires { ⌜ left < bitsOf (widthsOf w) ⌝ }
+    ensures { λ r. ⌜ r ≡ shortBy (widthsOf w) left ⌝ }
+{
+    if left < w.first {
+        return w.first - left;
+    }
+    let second = left - w.first;
+    if second < w.second {
+        return w.second - second;
+    }
+    let third = second - w.second;
+    if third < w.third {
+        return w.third - third;
+    }
+    w.fourth - (third - w.third)
 }

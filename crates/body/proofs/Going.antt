@@ -47,10 +47,10 @@ module _ (j : ℕ) (old new more : List ℤ) (room : j + length new ≤ length o
 pub lent : {A : Type 0} (j : ℕ) (l : List A) → take (length l - j) (drop j l) ≡ drop j l
 lent j l = take-all (length l - j) (drop j l) (omega (arith, length-drop j l))
 
-flatten-append : (xs ys : List (List ℤ)) → flatten (xs ++ ys) ≡ flatten xs ++ flatten ys
+pub flatten-append : {A : Type 0} (xs ys : List (List A)) → flatten (xs ++ ys) ≡ flatten xs ++ flatten ys
 unfolding flatten
 flatten-append [] ys = refl
-flatten-append (x ∷ xs) ys = ap (λ (l : List ℤ). x ++ l) (flatten-append xs ys) ∙ sym (append-assoc x (flatten xs) (flatten ys))
+flatten-append {A} (x ∷ xs) ys = ap (λ (l : List A). x ++ l) (flatten-append xs ys) ∙ sym (append-assoc x (flatten xs) (flatten ys))
 
 -- the numbers of some lines and of more after them
 numbers-append : (ls ms : List Line) (bs : List ℕ) (at : ℕ) → numbersAt (ls ++ ms) bs at ≡ numbersAt ls bs at ++ numbersAt ms bs (at + bodyWidth ls)
@@ -94,8 +94,18 @@ going-part {bs} some more j at buffer g =
       same = over-length j buffer new rest room ∙ g .same;
     }
 
--- one row: three keys and five values, into the eight numbers from the j-th on
-module _ {bs : List ℕ} {all : List Line} {from : ℕ} {old : List ℤ} (n : Line) (more : List Line) (j at : ℕ) (buffer : List ℤ)
+-- ---- one row
+
+-- the first line's row has room in the eight numbers from the j-th on, and once it stands there those behind it are left
+pub record Row (bs : List ℕ) (all : List Line) (from : ℕ) (old : List ℤ) (n : Line) (more : List Line) (j at : ℕ) (buffer : List ℤ) : Type 0 where
+  pub room : j + 8 ≤ length buffer
+  pub near : at + shapeWidth (n .shape) < 2 ^ 32
+  pub whole : at + shapeWidth (n .shape) + 120 ≤ 8 * length bs
+  pub part : length (take (j + 8 - j) (drop j buffer)) ≡ 8
+  pub written : (w : ℕ) (new : List ℤ) → w ≡ shapeWidth (n .shape) → new ≡ n .keys ++ valuesAt (n .shape) bs at
+      → Going bs all from old more (j + 8) (at + w) (take j buffer ++ (new ++ drop (j + 8 - j) (drop j buffer)))
+
+module _ {bs : List ℕ} {all : List Line} {from : ℕ} {old : List ℤ} (n : Line) (more : List Line) {j at : ℕ} {buffer : List ℤ}
     (keys : length (n .keys) ≡ 3) (columns : length (n .shape) ≡ 5) (g : Going bs all from old (n ∷ more) j at buffer) where
   abbrev row : List ℤ
   row = n .keys ++ valuesAt (n .shape) bs at
@@ -103,26 +113,14 @@ module _ {bs : List ℕ} {all : List Line} {from : ℕ} {old : List ℤ} (n : Li
   eight : length row ≡ 8
   eight = length-append (n .keys) (valuesAt (n .shape) bs at) ∙ omega (arith, values-length (n .shape) bs at)
 
-  pub row-room : j + 8 ≤ length buffer
+  room : j + 8 ≤ length buffer
   unfolding rowsAt flatten
-  row-room = omega (arith, g .room, length-append row (numbersAt more bs (at + shapeWidth (n .shape))), eight)
+  room = omega (arith, g .room, length-append row (numbersAt more bs (at + shapeWidth (n .shape))), eight)
 
-  pub row-near : at + shapeWidth (n .shape) < 2 ^ 32
-  unfolding bodyWidth
-  row-near = omega (arith, g .place, g .near)
-
-  pub row-whole : at + shapeWidth (n .shape) + 120 ≤ 8 * length bs
-  unfolding bodyWidth
-  row-whole = omega (arith, g .place, g .whole)
-
-  pub row-part : length (take (j + 8 - j) (drop j buffer)) ≡ 8
-  row-part = simp length-take (omega (arith, row-room, length-drop j buffer))
-
-  -- the row is written
-  pub row-written : (w : ℕ) (new : List ℤ) → w ≡ shapeWidth (n .shape) → new ≡ n .keys ++ valuesAt (n .shape) bs at
+  written : (w : ℕ) (new : List ℤ) → w ≡ shapeWidth (n .shape) → new ≡ n .keys ++ valuesAt (n .shape) bs at
       → Going bs all from old more (j + 8) (at + w) (take j buffer ++ (new ++ drop (j + 8 - j) (drop j buffer)))
   unfolding over rowsAt flatten bodyWidth
-  row-written w new width e =
+  written w new width e =
       let one : numbersAt (n ∷ []) bs at ≡ new = append-nil row ∙ sym e in
       let long : length (numbersAt (n ∷ []) bs at) ≡ 8 = ap length (append-nil row) ∙ eight in
       let wide : bodyWidth (n ∷ []) ≡ w = omega (arith, width) in
@@ -134,38 +132,54 @@ module _ {bs : List ℕ} {all : List Line} {from : ℕ} {old : List ℤ} (n : Li
       (subst (λ (k : ℕ). Going bs all from old more (j + k) (at + bodyWidth (n ∷ [])) (take j buffer ++ over (numbersAt (n ∷ []) bs at) (drop j buffer))) long
       (going-part (n ∷ []) more j at buffer g)))
 
--- the rows of some lines, by a call that is lent the part from the j-th number on
-module _ {bs : List ℕ} {all : List Line} {from : ℕ} {old : List ℤ} (some more : List Line) (j at : ℕ) (buffer : List ℤ)
-    (g : Going bs all from old (some ++ more) j at buffer) where
-  long : length (numbersAt (some ++ more) bs at) ≡ length (numbersAt some bs at) + length (numbersAt more bs (at + bodyWidth some))
-  long = ap length (numbers-append some more bs at) ∙ length-append (numbersAt some bs at) (numbersAt more bs (at + bodyWidth some))
+  pub going-row : Row bs all from old n more j at buffer
+  unfolding bodyWidth
+  going-row =
+      record {
+        room = room;
+        near = omega (arith, g .place, g .near);
+        whole = omega (arith, g .place, g .whole);
+        part = simp length-take (omega (arith, room, length-drop j buffer));
+        written = written;
+      }
 
-  pub part-start : j ≤ length buffer
-  part-start = omega (arith, g .room)
+-- ---- a call that is lent the part from the j-th number on
 
-  pub part-room : Room some bs at (take (length buffer - j) (drop j buffer))
-  part-room =
-      rw (lent j buffer)
-      (record {
-        room = omega (arith, long, g .room, length-drop j buffer);
-        few = omega (arith, long, g .count, g .few);
-        near = omega (arith, width-append some more, g .place, g .near);
-        whole = omega (arith, width-append some more, g .place, g .whole);
-      })
-
-  pub part-written : (new : List ℤ) (end : End) → Wrote some bs at (take (length buffer - j) (drop j buffer)) new end
+pub record Part (bs : List ℕ) (all : List Line) (from : ℕ) (old : List ℤ) (some more : List Line) (j at : ℕ) (buffer : List ℤ) : Type 0 where
+  pub start : j ≤ length buffer
+  pub room : Room some bs at (take (length buffer - j) (drop j buffer))
+  pub written : (new : List ℤ) (end : End) → Wrote some bs at (take (length buffer - j) (drop j buffer)) new end
       → Going bs all from old more (j + end .filled) (end .at) (take j buffer ++ (new ++ drop (length buffer - j) (drop j buffer)))
-  part-written new end w =
-      let none : drop (length buffer - j) (drop j buffer) ≡ [] = drop-of-length-le (drop j buffer) {i = length buffer - j} (omega (arith, length-drop j buffer)) in
-      let same : new ++ drop (length buffer - j) (drop j buffer) ≡ over (numbersAt some bs at) (drop j buffer) =
-      ap (λ (l : List ℤ). new ++ l) none ∙ append-nil new ∙ w .numbers ∙ ap (over (numbersAt some bs at)) (lent j buffer) in
-      rw (same, w .filled, w .place) (going-part some more j at buffer g)
 
--- no line is left
-pub going-end : {bs : List ℕ} {all : List Line} {from : ℕ} {old : List ℤ} (left : List Line) (j at : ℕ) (buffer : List ℤ) → left ≡ []
+pub going-call : {bs : List ℕ} {all : List Line} {from : ℕ} {old : List ℤ} (some more : List Line) {j at : ℕ} {buffer : List ℤ}
+    → Going bs all from old (some ++ more) j at buffer → Part bs all from old some more j at buffer
+going-call {bs} some more {j} {at} {buffer} g =
+    let long : length (numbersAt (some ++ more) bs at) ≡ length (numbersAt some bs at) + length (numbersAt more bs (at + bodyWidth some)) =
+    ap length (numbers-append some more bs at) ∙ length-append (numbersAt some bs at) (numbersAt more bs (at + bodyWidth some)) in
+    let none : drop (length buffer - j) (drop j buffer) ≡ [] = drop-of-length-le (drop j buffer) {i = length buffer - j} (omega (arith, length-drop j buffer)) in
+    record {
+      start = omega (arith, g .room);
+      room =
+          rw (lent j buffer)
+          (record {
+            room = omega (arith, long, g .room, length-drop j buffer);
+            few = omega (arith, long, g .count, g .few);
+            near = omega (arith, width-append some more, g .place, g .near);
+            whole = omega (arith, width-append some more, g .place, g .whole);
+          });
+      written =
+          λ new end w.
+          let same : new ++ drop (length buffer - j) (drop j buffer) ≡ over (numbersAt some bs at) (drop j buffer) =
+          ap (λ (l : List ℤ). new ++ l) none ∙ append-nil new ∙ w .numbers ∙ ap (over (numbersAt some bs at)) (lent j buffer) in
+          rw (same, w .filled, w .place) (going-part some more j at buffer g);
+    }
+
+-- ---- no line is left
+
+pub going-end : {bs : List ℕ} {all : List Line} {from : ℕ} {old : List ℤ} {left : List Line} {j at : ℕ} {buffer : List ℤ} → left ≡ []
     → Going bs all from old left j at buffer → Wrote all bs from old buffer (record { filled = j; at = at })
 unfolding over rowsAt flatten bodyWidth
-going-end {bs} left j at buffer none g =
+going-end {j = j} {at} {buffer} none g =
     let h : Going _ _ _ _ [] j at buffer = rw none at g in
     record {
       numbers = sym (take-append-drop j buffer) ∙ h .ends;

@@ -1,12 +1,10 @@
-pub mod Fine
-pub mod Going
 pub mod Keys
-pub mod Marks
 pub mod Picks
+pub mod Going
+pub mod Marks
+pub mod Walking
 pub mod Slots
-pub mod SlotCells
+pub mod Groups
 pub mod Sizes
+pub mod Bodies
 pub mod Tails
-pub mod Held
-pub mod HeldLines
-pub mod HeldBodies

@@ -13,7 +13,7 @@ use lib.Seq.{take-at}
 use Rattle.bits.proofs.BitLists.{length-spell, spell-low, spell-append}
 use Rattle.bits.specs.BitLists.{spell}
 use Rattle.format.specs.Masks.{placesFrom, pick}
-use Rattle.holding.proofs.PicturedCells.{pick-nil}
+use Rattle.holding.proofs.PicturedCells.{pick-nil, pick-append}
 use Rattle.holding.proofs.Places.{ones-places, drop-spell}
 
 -- ---- a selection moved up
@@ -43,7 +43,7 @@ spell-up u n c =
 
 module _ {A : Type 0} where
   -- a selection moved up picks with the bits behind those moved out
-  pub pick-up : (c n : ℕ) (xs : List A) → n ≤ 64 → pick (spell 64 (c * 2 ^ n % 2 ^ 64)) xs ≡ pick (drop n (spell 64 c)) xs
+  pick-up : (c n : ℕ) (xs : List A) → n ≤ 64 → pick (spell 64 (c * 2 ^ n % 2 ^ 64)) xs ≡ pick (drop n (spell 64 c)) xs
   pick-up c n xs few =
       let e : 64 ≡ 64 - n + n = omega arith in
       ap (λ (w : ℕ). pick (spell w (c * 2 ^ n % 2 ^ w)) xs) e
@@ -51,20 +51,30 @@ module _ {A : Type 0} where
       ∙ pick-filled (spell (64 - n) c) n xs
       ∙ ap (λ (l : List Bool). pick l xs) (sym (drop-spell n 64 c))
 
-  -- ---- one
-
-  -- the highest bit picks the first
-  pub pick-one : (c : ℕ) (x : A) → 2 ^ 63 ≤ c → c < 2 ^ 64 → pick (spell 64 c) (x ∷ []) ≡ x ∷ []
+  pick-one : (c : ℕ) (x : A) → 2 ^ 63 ≤ c → c < 2 ^ 64 → pick (spell 64 c) (x ∷ []) ≡ x ∷ []
   unfolding pick spell
   pick-one c x set small =
       let e : c / 2 ^ 63 ≡ 1 = omega arith in
       rw e (ap (λ (l : List A). x ∷ l) (pick-nil (spell 63 c)))
 
-  pub pick-none : (c : ℕ) (x : A) → c < 2 ^ 63 → pick (spell 64 c) (x ∷ []) ≡ []
+  pick-none : (c : ℕ) (x : A) → c < 2 ^ 63 → pick (spell 64 c) (x ∷ []) ≡ []
   unfolding pick spell
   pick-none c x clear =
       let e : c / 2 ^ 63 ≡ 0 = omega arith in
       rw e (pick-nil (spell 63 c))
+
+  -- the later of two lists are picked by the selection moved up
+  pub pick-split : (c n : ℕ) (xs ys : List A) → length xs ≡ n → n ≤ 64 → pick (spell 64 c) (xs ++ ys) ≡ pick (spell 64 c) xs ++ pick (spell 64 (c * 2 ^ n % 2 ^ 64)) ys
+  pick-split c n xs ys long few = rw (pick-append (spell 64 c) xs ys, long, pick-up c n ys few)
+
+  -- ---- one
+
+  -- the highest bit picks the first
+  pub pick-set : (c : ℕ) (x : A) (xs : List A) → 2 ^ 63 ≤ c → c < 2 ^ 64 → pick (spell 64 c) (x ∷ xs) ≡ x ∷ pick (spell 64 (c * 2 ^ 1 % 2 ^ 64)) xs
+  pick-set c x xs set small = pick-split c 1 (x ∷ []) xs refl (omega arith) ∙ ap (λ (l : List A). l ++ pick (spell 64 (c * 2 ^ 1 % 2 ^ 64)) xs) (pick-one c x set small)
+
+  pub pick-clear : (c : ℕ) (x : A) (xs : List A) → c < 2 ^ 63 → pick (spell 64 c) (x ∷ xs) ≡ pick (spell 64 (c * 2 ^ 1 % 2 ^ 64)) xs
+  pick-clear c x xs clear = pick-split c 1 (x ∷ []) xs refl (omega arith) ∙ ap (λ (l : List A). l ++ pick (spell 64 (c * 2 ^ 1 % 2 ^ 64)) xs) (pick-none c x clear)
 
   -- ---- all
 
@@ -80,6 +90,13 @@ module _ {A : Type 0} where
   pick-all xs few = pick-trues 64 xs few
 
   -- ---- how many
+
+  pub pick-few : (bits : List Bool) (xs : List A) → length (pick bits xs) ≤ length xs
+  unfolding pick
+  pick-few [] xs = omega arith
+  pick-few (b ∷ bits) [] = omega arith
+  pick-few (true ∷ bits) (x ∷ xs) = omega (arith, pick-few bits xs)
+  pick-few (false ∷ bits) (x ∷ xs) = omega (arith, pick-few bits xs)
 
   pick-count : (bits : List Bool) (xs : List A) (k : ℕ) → length (pick bits xs) ≡ length (placesFrom k (take (length xs) bits))
   unfolding pick placesFrom

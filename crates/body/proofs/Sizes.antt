@@ -1,68 +1,95 @@
 -- How many bits and rows the chosen satellites of slots have. Assumes nothing.
-use mathlib.Core.Path.{_≡_, refl, sym, ap, _∙_}
-use mathlib.Core.List.{List, [], _∷_}
+use mathlib.Core.Path.{_≡_, sym, ap, _∙_}
+use mathlib.Core.List.{List, [], _∷_, map-map, _++_}
 use Prim.Native.Nat.{ℕ, suc, _+_, _-_, _*_, _/_, _%_, _^_, _≤_, _<_}
-use native.Mathlib.Nat.{suc-mul, zero-mul}
+use native.Mathlib.Nat.{mul-comm, mul-suc}
 use native.Mathlib.Omega.{arith}
 use lib.Count.{ones, ones-le}
 use lib.Pow.{shr-le}
-use lib.ListN.{length, getD, drop, length-append, length-map}
+use lib.ListN.{length, getD, length-append, length-map}
 use Rattle.bits.specs.BitLists.{spell}
+use Rattle.format.proofs.Lengths.{satellite-width, total-same}
+use Rattle.format.specs.Lengths.{total}
 use Rattle.format.specs.Masks.{Satellite, pick}
 use Rattle.format.specs.Messages.{satelliteLines}
-use Rattle.format.specs.Rows.{Column, shapeWidth, bodyWidth}
+use Rattle.format.specs.Rows.{Column, Line, shapeWidth, bodyWidth}
+use Rattle.holding.specs.Held.{satellitesIn}
 use Rattle.rows.proofs.RowsAt.{width-append}
-use Rattle.body.specs.Slots.{satellitesIn, slotSatellites, chosenLines}
-use Rattle.body.proofs.Picks.{picked}
-use Rattle.body.proofs.Slots.{slot-count, chosen-next}
+use Rattle.rows.proofs.Table.{width-at}
+use Rattle.rows.specs.Table.{shapeAt}
+use Rattle.body.specs.Chosen.{alone, chosenLines}
+use Rattle.body.specs.Written.{Counts}
+use Rattle.body.proofs.Groups.{alone-length, alone-append, alone-chosen}
+use Rattle.body.proofs.Picks.{picked, pick-few}
+use Rattle.body.proofs.Slots.{inSlot, fromSlot, Slot}
+use Rattle.body.proofs.Walking.{chosen-split}
 
 -- a selection of n satellites chooses at most 64
 pub few-ones : (c n : ℕ) → c < 2 ^ 64 → n ≤ 64 → ones (c / 2 ^ (64 - n)) ≤ 64
 few-ones c n small few = ones-le 64 (c / 2 ^ (64 - n)) (omega (arith, shr-le c (64 - n)))
 
--- lines of one width
-pub same-width : (shape : ℕ → List Column) (width : ℕ) (sats : List Satellite) → ((system : ℕ) → shapeWidth (shape system) ≡ width)
-    → bodyWidth (satelliteLines shape sats) ≡ length sats * width
-unfolding satelliteLines bodyWidth
-same-width shape width [] e = sym (zero-mul width)
-same-width shape width (s ∷ sats) e = omega (arith, e (s .system), same-width shape width sats e, suc-mul (length sats) width)
+-- ---- satellites whose rows are of one width
 
--- the satellites of one shape that a selection chooses
-module _ (columns : List Column) (c n some : ℕ) (sats : List Satellite) (small : c < 2 ^ 64) (many : length sats ≡ n) (few : n ≤ 64) (e : some ≡ ones (c / 2 ^ (64 - n))) where
-  pub chosen-rows : length (chosenLines (λ _. columns) c sats) ≡ some
-  unfolding chosenLines satelliteLines
-  chosen-rows =
-      length-map (pick (spell 64 c) sats) _ ∙ picked c sats small (omega (arith, many, few)) ∙ ap (λ (k : ℕ). ones (c / 2 ^ (64 - k))) many ∙ sym e
+pub satellites-alike : (shape : ℕ → List Column) (width c n some : ℕ) (sats : List Satellite) → ((system : ℕ) → shapeWidth (shape system) ≡ width) → c < 2 ^ 64 → length sats ≡ n → n ≤ 64
+    → some ≡ ones (c / 2 ^ (64 - n)) → Counts (satelliteLines shape (pick (spell 64 c) sats)) (record { bits = some * width; rows = some })
+unfolding satelliteLines
+satellites-alike shape width c n some sats same small many few e =
+    let chosen : List Satellite = pick (spell 64 c) sats in
+    let rows : some ≡ length chosen = e ∙ ap (λ (k : ℕ). ones (c / 2 ^ (64 - k))) (sym many) ∙ sym (picked c sats small (omega arith)) in
+    record {
+      bits = ap (λ (k : ℕ). k * width) rows ∙ mul-comm (length chosen) width ∙ sym (satellite-width shape chosen ∙ total-same _ width chosen (λ s. same (s .system)));
+      rows = rows ∙ sym (length-map chosen _);
+    }
 
-  pub chosen-bits : bodyWidth (chosenLines (λ _. columns) c sats) ≡ some * shapeWidth columns
-  unfolding chosenLines satelliteLines
-  chosen-bits = same-width (λ _. columns) (shapeWidth columns) (pick (spell 64 c) sats) (λ system. refl) ∙ ap (λ (k : ℕ). k * shapeWidth columns) (sym (length-map (pick (spell 64 c) sats) _) ∙ chosen-rows)
+-- ---- those of one slot are of one system
 
--- those of the next slot, and those of the others
-module _ (shape : ℕ → List Column) (c n some width : ℕ) (columns : List Column) (ids masks : List ℕ) (i : ℕ) (inside : i < length ids) (within : i < length masks)
-    (small : getD masks i 0 < 2 ^ 40) (same : columns ≡ shape (getD ids i 0)) (many : n ≡ ones (getD masks i 0)) (fits : c < 2 ^ 64)
-    (e : some ≡ ones (c / 2 ^ (64 - n))) (wide : width ≡ shapeWidth columns) where
-  abbrev here : List Satellite
-  here = satellitesIn 64 (getD ids i 0) (getD masks i 0 * 2 ^ 24 % 2 ^ 64)
+alone-system : (shape : ℕ → List Column) (id x : ℕ) → alone shape (satellitesIn 64 id x) ≡ alone (λ _. shape id) (satellitesIn 64 id x)
+unfolding alone satelliteLines satellitesIn
+alone-system shape id x = simp map-map
 
-  count : length here ≡ n
-  count = slot-count ids masks i n inside within small many .0
+-- the bits and rows of the next slot and those of the others
+module _ (shape : ℕ → List Column) (ids masks : List ℕ) (i c n some width : ℕ) (slot : Slot ids masks i) (small : c < 2 ^ 64) (many : n ≡ ones (getD masks i 0))
+    (e : some ≡ ones (c / 2 ^ (64 - n))) (wide : width ≡ shapeWidth (shape (getD ids i 0))) where
+  here : Counts (chosenLines c (alone shape (inSlot ids masks i))) (record { bits = some * width; rows = some })
+  here =
+      let id : ℕ = getD ids i 0 in
+      let sats : List Satellite = inSlot ids masks i in
+      let one : chosenLines c (alone shape sats) ≡ satelliteLines (λ _. shape id) (pick (spell 64 c) sats) =
+      ap (chosenLines c) (alone-system shape id (getD masks i 0 * 2 ^ 24 % 2 ^ 64)) ∙ alone-chosen (λ _. shape id) c sats in
+      rw one (satellites-alike (λ _. shape id) width c n some sats (λ system. sym wide) small (slot .count ∙ sym many) (omega (arith, slot .few, slot .count)) e)
 
-  few : n ≤ 64
-  few = omega (arith, many, ones-le 40 (getD masks i 0) small)
+  lines : chosenLines c (alone shape (fromSlot ids masks i)) ≡ chosenLines c (alone shape (inSlot ids masks i)) ++ chosenLines (c * 2 ^ n % 2 ^ 64) (alone shape (fromSlot ids masks (suc i)))
+  lines =
+      ap (chosenLines c) (alone-append shape _ _ (slot .both))
+      ∙ chosen-split c n (alone shape (inSlot ids masks i)) _ (alone-length shape (inSlot ids masks i) ∙ slot .count ∙ sym many) (omega (arith, slot .few, slot .count))
 
-  pub slot-bits : bodyWidth (chosenLines shape c (slotSatellites (drop i ids) (drop i masks)))
-      ≡ some * width + bodyWidth (chosenLines shape (c * 2 ^ n % 2 ^ 64) (slotSatellites (drop (suc i) ids) (drop (suc i) masks)))
-  slot-bits =
-      let others = bodyWidth (chosenLines shape (c * 2 ^ n % 2 ^ 64) (slotSatellites (drop (suc i) ids) (drop (suc i) masks))) in
-      ap bodyWidth (chosen-next shape c n columns ids masks i inside within small same many)
-      ∙ width-append (chosenLines (λ _. columns) c here) _
-      ∙ ap (λ (k : ℕ). k + others) (chosen-bits columns c n some here fits count few e ∙ ap (λ (k : ℕ). some * k) (sym wide))
+  pub slot-bits : bodyWidth (chosenLines c (alone shape (fromSlot ids masks i))) ≡ some * width + bodyWidth (chosenLines (c * 2 ^ n % 2 ^ 64) (alone shape (fromSlot ids masks (suc i))))
+  slot-bits = ap bodyWidth lines ∙ width-append (chosenLines c (alone shape (inSlot ids masks i))) _ ∙ omega (arith, here .bits)
 
-  pub slot-rows : length (chosenLines shape c (slotSatellites (drop i ids) (drop i masks)))
-      ≡ some + length (chosenLines shape (c * 2 ^ n % 2 ^ 64) (slotSatellites (drop (suc i) ids) (drop (suc i) masks)))
-  slot-rows =
-      let others = length (chosenLines shape (c * 2 ^ n % 2 ^ 64) (slotSatellites (drop (suc i) ids) (drop (suc i) masks))) in
-      ap length (chosen-next shape c n columns ids masks i inside within small same many)
-      ∙ length-append (chosenLines (λ _. columns) c here) _
-      ∙ ap (λ (k : ℕ). k + others) (chosen-rows columns c n some here fits count few e)
+  pub slot-rows : length (chosenLines c (alone shape (fromSlot ids masks i))) ≡ some + length (chosenLines (c * 2 ^ n % 2 ^ 64) (alone shape (fromSlot ids masks (suc i))))
+  slot-rows = ap length lines ∙ length-append (chosenLines c (alone shape (inSlot ids masks i))) _ ∙ omega (arith, here .rows)
+
+-- ---- at most 64 satellites of at most 71 bits
+
+pub total-most : {A : Type 0} (f : A → ℕ) (k : ℕ) (xs : List A) → ((x : A) → f x ≤ k) → total f xs ≤ k * length xs
+unfolding total
+total-most f k [] most = omega arith
+total-most f k (x ∷ xs) most = omega (arith, most x, total-most f k xs most, mul-suc k (length xs))
+
+-- how many lines there are, and how wide
+pub record Few (lines : List Line) : Type 0 where
+  pub rows : length lines ≤ 256
+  pub bits : bodyWidth lines ≤ 4544
+
+pub few-satellites : (shape c : ℕ) (sats : List Satellite) → shape < 8 → length sats ≤ 64 → Few (satelliteLines (shapeAt shape) (pick (spell 64 c) sats))
+unfolding satelliteLines
+few-satellites shape c sats some few =
+    let chosen : List Satellite = pick (spell 64 c) sats in
+    let less = pick-few (spell 64 c) sats in
+    record {
+      rows = rw length-map (omega arith);
+      bits = omega (arith, satellite-width (shapeAt shape) chosen, total-most (λ (s : Satellite). shapeWidth (shapeAt shape (s .system))) 71 chosen (λ s. width-at (s .system) shape some));
+    }
+
+pub few-alone : (shape c : ℕ) (sats : List Satellite) → shape < 8 → length sats ≤ 64 → Few (chosenLines c (alone (shapeAt shape) sats))
+few-alone shape c sats some few = rw (alone-chosen (shapeAt shape) c sats) (few-satellites shape c sats some few)

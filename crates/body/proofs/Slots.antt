@@ -1,111 +1,101 @@
--- The satellites of slots, one after the other, and the lines of those that a selection chooses.
--- Assumes nothing.
-use mathlib.Core.Path.{_≡_, refl, sym, ap, _∙_}
-use mathlib.Core.List.{List, [], _∷_, _++_, map-map, map-append}
-use Prim.Native.Nat.{ℕ, suc, _+_, _-_, _*_, _%_, _^_, _≤_, _<_}
+-- The satellites of slots, one after the other, and the cells of a satellite. Assumes nothing.
+use mathlib.Core.Path.{_≡_, sym, ap, _∙_}
+use mathlib.Core.Bool.{true}
+use mathlib.Core.List.{List, [], _∷_, _++_}
+use Prim.Native.Nat.{ℕ, suc, _-_, _*_, _%_, _^_, _≤_, _<_}
 use native.Mathlib.Omega.{arith}
 use lib.Count.{ones, leadingZeros, ones-le}
-use lib.IntN.{pos}
-use lib.ListN.{length, getD, drop, length-append, length-map, drop-of-length-le}
+use lib.ListN.{length, getD, drop, length-map, drop-of-length-le}
+use lib.Pow.{pow-pos}
 use lib.Seq.{drop-cons}
 use Rattle.bits.specs.BitLists.{spell}
 use Rattle.format.specs.Masks.{Satellite, placesFrom}
-use Rattle.format.specs.Messages.{satelliteLines}
-use Rattle.format.specs.Rows.{Column, Line, absent}
-use Rattle.holding.proofs.Kths.{spots-up}
-use Rattle.holding.proofs.PicturedCells.{pick-nil, pick-append, pick-map}
-use Rattle.holding.proofs.Places.{ones-places, no-place, next-place}
-use Rattle.body.specs.Slots.{satellitesIn, slotSatellites, chosenLines}
-use Rattle.body.proofs.Picks.{pick-up, pick-one, pick-none}
+use Rattle.holding.proofs.Bounds.{below-at}
+use Rattle.holding.proofs.Places.{ones-places, no-place, next-place, places-shifted}
+use Rattle.holding.specs.Bounds.{narrow}
+use Rattle.holding.specs.Held.{satellitesIn, slotSatellites}
+use Rattle.body.specs.Chosen.{cellsIn}
 
--- ---- the satellites of one slot
+-- ---- the places of a word
 
-pub none-in : (w id : ℕ) → satellitesIn w id 0 ≡ []
+-- it has one, and fewer without it
+pub record Next (x rest : ℕ) : Type 0 where
+  pub inside : leadingZeros 64 x < 64
+  pub fewer : rest < x
+
+module _ (x rest : ℕ) (some : 0 < x) (small : x < 2 ^ 64) (e : rest ≡ x - 2 ^ (63 - leadingZeros 64 x)) where
+  pub next : Next x rest
+  next = let p = next-place x some small in record { inside = p .0; fewer = omega (arith, p .1, pow-pos (63 - leadingZeros 64 x)) }
+
+  -- the satellite there, and the cell
+  pub next-in : (id : ℕ) → satellitesIn 64 id x ≡ record { system = id; number = suc (leadingZeros 64 x) } ∷ satellitesIn 64 id rest
+  unfolding satellitesIn
+  next-in id = rw (next-place x some small .2, e)
+
+  pub next-of : (sat : Satellite) → cellsIn 64 sat x ≡ record { satellite = sat; signal = leadingZeros 64 x } ∷ cellsIn 64 sat rest
+  unfolding cellsIn
+  next-of sat = rw (next-place x some small .2, e)
+
+pub none-in : (id : ℕ) {x : ℕ} → x ≡ 0 → satellitesIn 64 id x ≡ []
 unfolding satellitesIn
-none-in w id = rw (no-place w 0)
+none-in id e = rw (e, no-place 64 0)
 
--- the first one, and the mask without it
-pub next-in : (id x rest : ℕ) → 0 < x → x < 2 ^ 64 → rest ≡ x - 2 ^ (63 - leadingZeros 64 x)
-    → satellitesIn 64 id x ≡ record { system = id; number = suc (leadingZeros 64 x) } ∷ satellitesIn 64 id rest
-unfolding satellitesIn
-next-in id x rest some small e = rw (next-place x some small .2, e)
+pub none-of : (sat : Satellite) {x : ℕ} → x ≡ 0 → cellsIn 64 sat x ≡ []
+unfolding cellsIn
+none-of sat e = rw (e, no-place 64 0)
+
+-- a strip of 16 bits moved up
+pub up-of : (sat : Satellite) (strip : ℕ) → strip < 2 ^ 16 → cellsIn 64 sat (strip * 2 ^ 48 % 2 ^ 64) ≡ cellsIn 16 sat strip
+unfolding cellsIn
+up-of sat strip small = rw (places-shifted 16 48 strip small (omega arith))
+
+-- and how many cells it has
+pub count-of : (sat : Satellite) (strip : ℕ) → strip < 2 ^ 16 → length (cellsIn 16 sat strip) ≡ ones strip
+unfolding cellsIn
+count-of sat strip small = length-map (placesFrom 0 (spell 16 strip)) _ ∙ sym (ones-places 16 strip 0 small)
+
+-- ---- slots
 
 -- a mask of 40 bits moved up
-pub up-in : (id m : ℕ) → m < 2 ^ 40 → satellitesIn 64 id (m * 2 ^ 24 % 2 ^ 64) ≡ satellitesIn 40 id m
+up-in : (id m : ℕ) → m < 2 ^ 40 → satellitesIn 64 id (m * 2 ^ 24 % 2 ^ 64) ≡ satellitesIn 40 id m
 unfolding satellitesIn
-up-in id m small = rw (spots-up 40 24 m small (omega arith))
+up-in id m small = rw (places-shifted 40 24 m small (omega arith))
 
-pub count-in : (w id m : ℕ) → m < 2 ^ w → length (satellitesIn w id m) ≡ ones m
+count-in : (id m : ℕ) → m < 2 ^ 40 → length (satellitesIn 40 id m) ≡ ones m
 unfolding satellitesIn
-count-in w id m small = length-map (placesFrom 0 (spell w m)) _ ∙ sym (ones-places w m 0 small)
+count-in id m small = length-map (placesFrom 0 (spell 40 m)) _ ∙ sym (ones-places 40 m 0 small)
 
--- ---- of all slots
+module _ (ids masks : List ℕ) (i : ℕ) where
+  -- the satellites of the i-th slot, and those from it on
+  abbrev pub inSlot : List Satellite
+  inSlot = satellitesIn 64 (getD ids i 0) (getD masks i 0 * 2 ^ 24 % 2 ^ 64)
 
--- those of the next slot, then those of the others
-pub next-slot : (ids masks : List ℕ) (i : ℕ) → i < length ids → i < length masks
-    → slotSatellites (drop i ids) (drop i masks) ≡ satellitesIn 40 (getD ids i 0) (getD masks i 0) ++ slotSatellites (drop (suc i) ids) (drop (suc i) masks)
+  abbrev pub fromSlot : List Satellite
+  fromSlot = slotSatellites (drop i ids) (drop i masks)
+
+pub record Slot (ids masks : List ℕ) (i : ℕ) : Type 0 where
+  pub inside : i < length masks
+  pub both : fromSlot ids masks i ≡ inSlot ids masks i ++ fromSlot ids masks (suc i)
+  pub count : length (inSlot ids masks i) ≡ ones (getD masks i 0)
+  pub few : length (inSlot ids masks i) ≤ 40
+
+pub slot-at : (ids masks : List ℕ) (i : ℕ) → length ids ≤ length masks → narrow 40 masks ≡ true → i < length ids → Slot ids masks i
 unfolding slotSatellites
-next-slot ids masks i inside within = rw (drop-cons ids i 0 inside, drop-cons masks i 0 within)
-
--- how many the next slot has, and how many the others
-pub slot-count : (ids masks : List ℕ) (i m : ℕ) → i < length ids → i < length masks → getD masks i 0 < 2 ^ 40 → m ≡ ones (getD masks i 0)
-    → (length (satellitesIn 64 (getD ids i 0) (getD masks i 0 * 2 ^ 24 % 2 ^ 64)) ≡ m)
-    × (length (slotSatellites (drop i ids) (drop i masks)) ≡ m + length (slotSatellites (drop (suc i) ids) (drop (suc i) masks)))
-slot-count ids masks i m inside within small many =
-    let here : List Satellite = satellitesIn 40 (getD ids i 0) (getD masks i 0) in
-    let others : List Satellite = slotSatellites (drop (suc i) ids) (drop (suc i) masks) in
-    let count : length here ≡ m = count-in 40 (getD ids i 0) (getD masks i 0) small ∙ sym many in (
-      ap length (up-in (getD ids i 0) (getD masks i 0) small) ∙ count,
-      ap length (next-slot ids masks i inside within) ∙ length-append here others ∙ ap (λ (k : ℕ). k + length others) count,
-    )
-
--- ---- chosen ones
-
-module _ (shape : ℕ → List Column) where
-  pub chosen-nil : (c : ℕ) → chosenLines shape c [] ≡ []
-  unfolding chosenLines satelliteLines
-  chosen-nil c = rw (pick-nil (spell 64 c))
-
-  -- the selection moved up chooses among the later ones
-  chosen-append : (c n : ℕ) (xs ys : List Satellite) → length xs ≡ n → n ≤ 64
-      → chosenLines shape c (xs ++ ys) ≡ chosenLines shape c xs ++ chosenLines shape (c * 2 ^ n % 2 ^ 64) ys
-  unfolding chosenLines satelliteLines
-  chosen-append c n xs ys e few = rw (pick-append (spell 64 c) xs ys, e, ← (pick-up c n ys few), map-append)
-
-  -- the first one, by the highest bit
-  pub chosen-one : (c : ℕ) (x : Satellite) (ys : List Satellite) → 2 ^ 63 ≤ c → c < 2 ^ 64
-      → chosenLines shape c (x ∷ ys)
-      ≡ record { keys = pos (x .system) ∷ pos (x .number) ∷ absent ∷ []; shape = shape (x .system) } ∷ chosenLines shape (c * 2 ^ 1 % 2 ^ 64) ys
-  unfolding chosenLines satelliteLines
-  chosen-one c x ys set small = chosen-append c 1 (x ∷ []) ys refl (omega arith) ∙ rw (pick-one c x set small)
-
-  pub chosen-none : (c : ℕ) (x : Satellite) (ys : List Satellite) → c < 2 ^ 63
-      → chosenLines shape c (x ∷ ys) ≡ chosenLines shape (c * 2 ^ 1 % 2 ^ 64) ys
-  unfolding chosenLines satelliteLines
-  chosen-none c x ys clear = chosen-append c 1 (x ∷ []) ys refl (omega arith) ∙ rw (pick-none c x clear)
-
-  -- one slot's satellites are of one system
-  chosen-slot : (c w id m : ℕ) → chosenLines shape c (satellitesIn w id m) ≡ chosenLines (λ _. shape id) c (satellitesIn w id m)
-  unfolding chosenLines satelliteLines satellitesIn
-  chosen-slot c w id m = rw pick-map (simp map-map)
-
-  -- the lines of the next slot, then those of the others
-  pub chosen-next : (c n : ℕ) (columns : List Column) (ids masks : List ℕ) (i : ℕ) → i < length ids → i < length masks → getD masks i 0 < 2 ^ 40
-      → columns ≡ shape (getD ids i 0) → n ≡ ones (getD masks i 0)
-      → chosenLines shape c (slotSatellites (drop i ids) (drop i masks))
-      ≡ chosenLines (λ _. columns) c (satellitesIn 64 (getD ids i 0) (getD masks i 0 * 2 ^ 24 % 2 ^ 64))
-      ++ chosenLines shape (c * 2 ^ n % 2 ^ 64) (slotSatellites (drop (suc i) ids) (drop (suc i) masks))
-  chosen-next c n columns ids masks i inside within small same many =
-      let id : ℕ = getD ids i 0 in
-      let mask : ℕ = getD masks i 0 in
-      let count : length (satellitesIn 40 id mask) ≡ n = count-in 40 id mask small ∙ sym many in
-      ap (chosenLines shape c) (next-slot ids masks i inside within)
-      ∙ chosen-append c n (satellitesIn 40 id mask) (slotSatellites (drop (suc i) ids) (drop (suc i) masks)) count (omega (arith, many, ones-le 40 mask small))
-      ∙ ap (λ (l : List Line). l ++ chosenLines shape (c * 2 ^ n % 2 ^ 64) (slotSatellites (drop (suc i) ids) (drop (suc i) masks)))
-      (chosen-slot c 40 id mask ∙ ap (λ (cs : List Column). chosenLines (λ _. cs) c (satellitesIn 40 id mask)) (sym same)
-      ∙ ap (chosenLines (λ _. columns) c) (sym (up-in id mask small)))
+slot-at ids masks i some thin inside =
+    let id : ℕ = getD ids i 0 in
+    let mask : ℕ = getD masks i 0 in
+    let within : i < length masks = omega arith in
+    let small : mask < 2 ^ 40 = below-at (2 ^ 40) masks thin i within in
+    let same = up-in id mask small in
+    let count : length (inSlot ids masks i) ≡ ones mask = ap length same ∙ count-in id mask small in
+    record {
+      inside = within;
+      both = rw (drop-cons ids i 0 inside, drop-cons masks i 0 within, same);
+      count = count;
+      few = omega (arith, ones-le 40 mask small);
+    }
 
 -- no slot is left
-pub no-slot : (ids masks : List ℕ) (i : ℕ) → length ids ≤ i → slotSatellites (drop i ids) (drop i masks) ≡ []
+pub no-slot : (ids masks : List ℕ) (i : ℕ) → length ids ≤ i → fromSlot ids masks i ≡ []
 unfolding slotSatellites
 no-slot ids masks i past = rw (drop-of-length-le ids past)

@@ -10,8 +10,8 @@ use lib.ListN.{length, getD, drop, set, replicate, List·getD-eq-default}
 use lib.Seq.{getD-drop, getD-set-same, getD-set-other}
 use Rattle.bits.proofs.Fields.{field-drop}
 use Rattle.bits.specs.Places.{bitAt, field}
-use Rattle.format.specs.Rows.{Column, Line, widthOf, shapeWidth, bodyWidth}
-use Rattle.rows.specs.At.{valueBy, valuesAt, rowsAt}
+use Rattle.format.specs.Rows.{Column, Line, valueOf, widthOf, shapeWidth, bodyWidth}
+use Rattle.rows.specs.At.{valuesAt, rowsAt}
 
 -- ---- the copy
 
@@ -68,7 +68,7 @@ module _ (xs bs : List ℕ) (n : ℕ) (same : (i : ℕ) → i < n → getD xs i 
   unfolding shapeWidth valuesAt
   same-values [] place inside = refl
   same-values (c ∷ cs) place inside =
-      ap₂ _∷_ (ap (valueBy c) (same-field place (widthOf c) (omega arith))) (same-values cs (place + widthOf c) (omega arith))
+      ap₂ _∷_ (ap (valueOf c) (same-field place (widthOf c) (omega arith))) (same-values cs (place + widthOf c) (omega arith))
 
   same-rows : (lines : List Line) (place : ℕ) → place + bodyWidth lines ≤ 8 * n → rowsAt lines xs place ≡ rowsAt lines bs place
   unfolding bodyWidth rowsAt
@@ -81,7 +81,7 @@ module _ (bs : List ℕ) (i : ℕ) where
   unfolding valuesAt
   drop-values [] place = refl
   drop-values (c ∷ cs) place =
-      ap₂ _∷_ (ap (valueBy c) (field-drop bs i place (widthOf c))) (drop-values cs (place + widthOf c) ∙ ap (valuesAt cs bs) (sym (add-assoc (8 * i) place (widthOf c))))
+      ap₂ _∷_ (ap (valueOf c) (field-drop bs i place (widthOf c))) (drop-values cs (place + widthOf c) ∙ ap (valuesAt cs bs) (sym (add-assoc (8 * i) place (widthOf c))))
 
   drop-rows : (lines : List Line) (place : ℕ) → rowsAt lines (drop i bs) place ≡ rowsAt lines bs (8 * i + place)
   unfolding rowsAt

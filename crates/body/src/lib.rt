@@ -8,18 +8,23 @@ pub mod whole;
 ghost use mathlib.Core.Path.{_≡_};
 ghost use mathlib.Core.Bool.{true};
 ghost use mathlib.Core.List.{flatten};
-ghost use Prim.Native.Nat.{_+_, _^_, _≤_, _<_};
+ghost use Prim.Native.Nat.{_+_, _*_, _^_, _≤_, _<_};
 ghost use lib.ListN.{length};
-ghost use Rattle.heads.specs.declared.lines.Lines.the-variants.{Combined};
-ghost use Rattle.heads.specs.Lines.{linesOf, partsOf};
+ghost use Rattle.bits.specs.BitLists.{spell};
 ghost use Rattle.body.specs.Written.{Counts};
+ghost use Rattle.format.specs.Masks.{pick};
 ghost use Rattle.format.specs.Reading.{over};
 ghost use Rattle.format.specs.Rows.{bodyWidth};
-ghost use Rattle.holding.specs.Pictures.{maskOf, sound};
+ghost use Rattle.holding.specs.Held.{stripCells, slotsOf, viewOf};
+ghost use Rattle.holding.specs.Pictures.{sound};
 ghost use Rattle.rows.specs.At.{rowsAt};
-use heads::lines::Lines;
+ghost use Rattle.table.specs.declared.Keys.the-variants.{Satellites};
+ghost use Rattle.table.specs.Bodies.{linesIn, linesOver, Fits};
 use holding::Holding;
-use rows::plan;
+use rows::shapes;
+use table::ALL;
+use table::Body;
+use table::Keys;
 
 // How long a body is, in bits and in rows.
 pub struct Extent {
@@ -33,58 +38,77 @@ pub struct End {
     pub at: usize,
 }
 
-// How long a body of sub type 11 is: without orbits its rows are of one width.
-fn combined_size(h: Holding, orbit: bool, clock: bool, chosen: u64) -> Extent
-    requires { ⌜ sound h ≡ true ⌝ }
-    ensures { λ r. ⌜ Counts (linesOf (maskOf h) (Combined orbit clock chosen)) r ⌝ }
+// And the selection of the satellites behind, whose first one's bit is the highest again.
+pub struct Passed {
+    pub end: End,
+    pub marks: u64,
+}
+
+// The first satellite, as a selection.
+pub const FIRST: u64 = 0x8000_0000_0000_0000;
+
+// So many rows of one width.
+fn alike(rows: usize, width: usize) -> Extent
+    requires { ⌜ (rows ≤ 256) × (width ≤ 71) ⌝ }
+    ensures { λ r. ⌜ r ≡ record { bits = rows * width; rows = rows } ⌝ }
 {
+    Extent {
+        bits: rows * width,
+        rows,
+    }
+}
+
+// How long the rows of the satellites that are chosen are: of one width, unless an IODE is in them.
+fn satellites_size(h: Holding, shape: usize, chosen: u64) -> Extent
+    requires { ⌜ (sound h ≡ true) × (shape < 5) ⌝ }
+    ensures { λ r. ⌜ Counts (linesOver (viewOf h) (Satellites chosen) shape) r ⌝ }
+{
+    if shape < shapes::ORBIT || shape > shapes::COMBINED {
+        return satellites::size_alike(h.nsat, shapes::width_of(shape), chosen);
+    }
     let ids = h.ids;
     let masks = h.satellites;
     let count = h.count;
-    let plan = plan::combined(orbit, clock);
-    if orbit {
-        return satellites::size(&ids[..count], &masks, plan, chosen);
-    }
-    satellites::size_alike(h.nsat, plan.column.width, chosen)
+    satellites::size(&ids[..count], &masks, shape, chosen)
 }
 
-// How long the body is. Sub type 2 is sub type 11 with orbits alone and every satellite chosen.
-pub fn size(h: Holding, lines: Lines) -> Extent
-    requires { ⌜ (sound h ≡ true) × (partsOf lines ≤ 4) ⌝ }
-    ensures { λ r. ⌜ Counts (linesOf (maskOf h) lines) r ⌝ }
+// How many cells the satellites that are chosen have.
+fn cells_chosen(h: Holding, chosen: u64) -> usize
+    requires { ⌜ sound h ≡ true ⌝ }
+    ensures { λ r. ⌜ r ≡ length (stripCells (pick (spell 64 chosen) (slotsOf h)) (pick (spell 64 chosen) (h .strips))) ⌝ }
 {
-    match lines {
-        Lines::Orbits => combined_size(h, true, false, 0xFFFF_FFFF_FFFF_FFFF),
-        Lines::Clocks => Extent {
-            bits: h.nsat * 15,
-            rows: h.nsat,
-        },
-        Lines::Codes => Extent {
-            bits: h.ncell * 11,
-            rows: h.ncell,
-        },
-        Lines::Phases => Extent {
-            bits: h.ncell * 17,
-            rows: h.ncell,
-        },
-        Lines::Combined(orbit, clock, chosen) => combined_size(h, orbit, clock, chosen),
-        Lines::Packet(parts) => Extent {
-            bits: parts * 40,
-            rows: parts,
-        },
+    if chosen == ALL {
+        return h.ncell;
+    }
+    let strips = h.strips;
+    let n = h.nsat;
+    cells::count(&strips[..n], chosen)
+}
+
+// How long the body is.
+pub fn size(h: Holding, body: Body) -> Extent
+    requires { ⌜ (sound h ≡ true) × Fits body ⌝ }
+    ensures { λ r. ⌜ Counts (linesIn (viewOf h) body) r ⌝ }
+{
+    let keys = body.keys;
+    let shape = body.shape;
+    match keys {
+        Keys::Satellites(chosen) => satellites_size(h, shape, chosen),
+        Keys::Cells(chosen) => alike(cells_chosen(h, chosen), shapes::width_of(shape)),
+        Keys::Parts(parts) => alike(parts, shapes::width_of(shape)),
     }
 }
 
 // The rows of the body whose bits begin at a place, into the row buffer. Where the string ends too soon behind the
 // body for windows, the rows are read from a copy with zeros behind it.
-pub fn write(h: Holding, lines: Lines, bits: usize, bytes: &[u8], at: usize, rows: &mut [i32])
-    requires { ⌜ (sound h ≡ true) × (partsOf lines ≤ 4) × (bits ≡ bodyWidth (linesOf (maskOf h) lines)) × (at + bits < 2 ^ 32) × (2048 ≤ length (now rows)) ⌝ }
-    ensures { λ _. ⌜ now (rows .exit) ≡ over (flatten (rowsAt (linesOf (maskOf h) lines) (now (bytes .entry)) at)) (now (rows .entry)) ⌝ }
+pub fn fill(h: Holding, body: Body, bits: usize, bytes: &[u8], at: usize, rows: &mut [i32])
+    requires { ⌜ (sound h ≡ true) × Fits body × (bits ≡ bodyWidth (linesIn (viewOf h) body)) × (at + bits < 2 ^ 32) × (2048 ≤ length (now rows)) ⌝ }
+    ensures { λ _. ⌜ now (rows .exit) ≡ over (flatten (rowsAt (linesIn (viewOf h) body) (now (bytes .entry)) at)) (now (rows .entry)) ⌝ }
 {
     if (at + bits + 127) / 8 <= bytes.len() {
-        whole::write(h, lines, bytes, at, rows);
+        whole::fill(h, body, bytes, at, rows);
         return;
     }
     let rest = tail::tail(bytes, at / 8);
-    whole::write(h, lines, &rest, at % 8, rows)
+    whole::fill(h, body, &rest, at % 8, rows)
 }

@@ -1,32 +1,27 @@
-// Rows of a packet's part (document 01, sub type 10): 40 bits each, numbered from 1 in the signal column.
+// Rows of a packet's part (document 01, sub type 10), numbered from 1 in the signal column.
 ghost use mathlib.Core.Path.{_≡_};
 ghost use Rattle.body.specs.Written.{numbersAt, Room};
 ghost use Rattle.format.specs.Messages.{packetLines};
 ghost use Rattle.format.specs.Reading.{over};
+use format::ABSENT;
 use rows::row;
+use rows::shape;
 use rows::shapes;
 
-pub fn write(parts: usize, bytes: &[u8], at: usize, rows: &mut [i32])
+pub fn fill(parts: usize, bytes: &[u8], at: usize, rows: &mut [i32])
     requires { ⌜ Room (packetLines 1 parts) (now bytes) at (now rows) ⌝ }
     ensures { λ _. ⌜ now (rows .exit) ≡ over (numbersAt (packetLines 1 parts) (now (bytes .entry)) at) (now (rows .entry)) ⌝ }
 {
-    let shape = shapes::packet();
+    let s = shapes::packet();
+    let width = shape::width(s);
     let mut i = 0;
     let mut k = 0;
     let mut place = at;
     while i < parts {
         i += 1;
         let e = k + 8;
-        row::wide(
-            &mut rows[k..e],
-            -32768,
-            -32768,
-            i as i32,
-            bytes,
-            place,
-            shape,
-        );
+        row::wide(&mut rows[k..e], ABSENT, ABSENT, i as i32, bytes, place, s);
         k = e;
-        place += 40;
+        place += width;
     }
 }

@@ -1,26 +1,37 @@
 // Rows of satellites.
 ghost use mathlib.Core.Path.{_≡_};
 ghost use mathlib.Core.Bool.{true};
-ghost use Prim.Native.Nat.{_-_, _*_, _/_, _%_, _^_, _≤_};
+ghost use Prim.Native.Nat.{_-_, _*_, _/_, _^_, _≤_, _<_};
 ghost use lib.Count.{ones};
 ghost use lib.ListN.{length};
-ghost use Rattle.rows.specs.Plans.{planned};
-ghost use Rattle.rows.specs.Shapes.{Formed};
-ghost use Rattle.body.specs.Slots.{satellitesIn, slotSatellites, chosenLines};
-ghost use Rattle.body.specs.Written.{numbersAt, Room, Wrote, Countable, Counts};
+ghost use Rattle.body.specs.Chosen.{alone, chosenLines};
+ghost use Rattle.body.specs.Written.{numbersAt, Room, Handed, Counts};
 ghost use Rattle.format.specs.Reading.{over};
-ghost use Rattle.holding.specs.Kth.{narrow};
+ghost use Rattle.format.specs.Rows.{shapeWidth};
+ghost use Rattle.holding.specs.Bounds.{narrow};
+ghost use Rattle.holding.specs.Held.{satellitesIn, slotSatellites};
+ghost use Rattle.rows.specs.Shapes.{columnsIn, FormedShape, Laid};
+ghost use Rattle.rows.specs.Table.{shapeAt};
 use crate::End;
 use crate::Extent;
+use crate::FIRST;
+use crate::Passed;
+use crate::alike;
 use holding::set_places;
-use rows::plan;
-use rows::plan::Plan;
 use rows::row;
+use rows::shape::Shape;
+use rows::shapes;
 
-// Where writing ended, and the selection of the satellites behind.
-pub struct Passed {
-    pub end: End,
-    pub marks: u64,
+// How many bits a row of a system has, whose IODE has so many.
+fn width(s: Shape, system: u8) -> usize
+    requires { ⌜ FormedShape s ⌝ }
+    ensures { λ r. ⌜ r ≡ shapeWidth (columnsIn s system) ⌝ }
+{
+    let others = s.v2.width + s.v3.width + s.v4.width + s.v5.width;
+    if s.iode {
+        return shapes::iode(system) + others;
+    }
+    s.v1.width + others
 }
 
 // The rows of one system's satellites that are chosen: its mask and the selection each begin at the highest of
@@ -29,18 +40,16 @@ fn slot(
     id: u8,
     word: u64,
     chosen: u64,
-    plan: Plan,
+    s: Shape,
     bytes: &[u8],
     at: usize,
     rows: &mut [i32],
 ) -> Passed
-    requires { ⌜ Formed (plan .column) × Room (chosenLines (λ _. planned plan id) chosen (satellitesIn 64 id word)) (now bytes) at (now rows) ⌝ }
-    ensures { λ r. ⌜ Wrote (chosenLines (λ _. planned plan id) chosen (satellitesIn 64 id word)) (now (bytes .entry)) at (now (rows .entry)) (now (rows .exit)) (r .end) ⌝ }
-    ensures { λ r. ⌜ r .marks ≡ chosen * 2 ^ length (satellitesIn 64 id word) % 2 ^ 64 ⌝ }
+    requires { ⌜ FormedShape s × Laid s × Room (chosenLines chosen (alone (columnsIn s) (satellitesIn 64 id word))) (now bytes) at (now rows) ⌝ }
+    ensures { λ r. ⌜ Handed chosen (alone (columnsIn s) (satellitesIn 64 id word)) (now (bytes .entry)) at (now (rows .entry)) (now (rows .exit)) r ⌝ }
 {
-    let system = id as i32;
-    let iode = plan::iode(id);
-    let width = plan::width(plan, iode);
+    let iode = shapes::iode(id);
+    let width = width(s, id);
     let mut left = word;
     let mut marks = chosen;
     let mut k = 0;
@@ -50,18 +59,9 @@ fn slot(
         let mark = marks;
         left = set_places::rest(left);
         marks = marks << 1;
-        if mark >= 0x8000_0000_0000_0000 {
+        if mark >= FIRST {
             let e = k + 8;
-            row::put(
-                &mut rows[k..e],
-                system,
-                number as i32,
-                -32768,
-                bytes,
-                place,
-                plan,
-                iode,
-            );
+            row::satellite(&mut rows[k..e], id, number as i32, bytes, place, iode, s);
             k = e;
             place += width;
         }
@@ -74,17 +74,17 @@ fn slot(
 }
 
 // The rows of all systems' satellites that are chosen.
-pub fn write(
+pub fn fill(
     ids: &[u8],
     masks: &[u64],
-    plan: Plan,
+    s: Shape,
     chosen: u64,
     bytes: &[u8],
     at: usize,
     rows: &mut [i32],
 )
-    requires { ⌜ (length (now ids) ≤ length (now masks)) × (narrow 40 (now masks) ≡ true) × Formed (plan .column) × Room (chosenLines (planned plan) chosen (slotSatellites (now ids) (now masks))) (now bytes) at (now rows) ⌝ }
-    ensures { λ _. ⌜ now (rows .exit) ≡ over (numbersAt (chosenLines (planned plan) chosen (slotSatellites (now (ids .entry)) (now (masks .entry)))) (now (bytes .entry)) at) (now (rows .entry)) ⌝ }
+    requires { ⌜ (length (now ids) ≤ length (now masks)) × (narrow 40 (now masks) ≡ true) × FormedShape s × Laid s × Room (chosenLines chosen (alone (columnsIn s) (slotSatellites (now ids) (now masks)))) (now bytes) at (now rows) ⌝ }
+    ensures { λ _. ⌜ now (rows .exit) ≡ over (numbersAt (chosenLines chosen (alone (columnsIn s) (slotSatellites (now (ids .entry)) (now (masks .entry))))) (now (bytes .entry)) at) (now (rows .entry)) ⌝ }
 {
     let mut marks = chosen;
     let mut k = 0;
@@ -93,7 +93,7 @@ pub fn write(
     while i < ids.len() {
         let mask = masks[i];
         let id = ids[i];
-        let passed = slot(id, mask << 24, marks, plan, bytes, place, &mut rows[k..]);
+        let passed = slot(id, mask << 24, marks, s, bytes, place, &mut rows[k..]);
         let end = passed.end;
         k += end.filled;
         place = end.at;
@@ -114,9 +114,9 @@ fn picked(chosen: u64, n: usize) -> usize
 }
 
 // How many bits and rows the satellites that are chosen have.
-pub fn size(ids: &[u8], masks: &[u64], plan: Plan, chosen: u64) -> Extent
-    requires { ⌜ (length (now ids) ≤ length (now masks)) × (narrow 40 (now masks) ≡ true) × Formed (plan .column) × Countable (chosenLines (planned plan) chosen (slotSatellites (now ids) (now masks))) ⌝ }
-    ensures { λ r. ⌜ Counts (chosenLines (planned plan) chosen (slotSatellites (now (ids .entry)) (now (masks .entry)))) r ⌝ }
+pub fn size(ids: &[u8], masks: &[u64], shape: usize, chosen: u64) -> Extent
+    requires { ⌜ (length (now ids) ≤ length (now masks)) × (narrow 40 (now masks) ≡ true) × (length (slotSatellites (now ids) (now masks)) ≤ 64) × (shape < 8) ⌝ }
+    ensures { λ r. ⌜ Counts (chosenLines chosen (alone (shapeAt shape) (slotSatellites (now (ids .entry)) (now (masks .entry))))) r ⌝ }
 {
     let mut marks = chosen;
     let mut bits = 0;
@@ -125,8 +125,7 @@ pub fn size(ids: &[u8], masks: &[u64], plan: Plan, chosen: u64) -> Extent
     while i < ids.len() {
         let n = set_places::count(masks[i]);
         let some = picked(marks, n);
-        let width = plan::width(plan, plan::iode(ids[i]));
-        bits += some * width;
+        bits += some * shapes::width_in(shape, ids[i]);
         count += some;
         marks = marks << n;
         i += 1;
@@ -136,12 +135,8 @@ pub fn size(ids: &[u8], masks: &[u64], plan: Plan, chosen: u64) -> Extent
 
 // And where their rows are of one width: n satellites, by their selection alone.
 pub fn size_alike(n: usize, width: usize, chosen: u64) -> Extent
-    requires { ⌜ (n ≤ 64) × (width ≤ 15) ⌝ }
+    requires { ⌜ (n ≤ 64) × (width ≤ 71) ⌝ }
     ensures { λ r. ⌜ r ≡ record { bits = ones (chosen / 2 ^ (64 - n)) * width; rows = ones (chosen / 2 ^ (64 - n)) } ⌝ }
 {
-    let some = picked(chosen, n);
-    Extent {
-        bits: some * width,
-        rows: some,
-    }
+    alike(picked(chosen, n), width)
 }

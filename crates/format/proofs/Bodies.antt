@@ -14,10 +14,10 @@ use lib.Signed.{mag}
 use Rattle.bits.proofs.Complement.{unsigned-signed, signed-range}
 use Rattle.bits.specs.BitLists.{number, spell}
 use Rattle.bits.specs.Signed.{unsigned}
-use Rattle.format.specs.Messages.{body}
-use Rattle.format.specs.Programs.{done, _>>=_, taking}
+use Rattle.format.specs.Messages.{body, bodied, Heading, Content}
+use Rattle.format.specs.Programs.{done, _>>=_, taking, Program}
 use Rattle.format.specs.Rows.{absent, Column, gap, plain, counts, Line, widthOf, valueOf, shapeWidth, valuesOf, bodyWidth, rowsOf, spellValues, spellRows}
-use Rattle.format.proofs.Steps.{field-spelled, field-lt, Gives, gives-done, gives-taking}
+use Rattle.format.proofs.Steps.{field-spelled, field-lt, Gives, gives-done, gives-taking, gives-bind}
 
 -- ---- what is read
 
@@ -26,10 +26,20 @@ pub body-gives : (lines : List Line) → Gives (body lines) (λ rows b. (length 
 unfolding body taking _>>=_
 body-gives lines = gives-taking (bodyWidth lines) (λ b. done (rowsOf lines b)) λ b whole. gives-done (rw append-nil (whole, refl))
 
+-- what a heading gives, its message gives, with the bits of the body behind
+pub bodied-gives : {P : Heading → List Bool → Type 0} {Q : Content → List Bool → Type 0} {p : Program Heading} → Gives p P
+    → ((d : Heading) (b l : List Bool) → P d b → length l ≡ bodyWidth (d .lines) → Q (record { head = d .head; rows = rowsOf (d .lines) l }) (b ++ l))
+    → Gives (bodied p) Q
+unfolding bodied
+bodied-gives g h =
+    gives-bind g λ d b it.
+    gives-bind (body-gives (d .lines)) λ rows l whole.
+    gives-done (rw (whole .1, append-nil) (h d b l it (whole .0)))
+
 -- ---- the bits of what was read
 
 -- what a column's bits mean, spelled in its width, is the bits
-column-spelled : (c : Column) (b : List Bool) → length b ≡ widthOf c → spell (widthOf c) (unsigned (widthOf c) (valueOf c b)) ≡ b
+column-spelled : (c : Column) (b : List Bool) → length b ≡ widthOf c → spell (widthOf c) (unsigned (widthOf c) (valueOf c (number b))) ≡ b
 unfolding widthOf valueOf spell unsigned
 column-spelled gap [] e = refl
 column-spelled gap (x ∷ b) e = absurd (omega arith)
@@ -102,7 +112,7 @@ pub data InShape : List Column → List ℤ → Type 0 where
   none : InShape [] []
   more : {c : Column} {cs : List Column} {z : ℤ} {zs : List ℤ} → InColumn c z → InShape cs zs → InShape (c ∷ cs) (z ∷ zs)
 
-value-range : (c : Column) (b : List Bool) → length b ≡ widthOf c → InColumn c (valueOf c b)
+value-range : (c : Column) (b : List Bool) → length b ≡ widthOf c → InColumn c (valueOf c (number b))
 unfolding widthOf valueOf InColumn
 value-range gap b e = refl
 value-range (plain w) b e = (number b, refl, field-lt w b e)

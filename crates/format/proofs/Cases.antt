@@ -12,7 +12,7 @@ use Rattle.format.specs.Answers.{numberOf, idleNumber}
 use Rattle.format.specs.Assigned as Assigned
 use Rattle.format.specs.Good as Good
 use Rattle.format.specs.Masks as Masks
-use Rattle.format.specs.Masks.{nothing}
+use Rattle.format.specs.Masks.{nothing, lent}
 use Rattle.format.specs.Messages as Messages
 use Rattle.format.specs.Messages.{Content}
 use Rattle.format.specs.Programs as Programs
@@ -21,6 +21,7 @@ use Rattle.format.specs.Reading.{Outcome, accepted, idle, refused}
 use Rattle.format.specs.Rows as Rows
 use Rattle.format.specs.Rows.{absent}
 use Rattle.format.specs.Table as Table
+use Rattle.format.specs.Tests as Tests
 use Rattle.format.specs.Walking as Walking
 use Rattle.format.specs.Walking.{Walk, walk}
 
@@ -47,8 +48,8 @@ record Report : Type 0 where
 
 stopNumber : Outcome → ℕ
 stopNumber (accepted m next) = 99
-stopNumber (idle held) = idleNumber
-stopNumber (refused r missing held) = numberOf r
+stopNumber (idle holding) = idleNumber
+stopNumber (refused r missing holding) = numberOf r
 
 said : List Content → List (List ℤ)
 said [] = []
@@ -59,7 +60,7 @@ said (c ∷ cs) =
 -- the last byte's spare bits are ones: nothing looks at them
 report : List Bool → Report
 report l =
-    let w : Walk = walk true nothing (bytes ((length l + 7) / 8) (l ++ replicate 7 true)) (length l) (replicate 2048 (pos 0)) in
+    let w : Walk = walk (lent nothing) (bytes ((length l + 7) / 8) (l ++ replicate 7 true)) (length l) (replicate 2048 (pos 0)) in
     record { stop = stopNumber (w .stop); place = w .place; handed = said (w .handed) }
 
 -- ---- messages
@@ -165,5 +166,5 @@ cases =
     ∷ []
 
 cases-hold : map (λ c. report (c .over)) cases ≡ map (λ c. c .says) cases
-unfolding report spellAll stopNumber said opening maskHead head system exampleMask clock saidMask saidHead n ∅ _∶_ _stops_at_with_ cases spell bits bytes number signed flatMap flatten numberOf Walking.walkBy Walking.walkFrom Walking.goOn Walking.hand Reading.readingBy Reading.placed Reading.readFrom Reading.bitsFrom Reading.endedAt Reading.rowsAfter Reading.over Programs.run Programs._>>=_ Programs._>>_ Programs.later Programs.unlessShort Programs.numbered Programs.taking Programs.require Table.messageBy Table.table Table.kinds Table.alone Table.byKind Table.gate Table.orbitLines Table.clockLines Table.codeLines Table.phaseLines Messages.common Messages.headOf Messages.rowsAlone Messages.body Messages.satelliteLines Messages.cellLines Messages.iodeWidth Messages.orbitShape Messages.clockShape Messages.codeShape Messages.phaseShape Messages.combinedShape Messages.packetShape Messages.selection Messages.combined Messages.packetLines Messages.packet Messages.maskMessage Messages.systems Messages.system Messages.named Assigned.known Assigned.blank Assigned.assigned Assigned.satellitePlaces Assigned.signalPlaces Masks.placesFrom Masks.pick Masks.satellitesOf Masks.pairsOf Masks.cellsOf Masks.satellites Masks.cells Rows.widthOf Rows.valueOf Rows.shapeWidth Rows.valuesOf Rows.bodyWidth Rows.rowsOf Good.good Good.goodSystems Good.goodSystem
+unfolding report spellAll stopNumber said opening maskHead head system exampleMask clock saidMask saidHead n ∅ _∶_ _stops_at_with_ cases spell bits bytes number signed flatMap flatten numberOf Walking.walkOn Walking.walkFrom Walking.goOn Walking.hand Reading.readingBy Reading.lentTests Tests.verdict Reading.placed Reading.readFrom Reading.bitsFrom Reading.endedAt Reading.rowsAfter Reading.over Programs.run Programs._>>=_ Programs._>>_ Programs.later Programs.unlessShort Programs.numbered Programs.taking Programs.require Table.opening Table.messageBy Table.table Table.kinds Table.alone Table.byKind Table.keeping Table.underMask Table.gate Messages.bodied Messages.overSatellites Messages.overCells Messages.common Messages.headOf Messages.rowsAlone Messages.body Messages.satelliteLines Messages.cellLines Messages.iodeWidth Messages.orbitShape Messages.clockShape Messages.codeShape Messages.phaseShape Messages.combinedShape Messages.packetShape Messages.selection Messages.flagged Messages.packetLines Messages.packet Messages.maskMessage Messages.systems Messages.system Messages.systemId Messages.systemMasks Messages.systemWith Messages.systemCells Messages.named Assigned.known Assigned.blank Assigned.assigned Assigned.satellitePlaces Assigned.signalPlaces Masks.placesFrom Masks.pick Masks.satellitesOf Masks.pairsOf Masks.cellsOf Masks.satellites Masks.cells Masks.skyOf Masks.heldIn Rows.widthOf Rows.valueOf Rows.shapeWidth Rows.valuesOf Rows.bodyWidth Rows.rowsOf Good.isHolding Good.good Good.goodSystems Good.goodSystem
 cases-hold = refl

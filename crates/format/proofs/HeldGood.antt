@@ -1,28 +1,28 @@
 -- What is held stays good, whatever is read. Assumes nothing.
 use mathlib.Core.Path.{_≡_}
-use mathlib.Core.Bool.{Bool, true}
+use mathlib.Core.Bool.{Bool, true, false≢true}
 use mathlib.Core.List.{List}
 use Prim.Native.Nat.{ℕ}
 use lib.IntN.{ℤ}
 use Rattle.format.specs.declared.Refusal.the-variants.{SubType}
-use Rattle.format.specs.Good.{good}
-use Rattle.format.specs.Masks.{Held, mask}
+use Rattle.format.specs.Good.{good, isHolding}
+use Rattle.format.specs.Masks.{Held, mask, Lent, stray, lent, heldIn}
 use Rattle.format.specs.Programs.{well, run}
-use Rattle.format.specs.Reading.{bitsFrom, reading, heldAfter}
-use Rattle.format.specs.Table.{Message, Kind, other, free, masked, adopts, alone, kinds, table, byKind, message}
+use Rattle.format.specs.Reading.{bitsFrom, reading, lentAfter}
+use Rattle.format.specs.Table.{Message, Kind, other, free, masked, adopts, alone, kinds, table, underMask, byKind, message}
 use Rattle.format.proofs.Makes.{makes-good}
 use Rattle.format.proofs.Steps.{Gives, gives-done, gives-refuse, gives-bind}
 use Rattle.format.proofs.Stops.{reading-ends}
-use Rattle.format.proofs.Tables.{Each, end, then, in-table, gives-message, free-keeps, masked-keeps}
+use Rattle.format.proofs.Tables.{Each, end, then, in-table, gives-message, keeps}
 
 -- ---- after a message
 
 -- a mask that the kind adopts is good
 abbrev AdoptsGood : ℕ → Kind → Type 0
 AdoptsGood n other = Unit {0}
-AdoptsGood n (free p q) = Unit {0}
-AdoptsGood n (masked p q) = Unit {0}
-AdoptsGood n (adopts p q) = Gives p (λ d b. good (mask (d .made)) ≡ true)
+AdoptsGood n (free k) = Unit {0}
+AdoptsGood n (masked k) = Unit {0}
+AdoptsGood n (adopts k) = Gives (k .program) (λ d b. good (mask (d .made)) ≡ true)
 
 kinds-good : Each AdoptsGood 0 kinds
 unfolding kinds alone
@@ -31,9 +31,9 @@ kinds-good = then tt (then makes-good (then tt (then tt (then tt (then tt (then 
 kind-stays : (n : ℕ) (k : Kind) → AdoptsGood n k → (held : Held) → good held ≡ true → Gives (byKind k held) (λ m b. good (m .after) ≡ true)
 unfolding byKind
 kind-stays n other law held fine = gives-refuse SubType
-kind-stays n (free p q) law held fine = free-keeps p q held λ c b. fine
-kind-stays n (masked p q) law held fine = masked-keeps p q held λ c b. fine
-kind-stays n (adopts p q) law held fine = gives-bind law λ d b it. gives-done it
+kind-stays n (free k) law held fine = keeps held (k .program) λ c b. fine
+kind-stays n (masked k) law held fine = keeps held (underMask k held) λ c b. fine
+kind-stays n (adopts k) law held fine = gives-bind law λ d b it. gives-done it
 
 message-stays : (held : Held) → good held ≡ true → Gives (message held) (λ m b. good (m .after) ≡ true)
 message-stays held fine = gives-message table held λ n _. kind-stays n (table n) (in-table kinds-good (λ k. tt) n) held fine
@@ -43,7 +43,14 @@ stays-good held fine = message-stays held fine .gives
 
 -- ---- after a reading
 
-pub reading-good : (held : Held) (bytes : List ℕ) (end start : ℕ) (rows : List ℤ) → good held ≡ true → good (heldAfter (reading true held bytes end start rows)) ≡ true
-unfolding heldAfter
-reading-good held bytes stop start rows fine =
-    reading-ends (λ o. good (heldAfter o) ≡ true) held (λ r missing. fine) table true bytes stop start rows fine (stays-good held fine (bitsFrom bytes stop start))
+-- what a holding holds is good
+pub held-good : (holding : Lent) → isHolding holding ≡ true → good (heldIn holding) ≡ true
+unfolding isHolding heldIn
+held-good stray fine = absurd (false≢true fine)
+held-good (lent held) fine = fine
+
+pub reading-good : (holding : Lent) (bytes : List ℕ) (end start : ℕ) (rows : List ℤ) → isHolding holding ≡ true → isHolding (lentAfter (reading holding bytes end start rows)) ≡ true
+unfolding lentAfter isHolding heldIn
+reading-good stray bytes stop start rows fine = absurd (false≢true fine)
+reading-good (lent held) bytes stop start rows fine =
+    reading-ends (λ o. isHolding (lentAfter o) ≡ true) table bytes stop start rows (lent held) (λ r missing. fine) fine (stays-good held fine (bitsFrom bytes stop start))

@@ -1,7 +1,7 @@
 -- The bits that a message took are as many as its head and the masks fix. Assumes nothing.
 use mathlib.Core.Path.{_≡_, refl, sym, ap, ap₂, _∙_}
 use mathlib.Core.Bool.{Bool, true, false, cond}
-use mathlib.Core.List.{List, [], _∷_, _++_, append-nil}
+use mathlib.Core.List.{List, [], _∷_, _++_, append-nil, map}
 use Prim.Native.Nat.{ℕ, zero, suc, _+_, _*_}
 use native.Mathlib.Nat.{zero-add, add-comm, add-assoc, mul-zero, mul-suc}
 use native.Mathlib.Omega.{arith}
@@ -12,16 +12,16 @@ use Rattle.bits.proofs.BitLists.{length-spell}
 use Rattle.format.specs.declared.Head.{Head}
 use Rattle.format.specs.declared.Refusal.the-variants.{SubType, OtherIssue}
 use Rattle.format.specs.Lengths.{total, orbitBits, combinedBits, lengths, maskOr, lengthOf}
-use Rattle.format.specs.Masks.{System, Mask, Held, nothing, mask, Satellite, Cell, satellites, cells}
-use Rattle.format.specs.Messages.{Content, Common, common, headOf, satelliteLines, cellLines, iodeWidth, orbitShape, clockShape, codeShape, phaseShape, combinedShape, packetShape, packetLines, packet, rowsAlone, combined, selection, system, systems, maskMessage}
+use Rattle.format.specs.Masks.{System, Mask, Held, nothing, mask, Satellite, Cell, satellites, cells, skyOf, Sky}
+use Rattle.format.specs.Messages.{Content, Heading, bodied, overSatellites, overCells, Common, common, headOf, satelliteLines, cellLines, iodeWidth, orbitShape, clockShape, codeShape, phaseShape, combinedShape, packetShape, packetLines, packet, rowsAlone, flagged, selection, system, systems, maskMessage}
 use Rattle.format.specs.Programs.{Program}
 use Rattle.format.specs.Rows.{Line, Column, gap, plain, counts, absent, bodyWidth, shapeWidth, widthOf, rowsOf}
 use Rattle.format.specs.Same.{sameℤ}
-use Rattle.format.specs.Spelling.{put, putCommon, putRows, putCombined, putPacket, putMask}
-use Rattle.format.specs.Table.{Kind, other, free, masked, adopts, table, message, byKind, gate, kinds, alone, orbitLines, clockLines, codeLines, phaseLines}
-use Rattle.format.proofs.Bodies.{body-gives}
-use Rattle.format.proofs.Makes.{common-gives}
-use Rattle.format.proofs.Tables.{Each, end, then, in-table, gives-message, masked-nothing}
+use Rattle.format.specs.Spelling.{put, putCommon, putRows, putFlagged, putPacket, putSystem, putMask}
+use Rattle.format.specs.Table.{Kind, MaskedKind, other, free, masked, adopts, table, message, keeping, byKind, kinds, alone}
+use Rattle.format.proofs.Makes.{common-gives, system-gives}
+use Rattle.format.proofs.MakesBack.{good-system}
+use Rattle.format.proofs.Tables.{Each, end, then, in-table, gives-message, keeping-gives, under-nothing, under-gives}
 use Rattle.format.proofs.Steps.{Gives, gives-done, gives-refuse, gives-require, gives-taking, gives-numbered, gives-bind, gives-so}
 
 -- a common head
@@ -31,27 +31,32 @@ common-long w = gives-so (common-gives w) λ h b it. rw (← (it .1 0 absent abs
 
 -- ---- bodies
 
-satellite-width : (shape : ℕ → List Column) (sats : List Satellite) → bodyWidth (satelliteLines shape sats) ≡ total (λ s. shapeWidth (shape (s .system))) sats
-unfolding bodyWidth satelliteLines total
-satellite-width shape [] = refl
-satellite-width shape (s ∷ ss) = ap (λ (n : ℕ). shapeWidth (shape (s .system)) + n) (satellite-width shape ss)
+-- lines made one from each, as satellites' and cells' are
+lines-width : {A : Type 0} (keys : A → List ℤ) (shape : A → List Column) (xs : List A)
+    → bodyWidth (map (λ x. record { keys = keys x; shape = shape x }) xs) ≡ total (λ x. shapeWidth (shape x)) xs
+unfolding bodyWidth total
+lines-width keys shape [] = refl
+lines-width keys shape (x ∷ xs) = ap (λ (n : ℕ). shapeWidth (shape x) + n) (lines-width keys shape xs)
 
-cell-width : (shape : List Column) (cs : List Cell) → bodyWidth (cellLines shape cs) ≡ shapeWidth shape * length cs
-unfolding bodyWidth cellLines
-cell-width shape [] = sym (mul-zero (shapeWidth shape))
-cell-width shape (c ∷ cs) = ap (λ (n : ℕ). shapeWidth shape + n) (cell-width shape cs) ∙ sym (mul-suc (shapeWidth shape) (length cs) ∙ add-comm (shapeWidth shape * length cs) (shapeWidth shape))
+pub satellite-width : (shape : ℕ → List Column) (sats : List Satellite) → bodyWidth (satelliteLines shape sats) ≡ total (λ s. shapeWidth (shape (s .system))) sats
+unfolding satelliteLines
+satellite-width shape sats = lines-width _ (λ s. shape (s .system)) sats
 
-total-same : {A : Type 0} (f : A → ℕ) (k : ℕ) (xs : List A) → ((x : A) → f x ≡ k) → total f xs ≡ k * length xs
+pub cell-width : (shape : ℕ → List Column) (cs : List Cell) → bodyWidth (cellLines shape cs) ≡ total (λ c. shapeWidth (shape (c .satellite .system))) cs
+unfolding cellLines
+cell-width shape cs = lines-width _ (λ c. shape (c .satellite .system)) cs
+
+pub total-same : {A : Type 0} (f : A → ℕ) (k : ℕ) (xs : List A) → ((x : A) → f x ≡ k) → total f xs ≡ k * length xs
 unfolding total
 total-same f k [] h = sym (mul-zero k)
 total-same f k (x ∷ xs) h = ap₂ (λ (m n : ℕ). m + n) (h x) (total-same f k xs h) ∙ sym (mul-suc k (length xs) ∙ add-comm (k * length xs) k)
 
-total-each : {A : Type 0} (f g : A → ℕ) (xs : List A) → ((x : A) → f x ≡ g x) → total f xs ≡ total g xs
+pub total-each : {A : Type 0} (f g : A → ℕ) (xs : List A) → ((x : A) → f x ≡ g x) → total f xs ≡ total g xs
 unfolding total
 total-each f g [] h = refl
 total-each f g (x ∷ xs) h = ap₂ (λ (m n : ℕ). m + n) (h x) (total-each f g xs h)
 
-total-append : {A : Type 0} (f : A → ℕ) (xs ys : List A) → total f (xs ++ ys) ≡ total f xs + total f ys
+pub total-append : {A : Type 0} (f : A → ℕ) (xs ys : List A) → total f (xs ++ ys) ≡ total f xs + total f ys
 unfolding total
 total-append f [] ys = sym (zero-add (total f ys))
 total-append f (x ∷ xs) ys = ap (λ (n : ℕ). f x + n) (total-append f xs ys) ∙ sym (add-assoc (f x) (total f xs) (total f ys))
@@ -68,33 +73,38 @@ clock-width : (system : ℕ) → shapeWidth (clockShape system) ≡ 15
 unfolding shapeWidth clockShape widthOf
 clock-width system = refl
 
-code-width : shapeWidth codeShape ≡ 11
+code-width : (system : ℕ) → shapeWidth (codeShape system) ≡ 11
 unfolding shapeWidth codeShape widthOf
-code-width = refl
+code-width system = refl
 
-phase-width : shapeWidth phaseShape ≡ 17
+phase-width : (system : ℕ) → shapeWidth (phaseShape system) ≡ 17
 unfolding shapeWidth phaseShape widthOf
-phase-width = refl
+phase-width system = refl
 
-packet-width : (k n : ℕ) → bodyWidth (packetLines k n) ≡ 40 * n
+pub packet-width : (k n : ℕ) → bodyWidth (packetLines k n) ≡ 40 * n
 unfolding bodyWidth packetLines packetShape shapeWidth widthOf
 packet-width k zero = refl
 packet-width k (suc n) = ap (λ (w : ℕ). 40 + w) (packet-width (suc k) n) ∙ omega arith
 
 -- ---- what follows the sub type
 
-alone-long : (n : ℕ) (lines : Mask → List Line) (m : Mask) (h : Common) → Gives (rowsAlone n lines m h) (λ c b. (c .head .subtype ≡ pos n) × (length b ≡ bodyWidth (lines m)))
-unfolding rowsAlone headOf
-alone-long n lines m h = gives-bind (body-gives (lines m)) λ rows b q. gives-done (refl, rw append-nil (q .0))
+-- how long a message is with its body, by the bits of its heading after so many others
+abbrev LongWith : ℕ → ℕ → Held → Heading → List Bool → Type 0
+LongWith before n held d b =
+    (d .head .subtype ≡ pos n)
+    × ((l : List Bool) → length l ≡ bodyWidth (d .lines) → before + (length b + length l) ≡ lengthOf held (record { head = d .head; rows = rowsOf (d .lines) l }))
 
-packet-long : Gives packet (λ c b. (c .head .subtype ≡ pos 10) × (length b ≡ 6 + 40 * suc (natAbs (c .head .b))))
-unfolding packet
-packet-long =
+at-number : (held : Held) (c : Content) (n : ℕ) → c .head .subtype ≡ pos n → lengthOf held c ≡ getD (lengths (maskOr held) c) n 0
+unfolding lengthOf
+at-number held c n e = ap (λ (z : ℤ). getD (lengths (maskOr held) c) (natAbs z) 0) e
+
+packet-long : (held : Held) → Gives packet (LongWith 16 10 held)
+unfolding packet lengthOf lengths
+packet-long held =
     gives-numbered _ _ λ indicator _.
     gives-numbered _ _ λ counter _.
     gives-numbered _ _ λ size _.
-    gives-bind (body-gives (packetLines 1 (suc size))) λ rows b q.
-    gives-done (refl, simp (length-append, length-spell) (omega (arith, q .0, packet-width 1 (suc size))))
+    gives-done (refl, λ l whole. simp (length-append, length-spell) (omega (arith, packet-width 1 (suc size))))
 
 -- the width of a combined row, by the flags
 combined-width : (orbit clock : Bool) (system : ℕ) → shapeWidth (combinedShape orbit clock system) ≡ cond orbit (orbitBits system) 0 + cond clock 15 0
@@ -130,38 +140,21 @@ selection-long sats (suc one) =
     gives-taking _ _ λ bits e.
     gives-done (simp (length-append, length-spell) (omega arith))
 
-combined-long :
-    (m : Mask) (h : Common)
-    → Gives (combined m h)
-    (λ c b. (c .head .subtype ≡ pos 11) × (length b ≡ 3 + (cond (sameℤ (c .head .c) absent) 0 (5 + length (satellites (m .systems))) + total (combinedBits (c .head .a) (c .head .b)) (c .rows))))
-unfolding combined headOf
+combined-long : (m : Mask) (h : Common) → Gives (flagged 11 combinedShape (skyOf m) h) (LongWith 37 11 (mask m))
+unfolding flagged skyOf headOf lengthOf lengths maskOr
 combined-long m h =
     gives-numbered _ _ λ orbit _.
     gives-numbered _ _ λ clock _.
     gives-numbered _ _ λ flag _.
     gives-bind (selection-long (satellites (m .systems)) flag) λ s b long.
-    gives-bind (body-gives (satelliteLines (combinedShape (eqb orbit 1) (eqb clock 1)) (s .chosen))) λ rows r q.
-    gives-done (
-      refl,
-      simp (length-append, length-spell)
-          (omega (arith, long, q .0, ap (total (combinedBits (pos orbit) (pos clock))) (q .1), combined-rows orbit clock (s .chosen) r)),
-    )
+    gives-done (refl, λ l whole. simp (length-append, length-spell) (omega (arith, long, combined-rows orbit clock (s .chosen) l)))
 
 -- a mask's systems, one after the other
 system-long : (before : List System) → Gives (system before) (λ s b. length b ≡ 61 + length (s .cells))
-unfolding system
-system-long before =
-    gives-numbered _ _ λ id _.
-    gives-require _ _ _ λ _.
-    gives-taking _ _ λ sats esats.
-    gives-require _ _ _ λ _.
-    gives-require _ _ _ λ _.
-    gives-taking _ _ λ signals esignals.
-    gives-require _ _ _ λ _.
-    gives-numbered _ _ λ flag _.
-    gives-taking _ _ λ cs _.
-    gives-require _ _ _ λ _.
-    gives-done (simp (length-append, length-spell) (omega arith))
+unfolding putSystem
+system-long before = gives-so (system-gives before) λ s b it.
+    let g = good-system before s (it .0) in
+    rw (← (it .1)) (simp (length-append, length-spell) (omega (arith, g .whole, g .long)))
 
 abbrev systemBits : System → ℕ
 systemBits s = 61 + length (s .cells)
@@ -188,58 +181,68 @@ mask-long =
 abbrev LongAt : ℕ → Kind → Type 0
 LongAt n k = (held : Held) → Gives (byKind k held) (λ m b. (m .content .head .subtype ≡ pos n) × (16 + length b ≡ lengthOf (m .after) (m .content)))
 
-at-number : (held : Held) (c : Content) (n : ℕ) → c .head .subtype ≡ pos n → lengthOf held c ≡ getD (lengths (maskOr held) c) n 0
-unfolding lengthOf
-at-number held c n e = ap (λ (z : ℤ). getD (lengths (maskOr held) c) (natAbs z) 0) e
-
 other-long : (n : ℕ) → LongAt n other
 unfolding byKind
 other-long n held = gives-refuse SubType
 
-masked-long :
-    (n : ℕ) (p : Mask → Common → Program Content) (q : Mask → Head → List (List ℤ) → List Bool)
-    → ((m : Mask) (h : Common) → Gives (p m h) (λ c b. (c .head .subtype ≡ pos n) × (37 + length b ≡ lengthOf (mask m) c)))
-    → LongAt n (masked p q)
-unfolding byKind gate
-masked-long n p q law nothing = masked-nothing p q
-masked-long n p q law (mask m) =
-    gives-bind (common-long 12) λ h b long.
-    gives-bind (gives-require (eqb (h .iod) (m .iod)) OtherIssue (p m h) λ _. law m h) λ c r it.
-    gives-done (it .0, simp length-append (omega (arith, long, it .1)))
+-- with its body
+body-long : (n : ℕ) (held : Held) {p : Program Heading} → Gives p (LongWith 16 n held)
+    → Gives (keeping held p) (λ m b. (m .content .head .subtype ≡ pos n) × (16 + length b ≡ lengthOf (m .after) (m .content)))
+body-long n held law = keeping-gives held law λ d b l it whole. (it .0, rw length-append (it .1 l whole))
 
-alone-at :
-    (n : ℕ) (lines : Mask → List Line) → ((m : Mask) (c : Content) → 37 + bodyWidth (lines m) ≡ getD (lengths m c) n 0) → LongAt n (alone n lines)
-unfolding alone maskOr
-alone-at n lines fits =
-    masked-long n (rowsAlone n lines) (putRows lines) λ m h.
-    gives-so (alone-long n lines m h) λ c b it.
-    (it .0, ap (λ (k : ℕ). 37 + k) (it .1) ∙ fits m c ∙ sym (at-number (mask m) c n (it .0)))
+masked-long : (n : ℕ) (k : MaskedKind) → ((m : Mask) (h : Common) → Gives (k .program (skyOf m) h) (LongWith 37 n (mask m))) → LongAt n (masked k)
+unfolding byKind
+masked-long n k law nothing = body-long n nothing (under-nothing k)
+masked-long n k law (mask m) =
+    body-long n (mask m)
+    (under-gives k m (common-long 12) λ h a long.
+    gives-so (law m h) λ d b it. (it .0, λ l whole. simp length-append (omega (arith, long, it .1 l whole))))
 
-mask-at : LongAt 1 (adopts maskMessage putMask)
+alone-at : (n : ℕ) (over : Sky → List Line) → ((m : Mask) (c : Content) → 37 + bodyWidth (over (skyOf m)) ≡ getD (lengths m c) n 0) → LongAt n (alone n over)
+unfolding alone rowsAlone headOf maskOr
+alone-at n over fits =
+    masked-long n (record { program = rowsAlone n over; spelling = putRows over }) λ m h.
+    gives-done (
+      refl,
+      λ l whole.
+          let c : Content = record { head = headOf n h absent absent absent; rows = rowsOf (over (skyOf m)) l } in
+          omega (arith, fits m c, at-number (mask m) c n refl),
+    )
+
+mask-at : LongAt 1 (adopts (record { program = maskMessage; spelling = putMask }))
 unfolding byKind maskOr lengths
 mask-at held =
     gives-bind mask-long λ d b it.
     let c : Content = record { head = d .head; rows = [] } in
     gives-done {a = record { content = c; after = mask (d .made) }} (it .0, rw append-nil (omega (arith, it .1, at-number (mask (d .made)) c 1 (it .0))))
 
-packet-at : LongAt 10 (free packet putPacket)
-unfolding byKind lengths
-packet-at held =
-    gives-bind packet-long λ c b it.
-    gives-done {a = record { content = c; after = held }} (it .0, rw append-nil (omega (arith, it .1, at-number held c 10 (it .0))))
+packet-at : LongAt 10 (free (record { program = packet; spelling = putPacket }))
+unfolding byKind
+packet-at held = body-long 10 held (packet-long held)
+
+-- rows over satellites, and over cells, by what each takes
+over-satellites : (shape : ℕ → List Column) (bits : ℕ → ℕ) → ((system : ℕ) → shapeWidth (shape system) ≡ bits system) → (m : Mask)
+    → 37 + bodyWidth (overSatellites shape (skyOf m)) ≡ 37 + total (λ s. bits (s .system)) (satellites (m .systems))
+unfolding overSatellites skyOf
+over-satellites shape bits each m = ap (λ (k : ℕ). 37 + k) (satellite-width shape (satellites (m .systems)) ∙ total-each _ _ (satellites (m .systems)) (λ s. each (s .system)))
+
+over-cells : (shape : ℕ → List Column) (bits : ℕ) → ((system : ℕ) → shapeWidth (shape system) ≡ bits) → (m : Mask)
+    → 37 + bodyWidth (overCells shape (skyOf m)) ≡ 37 + bits * length (cells (m .systems))
+unfolding overCells skyOf
+over-cells shape bits each m = ap (λ (k : ℕ). 37 + k) (cell-width shape (cells (m .systems)) ∙ total-same _ bits (cells (m .systems)) (λ c. each (c .satellite .system)))
 
 kinds-long : Each LongAt 0 kinds
-unfolding kinds byKind lengthOf lengths maskOr orbitLines clockLines codeLines phaseLines
+unfolding kinds lengths
 kinds-long =
     then (other-long 0)
     (then mask-at
-    (then (alone-at 2 orbitLines λ m c. ap (λ (k : ℕ). 37 + k) (satellite-width orbitShape (satellites (m .systems)) ∙ total-each _ _ (satellites (m .systems)) (λ s. orbit-width (s .system))))
-    (then (alone-at 3 clockLines λ m c. ap (λ (k : ℕ). 37 + k) (satellite-width clockShape (satellites (m .systems)) ∙ total-same _ 15 (satellites (m .systems)) (λ s. clock-width (s .system))))
-    (then (alone-at 4 codeLines λ m c. ap (λ (k : ℕ). 37 + k) (cell-width codeShape (cells (m .systems)) ∙ ap (λ (k : ℕ). k * length (cells (m .systems))) code-width))
-    (then (alone-at 5 phaseLines λ m c. ap (λ (k : ℕ). 37 + k) (cell-width phaseShape (cells (m .systems)) ∙ ap (λ (k : ℕ). k * length (cells (m .systems))) phase-width))
+    (then (alone-at 2 (overSatellites orbitShape) λ m c. over-satellites orbitShape orbitBits orbit-width m)
+    (then (alone-at 3 (overSatellites clockShape) λ m c. over-satellites clockShape (λ _. 15) clock-width m ∙ ap (λ (k : ℕ). 37 + k) (total-same _ 15 (satellites (m .systems)) (λ s. refl)))
+    (then (alone-at 4 (overCells codeShape) λ m c. over-cells codeShape 11 code-width m)
+    (then (alone-at 5 (overCells phaseShape) λ m c. over-cells phaseShape 17 phase-width m)
     (then (other-long 6) (then (other-long 7) (then (other-long 8) (then (other-long 9)
     (then packet-at
-    (then (masked-long 11 combined putCombined λ m h. gives-so (combined-long m h) λ c b it. (it .0, omega (arith, it .1, at-number (mask m) c 11 (it .0)))) end)))))))))))
+    (then (masked-long 11 (record { program = flagged 11 combinedShape; spelling = putFlagged combinedShape }) combined-long) end)))))))))))
 
 -- the bits taken are the sum that head and masks fix
 pub message-long : (held : Held) → Gives (message held) (λ m b. length b ≡ lengthOf (m .after) (m .content))

@@ -15,5 +15,6 @@ pub mod RoundTrips
 pub mod Lengths
 pub mod HeldGood
 pub mod Placed
+pub mod Together
 pub mod Walks
 pub mod CutWalks

@@ -1,20 +1,21 @@
 -- What a mask message makes: a good mask, and one that spells the very bits that were taken.
 -- Assumes nothing.
 use mathlib.Core.Path.{_≡_, refl, sym, ap, ap₂, _∙_}
-use mathlib.Core.Bool.{true, cond, not}
-use mathlib.Core.List.{List, [], _∷_, _++_, append-nil, flatMap}
-use Prim.Native.Nat.{ℕ, zero, suc, _*_, _<_}
+use mathlib.Core.Bool.{true, cond, not, _&&_}
+use mathlib.Core.List.{List, [], _∷_, _++_, append-nil, flatMap, append-assoc}
+use Prim.Native.Nat.{ℕ, zero, suc, _*_, _<_, _+_}
 use native.Mathlib.Omega.{arith}
-use lib.Dec.{eqb}
+use lib.ListN.{length}
+use lib.Dec.{eqb, leb}
 use lib.IntN.{ℤ, pos}
 use lib.Seq.{append-snoc}
 use borrow.Author.Tests.{lt-ltb, eq-eqb}
 use Rattle.bits.specs.BitLists.{spell}
 use Rattle.bits.specs.Signed.{unsigned}
-use Rattle.format.specs.Assigned.{known}
+use Rattle.format.specs.Assigned.{known, assigned, satellitePlaces, signalPlaces}
 use Rattle.format.specs.Good.{goodSystem, goodSystems, good}
-use Rattle.format.specs.Masks.{System, mask}
-use Rattle.format.specs.Messages.{common, headOf, named, system, systems, maskMessage}
+use Rattle.format.specs.Masks.{System, mask, satellites, placesFrom}
+use Rattle.format.specs.Messages.{common, headOf, named, system, systems, maskMessage, systemId, BothMasks, systemMasks, systemCells, systemWith, idsOf}
 use Rattle.format.specs.Rows.{absent}
 use Rattle.format.specs.Spelling.{put, putCommon, putSystem, putMask}
 use Rattle.format.proofs.Sames.{and-true, true-and}
@@ -35,24 +36,45 @@ flag-width (suc (suc f)) n h = absurd (omega arith)
 
 -- ---- a system, systems, a head: good, and spelled by the bits taken
 
-pub system-gives : (before : List System) → Gives (system before) (λ s m. (goodSystem before s ≡ true) × (putSystem s ≡ m))
-unfolding system goodSystem putSystem
-system-gives before =
+id-gives : (ids : List ℕ) → Gives (systemId ids) (λ id m. ((known id && not (named id ids)) ≡ true) × (m ≡ spell 4 id))
+unfolding systemId
+id-gives ids =
     gives-numbered _ _ λ id small.
     gives-require _ _ _ λ fresh.
+    gives-done (fresh, append-nil (spell 4 id))
+
+-- the masks' tests
+record MasksFit (n id : ℕ) (k : BothMasks) : Type 0 where
+  whole : length (k .satellites) ≡ 40
+  placed : assigned satellitePlaces id (k .satellites) ≡ true
+  few : leb (n + length (placesFrom 0 (k .satellites))) 64 ≡ true
+  long : length (k .signals) ≡ 16
+  given : assigned signalPlaces id (k .signals) ≡ true
+
+masks-give : (n id : ℕ) → Gives (systemMasks n id) (λ k m. MasksFit n id k × (m ≡ k .satellites ++ k .signals))
+unfolding systemMasks
+masks-give n id =
     gives-taking _ _ λ sats whole.
     gives-require _ _ _ λ placed.
     gives-require _ _ _ λ few.
     gives-taking _ _ λ signals long.
     gives-require _ _ _ λ given.
+    gives-done (record { whole = whole; placed = placed; few = few; long = long; given = given }, rw append-nil)
+
+pub system-gives : (before : List System) → Gives (system before) (λ s m. (goodSystem before s ≡ true) × (putSystem s ≡ m))
+unfolding system systemCells systemWith goodSystem putSystem
+system-gives before =
+    gives-bind (id-gives (idsOf before)) λ id front fresh.
+    gives-bind (masks-give (length (satellites before)) id) λ k masks fit.
     gives-numbered _ _ λ flag bit.
     gives-taking _ _ λ bits width.
     gives-require _ _ _ λ held.
+    let new = and-true (known id) (not (named id (idsOf before))) (fresh .0) in
+    let f = fit .0 in
     gives-done (
-      let new = and-true (known id) (not (named id before)) fresh in
-          true-and (new .0) (true-and (new .1) (true-and (eq-eqb _ _ whole) (true-and placed (true-and few (true-and (eq-eqb _ _ long) (true-and given
+      true-and (new .0) (true-and (new .1) (true-and (eq-eqb _ _ (f .whole)) (true-and (f .placed) (true-and (f .few) (true-and (eq-eqb _ _ (f .long)) (true-and (f .given)
           (true-and (eq-eqb _ _ (width ∙ flag-width flag _ bit)) held))))))),
-      rw (flag-bit flag bit, append-nil bits),
+      rw (fresh .1, fit .1, flag-bit flag bit, append-nil bits, append-assoc),
     )
 
 systems-give : (n : ℕ) (before : List System)

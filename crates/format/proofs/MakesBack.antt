@@ -2,7 +2,7 @@
 -- Assumes nothing.
 use mathlib.Core.Path.{_≡_, refl}
 use mathlib.Core.Bool.{Bool, true, false, cond, not}
-use mathlib.Core.List.{List, [], _∷_, _++_, append-nil, flatMap}
+use mathlib.Core.List.{List, [], _∷_, _++_, append-nil, flatMap, append-assoc}
 use Prim.Native.Nat.{ℕ, zero, suc, _+_, _*_, _^_, _≤_, _<_}
 use native.Mathlib.Decide.{decLt}
 use native.Mathlib.Omega.{arith}
@@ -10,14 +10,14 @@ use lib.Dec.{eqb, leb, ltb}
 use lib.IntN.{ℤ, pos}
 use lib.ListN.{length, length-append}
 use lib.Seq.{append-snoc}
-use borrow.Author.Tests.{ltb-true, leb-true, eqb-true, not-true, eq-eqb, ne-eqb}
+use borrow.Author.Tests.{ltb-true, leb-true, le-leb, eqb-true, not-true, eq-eqb, ne-eqb}
 use Rattle.bits.specs.BitLists.{digit, spell}
 use Rattle.bits.specs.Signed.{unsigned}
 use Rattle.format.specs.Assigned.{satellitePlaces, signalPlaces, known, assigned}
 use Rattle.format.specs.declared.Head.{Head}
 use Rattle.format.specs.Good.{goodSystem, goodSystems, good}
 use Rattle.format.specs.Masks.{System, Mask, mask, placesFrom, satellites, cells}
-use Rattle.format.specs.Messages.{Common, common, headOf, named, system, systems, Adopted, maskMessage}
+use Rattle.format.specs.Messages.{Common, common, headOf, named, system, systems, Adopted, maskMessage, idsOf, systemId, systemMasks, systemCells, systemWith}
 use Rattle.format.specs.Programs.{Program, _>>=_, numbered, well, run}
 use Rattle.format.specs.Rows.{absent}
 use Rattle.format.specs.Spelling.{put, putCommon, putSystem, putMask}
@@ -27,22 +27,22 @@ use Rattle.format.proofs.Sames.{and-true, true-and}
 
 -- ---- a good system, test by test
 
-record GoodSystem (before : List System) (s : System) : Type 0 where
-  known-id : known (s .id) ≡ true
-  fresh : not (named (s .id) before) ≡ true
-  whole : length (s .satellites) ≡ 40
-  placed : assigned satellitePlaces (s .id) (s .satellites) ≡ true
-  few : leb (length (satellites before) + length (placesFrom 0 (s .satellites))) 64 ≡ true
-  long : length (s .signals) ≡ 16
-  given : assigned signalPlaces (s .id) (s .signals) ≡ true
-  width : length (s .cells) ≡ cond (s .flag) (length (placesFrom 0 (s .satellites)) * length (placesFrom 0 (s .signals))) 0
-  held : leb (length (cells (before ++ (s ∷ [])))) 256 ≡ true
+pub record GoodSystem (before : List System) (s : System) : Type 0 where
+  pub known-id : known (s .id) ≡ true
+  pub fresh : not (named (s .id) (idsOf before)) ≡ true
+  pub whole : length (s .satellites) ≡ 40
+  pub placed : assigned satellitePlaces (s .id) (s .satellites) ≡ true
+  pub few : length (satellites before) + length (placesFrom 0 (s .satellites)) ≤ 64
+  pub long : length (s .signals) ≡ 16
+  pub given : assigned signalPlaces (s .id) (s .signals) ≡ true
+  pub width : length (s .cells) ≡ cond (s .flag) (length (placesFrom 0 (s .satellites)) * length (placesFrom 0 (s .signals))) 0
+  pub held : length (cells (before ++ (s ∷ []))) ≤ 256
 
-good-system : (before : List System) (s : System) → goodSystem before s ≡ true → GoodSystem before s
+pub good-system : (before : List System) (s : System) → goodSystem before s ≡ true → GoodSystem before s
 unfolding goodSystem
 good-system before s e =
     let a = and-true (known (s .id)) _ e in
-    let b = and-true (not (named (s .id) before)) _ (a .1) in
+    let b = and-true (not (named (s .id) (idsOf before))) _ (a .1) in
     let c = and-true (eqb (length (s .satellites)) 40) _ (b .1) in
     let d = and-true (assigned satellitePlaces (s .id) (s .satellites)) _ (c .1) in
     let f = and-true (leb (length (satellites before) + length (placesFrom 0 (s .satellites))) 64) _ (d .1) in
@@ -54,11 +54,11 @@ good-system before s e =
       fresh = b .0;
       whole = eqb-true _ _ (c .0);
       placed = d .0;
-      few = f .0;
+      few = leb-true _ _ (f .0);
       long = eqb-true _ _ (g .0);
       given = h .0;
       width = eqb-true _ _ (i .0);
-      held = i .1;
+      held = leb-true _ _ (i .1);
     }
 
 -- ---- a system, systems, a head: read from the bits that spell them
@@ -71,21 +71,27 @@ reads-bit k true h = reads-numbered k 1 1 (omega arith) (h 1 (omega arith) refl)
 reads-bit k false h = reads-numbered k 1 0 (omega arith) (h 0 (omega arith) refl)
 
 system-reads : (before : List System) (s : System) → GoodSystem before s → Reads (system before) (putSystem s) s
-unfolding system putSystem known
+unfolding system systemId systemMasks systemCells systemWith putSystem known
 system-reads before s g =
-    reads-numbered _ 4 (s .id) (omega (arith, leb-true (s .id) 4 (g .known-id)))
+    reads-bind _ (reads-end (spell 4 (s .id))
+    (reads-numbered _ 4 (s .id) (omega (arith, leb-true (s .id) 4 (g .known-id)))
     (reads-require _ _ _ (true-and (g .known-id) (g .fresh))
+    reads-done)))
+    (rw (← append-assoc)
+    (reads-bind _ {b = record { satellites = s .satellites; signals = s .signals }}
     (reads-taking _ 40 (s .satellites) (g .whole)
     (reads-require _ _ _ (g .placed)
-    (reads-require _ _ _ (g .few)
+    (reads-require _ _ _ (le-leb _ _ (g .few))
+    (reads-end (s .signals)
     (reads-taking _ 16 (s .signals) (g .long)
     (reads-require _ _ _ (g .given)
+    reads-done))))))
     (reads-bit _ (s .flag) λ n small same.
     rw same
     (reads-end (s .cells)
     (reads-taking _ _ (s .cells) (rw (flag-width n, same) (g .width))
-    (reads-require _ _ _ (g .held)
-    reads-done))))))))))
+    (reads-require _ _ _ (le-leb _ _ (g .held))
+    reads-done))))))
 
 systems-read : (before ss : List System) → goodSystems before ss ≡ true → Reads (systems (length ss) before) (flatMap putSystem ss) (before ++ ss)
 unfolding systems goodSystems flatMap
@@ -110,7 +116,7 @@ common-reads w h epoch interval indicator iod subType a b c =
 -- how many numbers below n are names of systems
 names : ℕ → List System → ℕ
 names zero l = 0
-names (suc n) l = digit (named n l) + names n l
+names (suc n) l = digit (named n (idsOf l)) + names n l
 
 digit-le : (b : Bool) → digit b ≤ 1
 digit-le true = omega arith
@@ -119,19 +125,19 @@ digit-le false = omega arith
 names-le : (n : ℕ) (l : List System) → names n l ≤ n
 unfolding names
 names-le zero l = omega arith
-names-le (suc n) l = omega (arith, digit-le (named n l), names-le n l)
+names-le (suc n) l = omega (arith, digit-le (named n (idsOf l)), names-le n l)
 
 either : (b : Bool) → cond b true true ≡ true
 either true = refl
 either false = refl
 
 -- what one more system names
-named-self : (l : List System) (s : System) → named (s .id) (l ++ (s ∷ [])) ≡ true
+named-self : (l : List System) (s : System) → named (s .id) (idsOf (l ++ (s ∷ []))) ≡ true
 unfolding named
 named-self [] s = rw (eq-eqb (s .id) (s .id) refl)
 named-self (t ∷ l) s = rw (named-self l s) (either (eqb (s .id) (t .id)))
 
-named-other : (id : ℕ) (l : List System) (s : System) → (id ≡ s .id → ⊥) → named id (l ++ (s ∷ [])) ≡ named id l
+named-other : (id : ℕ) (l : List System) (s : System) → (id ≡ s .id → ⊥) → named id (idsOf (l ++ (s ∷ []))) ≡ named id (idsOf l)
 unfolding named
 named-other id [] s h = rw (ne-eqb id (s .id) h)
 named-other id (t ∷ l) s h = rw (named-other id l s h)
@@ -142,13 +148,13 @@ unfolding names
 names-same zero l s h = refl
 names-same (suc n) l s h = rw (named-other n l s (λ e. omega arith), names-same n l s (omega arith))
 
-names-more : (n : ℕ) (l : List System) (s : System) → s .id < n → named (s .id) l ≡ false → names n (l ++ (s ∷ [])) ≡ suc (names n l)
+names-more : (n : ℕ) (l : List System) (s : System) → s .id < n → named (s .id) (idsOf l) ≡ false → names n (l ++ (s ∷ [])) ≡ suc (names n l)
 unfolding names
 names-more zero l s h new = absurd (omega arith)
 names-more (suc n) l s h new = go (names-more n l s) (decLt (s .id) n)
   where
-    go : (s .id < n → named (s .id) l ≡ false → names n (l ++ (s ∷ [])) ≡ suc (names n l)) → Dec (s .id < n)
-        → digit (named n (l ++ (s ∷ []))) + names n (l ++ (s ∷ [])) ≡ suc (digit (named n l) + names n l)
+    go : (s .id < n → named (s .id) (idsOf l) ≡ false → names n (l ++ (s ∷ [])) ≡ suc (names n l)) → Dec (s .id < n)
+        → digit (named n (idsOf (l ++ (s ∷ [])))) + names n (l ++ (s ∷ [])) ≡ suc (digit (named n (idsOf l)) + names n l)
     go more (yes below) = rw (named-other n l s (λ e. omega arith), more below new) (omega arith)
     go more (no above) =
         let same : n ≡ s .id = omega arith in
@@ -173,7 +179,7 @@ pub few-systems : (m : Mask) → good (mask m) ≡ true → length (m .systems) 
 few-systems m e = omega (arith, own-names m e, names-le 5 (m .systems))
 
 -- and where an ID is not named yet, there is room for its system
-pub room-for : (m : Mask) (id : ℕ) → good (mask m) ≡ true → known id ≡ true → named id (m .systems) ≡ false → length (m .systems) < 5
+pub room-for : (m : Mask) (id : ℕ) → good (mask m) ≡ true → known id ≡ true → named id (idsOf (m .systems)) ≡ false → length (m .systems) < 5
 unfolding known
 room-for m id e small new =
     let s : System = record { id = id; satellites = []; signals = []; flag = false; cells = [] } in

@@ -10,26 +10,27 @@ use Rattle.bits.specs.BitLists.{number}
 use Rattle.format.specs.declared.Refusal.{Refusal}
 use Rattle.format.specs.declared.Refusal.the-variants.{Number}
 use Rattle.format.specs.Masks.{Held}
-use Rattle.format.specs.Messages.{Content, packet}
+use Rattle.format.specs.Messages.{Content, bodied, packet}
 use Rattle.format.specs.Programs.{Program, done, refuse, field, _>>=_, _>>_, numbered, require, Ended, well, badly, later, unlessShort, run}
 use Rattle.format.specs.Reading.{subTypeIn}
-use Rattle.format.specs.Table.{Kind, free, adopts, Message, table, kinds, byKind, messageBy, message}
+use Rattle.format.specs.Table.{Kind, free, adopts, Message, table, kinds, keeping, byKind, opening, messageBy, message}
 
 -- 3 for the number, 4, 3 for the sub type, and then the rest's end
 unfoldable pub opened : {A : Type 0} → List Bool → Ended A → Ended A
 opened l e =
     unlessShort (12 - length l) (later 12 (cond (eqb (number (take 12 l)) 4073) (unlessShort (4 - length (drop 12 l)) (later 4 e)) (badly Number 0)))
 
-run-require : {A : Type 0} (test : Bool) (r : Refusal) (p : Program A) (l : List Bool) → run (require test r >> p) l ≡ cond test (run p l) (badly r 0)
+run-require : {A B : Type 0} (test : Bool) (r : Refusal) (p : Program A) (k : A → Program B) (l : List Bool)
+    → run (require test r >> p >>= k) l ≡ cond test (run (p >>= k) l) (badly r 0)
 unfolding require _>>_ _>>=_ run
-run-require true r p l = refl
-run-require false r p l = refl
+run-require true r p k l = refl
+run-require false r p k l = refl
 
 pub run-opened : (t : ℕ → Kind) (held : Held) (l : List Bool) → run (messageBy t held) l ≡ opened l (run (byKind (t (subTypeIn l)) held) (drop 4 (drop 12 l)))
-unfolding messageBy numbered _>>=_ run opened
+unfolding messageBy opening numbered _>>=_ run opened
 run-opened t held l =
     ap (λ e. unlessShort (12 - length l) (later 12 e))
-    (run-require (eqb (number (take 12 l)) 4073) Number (numbered 4 >>= (λ s. byKind (t s) held)) (drop 12 l))
+    (run-require (eqb (number (take 12 l)) 4073) Number (numbered 4 >>= done) (λ s. byKind (t s) held) (drop 12 l))
 
 -- ---- a mask message: whatever is held, the same end
 pub mask-free : (g h : Held) (l : List Bool) → subTypeIn l ≡ 1 → run (message g) l ≡ run (message h) l
@@ -79,12 +80,12 @@ content-held (field w next) held l =
     ∙ ap (unlessShort (w - length l))
     (content-later w (run (next (take w l) >>= (λ c. done (record { content = c; after = held }))) (drop w l)) ∙ ap (later w) (content-held (next (take w l)) held (drop w l)))
 
-packet-alone : (held : Held) (l : List Bool) → subTypeIn l ≡ 10 → contentOf (run (message held) l) ≡ opened l (run packet (drop 4 (drop 12 l)))
-unfolding table kinds byKind
+packet-alone : (held : Held) (l : List Bool) → subTypeIn l ≡ 10 → contentOf (run (message held) l) ≡ opened l (run (bodied packet) (drop 4 (drop 12 l)))
+unfolding table kinds byKind keeping
 packet-alone held l ten =
     ap contentOf (run-opened table held l ∙ ap (λ (s : ℕ). opened l (run (byKind (table s) held) (drop 4 (drop 12 l)))) ten)
-    ∙ content-opened l (run (packet >>= (λ c. done (record { content = c; after = held }))) (drop 4 (drop 12 l)))
-    ∙ ap (opened l) (content-held packet held (drop 4 (drop 12 l)))
+    ∙ content-opened l (run (bodied packet >>= (λ c. done (record { content = c; after = held }))) (drop 4 (drop 12 l)))
+    ∙ ap (opened l) (content-held (bodied packet) held (drop 4 (drop 12 l)))
 
 pub packet-free : (g h : Held) (l : List Bool) → subTypeIn l ≡ 10 → contentOf (run (message g) l) ≡ contentOf (run (message h) l)
 packet-free g h l ten = packet-alone g l ten ∙ sym (packet-alone h l ten)

@@ -2,59 +2,63 @@
 -- Assumes nothing.
 use mathlib.Core.Path.{_≡_, refl, ap, _∙_}
 use mathlib.Core.Bool.{Bool, true, false≢true}
-use mathlib.Core.List.{List, _++_, append-nil}
-use Prim.Native.Nat.{ℕ}
+use mathlib.Core.List.{List, _++_, append-nil, append-assoc}
+use Prim.Native.Nat.{ℕ, _<_, _^_}
 use native.Mathlib.Omega.{arith}
 use borrow.Author.Tests.{eqb-true}
 use lib.Dec.{eqb}
 use lib.IntN.{ℤ, pos}
 use lib.ListN.{length, take, drop, take-append-drop}
 use lib.Seq.{length-take-le, take-length}
+use Rattle.bits.specs.BitLists.{spell}
 use Rattle.bits.specs.Signed.{unsigned}
 use Rattle.format.specs.declared.Head.{Head}
 use Rattle.format.specs.declared.Refusal.the-variants.{SubType, OtherIssue}
 use Rattle.format.specs.Good.{good}
-use Rattle.format.specs.Masks.{Mask, Held, nothing, mask, satellites, cells}
-use Rattle.format.specs.Messages.{Common, headOf, orbitShape, clockShape, codeShape, phaseShape}
-use Rattle.format.specs.Programs.{Ended, well, badly, run}
+use Rattle.format.specs.Masks.{Held, nothing, mask, Sky, skyOf}
+use Rattle.format.specs.Messages.{Common, headOf, orbitShape, clockShape, codeShape, phaseShape, overSatellites, Heading, overCells, bodied, combinedShape}
+use Rattle.format.specs.Programs.{Ended, well, badly, run, Program}
 use Rattle.format.specs.Rows.{Line}
 use Rattle.format.specs.Same.{sameList, sameℤ, sameHead}
 use Rattle.format.specs.Spelling.{put, putCommon}
-use Rattle.format.specs.Table.{Message, Kind, other, free, masked, adopts, alone, orbitLines, clockLines, codeLines, phaseLines, kinds, table, gate, byKind, messageBy, message, kindOf, spellKind, spelledBy, spelled}
+use Rattle.format.specs.Table.{Message, Kind, other, free, masked, adopts, alone, kinds, table, gate, byKind, opening, messageBy, message, kindOf, spellKind, spelledBy, spelled, underMask}
 use Rattle.format.specs.Writing.{endedWith, exact}
-use Rattle.format.proofs.Bodies.{Threes}
+use Rattle.format.proofs.Bodies.{Threes, bodied-gives}
 use Rattle.format.proofs.Makes.{common-gives, mask-spelled}
 use Rattle.format.proofs.Runs.{taken-le, run-append}
 use Rattle.format.proofs.Sames.{and-true, sameList-sound, sameList-refl, sameℤ-sound, sameℤ-refl, sameHead-sound, sameHead-refl, sameHeld-sound, sameHeld-refl, eqb-refl}
-use Rattle.format.proofs.Spells.{satellite-threes, cell-threes, alone-spelled, packet-spelled, combined-spelled}
-use Rattle.format.proofs.Steps.{Gives, gives-done, gives-refuse, gives-require, gives-bind, gives-so, gives-both, gives-itself, Reads, reads-require, reads-numbered}
-use Rattle.format.proofs.Tables.{Each, end, then, in-table, gives-message, free-keeps, masked-keeps, masked-nothing}
+use Rattle.format.proofs.Selections.{Distinct, satellites-distinct}
+use Rattle.format.proofs.Spells.{satellite-threes, cell-threes, alone-spelled, packet-spelled, flagged-spelled, Spells}
+use Rattle.format.proofs.Steps.{Gives, gives-done, gives-refuse, gives-require, gives-bind, gives-so, gives-both, gives-itself, Reads, reads-require, reads-numbered, reads-bind, reads-end, reads-done}
+use Rattle.format.proofs.Tables.{Each, end, then, in-table, gives-message, keeping-gives, keeps, under-nothing, under-gives}
 
 -- What a kind promises at a sub type n: what its program reads is of that sub type, and its spelling of that is the bits taken.
 -- Where a common head stands before, the head read keeps its columns.
 unfoldable pub Lawful : ℕ → Kind → Type 0
 Lawful n other = Unit {0}
-Lawful n (free p q) = Gives p (λ c b. (c .head .subtype ≡ pos n) × (q (c .head) (c .rows) ≡ b))
-Lawful n (masked p q) =
-    (m : Mask) → good (mask m) ≡ true → (h : Common)
-    → Gives (p m h) (λ c b. (c .head ≡ headOf n h (c .head .a) (c .head .b) (c .head .c)) × (q m (c .head) (c .rows) ≡ b))
-Lawful n (adopts p q) = Gives p (λ d b. (d .head .subtype ≡ pos n) × (q (d .made) (d .head) ≡ b))
+Lawful n (free k) = Gives (k .program) (λ d b. (d .head .subtype ≡ pos n) × Spells (k .spelling) d b)
+Lawful n (masked k) =
+    (sky : Sky) → Distinct (sky .satellites) → (h : Common)
+    → Gives (k .program sky h) (λ d b. (d .head ≡ headOf n h (d .head .a) (d .head .b) (d .head .c)) × Spells (k .spelling sky) d b)
+Lawful n (adopts k) = Gives (k .program) (λ d b. (d .head .subtype ≡ pos n) × (k .spelling (d .made) (d .head) ≡ b))
 
 -- ---- what was read, written again under the holding that it left, is the bits that were taken
 
 -- behind the sub type
 kind-spelled : (n : ℕ) (k : Kind) → Lawful n k → (held : Held) → good held ≡ true
     → Gives (byKind k held) (λ m b. (m .content .head .subtype ≡ pos n) × (spellKind k (m .after) (m .content .head) (m .content .rows) ≡ b))
-unfolding Lawful byKind gate spellKind headOf
+unfolding Lawful byKind spellKind headOf skyOf
 kind-spelled n other law held fine = gives-refuse SubType
-kind-spelled n (free p q) law held fine = gives-bind law λ c b it. gives-done (rw append-nil it)
-kind-spelled n (masked p q) law nothing fine = masked-nothing p q
-kind-spelled n (masked p q) law (mask m) fine =
-    gives-bind (common-gives 12) λ h b front.
-    gives-bind (gives-require (eqb (h .iod) (m .iod)) OtherIssue (p m h) λ _. law m fine h) λ c r it.
-    let head : putCommon 12 (c .head) ≡ b = ap (putCommon 12) (it .0) ∙ front .1 n (c .head .a) (c .head .b) (c .head .c) in
-    gives-done (ap (λ (g : Head). g .subtype) (it .0), rw (head, it .1, append-nil))
-kind-spelled n (adopts p q) law held fine = gives-bind law λ d b it. gives-done (rw append-nil it)
+kind-spelled n (free k) law held fine = keeping-gives held law λ d b l it whole. (it .0, it .1 l whole)
+kind-spelled n (masked k) law nothing fine = keeping-gives {P = λ d b. ⊥} nothing (under-nothing k) λ d b l none whole. absurd none
+kind-spelled n (masked k) law (mask m) fine =
+    keeping-gives {P = λ d b. (d .head .subtype ≡ pos n) × Spells (λ g rows. putCommon 12 g ++ k .spelling (skyOf m) g rows) d b} (mask m)
+    (under-gives k m (common-gives 12) λ h a front.
+    gives-so (law (skyOf m) (satellites-distinct m fine) h) λ d b it.
+    let head : putCommon 12 (d .head) ≡ a = ap (putCommon 12) (it .0) ∙ front .1 n (d .head .a) (d .head .b) (d .head .c) in
+    (ap (λ (g : Head). g .subtype) (it .0), λ l whole. rw (head, it .1 l whole, append-assoc)))
+    λ d b l it whole. (it .0, it .1 l whole)
+kind-spelled n (adopts k) law held fine = gives-bind law λ d b it. gives-done (rw append-nil it)
 
 -- from the number on
 message-spelled : (t : ℕ → Kind) → ((n : ℕ) → Lawful n (t n)) → (held : Held) → good held ≡ true
@@ -72,9 +76,15 @@ read-spelled t law held fine = message-spelled t law held fine .gives
 kind-again : (k : Kind) (held : Held) → Gives (byKind k held) (λ m b. byKind k (m .after) ≡ byKind k held)
 unfolding byKind
 kind-again other held = gives-refuse SubType
-kind-again (free p q) held = free-keeps p q held λ c b. refl
-kind-again (masked p q) held = masked-keeps p q held λ c b. refl
-kind-again (adopts p q) held = gives-so (gives-itself (byKind (adopts p q) held)) λ m b _. refl
+kind-again (free k) held = keeps held (k .program) λ c b. refl
+kind-again (masked k) held = keeps held (underMask k held) λ c b. refl
+kind-again (adopts k) held = gives-so (gives-itself (byKind (adopts k) held)) λ m b _. refl
+
+-- the number and the sub type
+opening-reads : (n : ℕ) → n < 2 ^ 4 → Reads opening (spell 12 4073 ++ spell 4 n) n
+unfolding opening
+opening-reads n small =
+    reads-numbered _ 12 4073 (omega arith) (reads-require _ _ _ refl (reads-end (spell 4 n) (reads-numbered _ 4 n small reads-done)))
 
 -- so the bits taken read, under what is held after, to the same message
 message-again : (t : ℕ → Kind) (held : Held) → Gives (messageBy t held) (λ m b. Reads (messageBy t (m .after)) b m)
@@ -82,7 +92,7 @@ unfolding messageBy
 message-again t held =
     gives-message t held λ n small.
     gives-so (gives-both (kind-again (t n) held) (gives-itself (byKind (t n) held))) λ m b it.
-    reads-numbered _ 12 4073 (omega arith) (reads-require _ _ _ refl (reads-numbered _ 4 n small (rw (it .0) (it .1))))
+    rw (← append-assoc) (reads-bind _ (opening-reads n small) (rw (it .0) (it .1)))
 
 pub read-again : (t : ℕ → Kind) (held : Held) (l : List Bool) (m : Message) (taken : ℕ) → run (messageBy t held) l ≡ well m taken
     → run (messageBy t (m .after)) l ≡ well m taken
@@ -122,19 +132,19 @@ exact-reads held h rows e more =
 
 -- ---- the table
 
-alone-lawful : (n : ℕ) (lines : Mask → List Line) → ((m : Mask) → Threes (lines m)) → Lawful n (alone n lines)
+alone-lawful : (n : ℕ) (over : Sky → List Line) → ((sky : Sky) → Threes (over sky)) → Lawful n (alone n over)
 unfolding Lawful alone headOf
-alone-lawful n lines threes m fine h = gives-so (alone-spelled n lines threes m h) λ c b it. (rw (it .0), it .1)
+alone-lawful n over threes sky distinct h = gives-so (alone-spelled n over sky (threes sky) h) λ d b it. (rw (it .0), it .1)
 
 kinds-lawful : Each Lawful 0 kinds
-unfolding kinds Lawful orbitLines clockLines codeLines phaseLines
+unfolding kinds Lawful overSatellites overCells
 kinds-lawful =
     then tt (then mask-spelled
-    (then (alone-lawful 2 orbitLines (λ m. satellite-threes orbitShape (satellites (m .systems))))
-    (then (alone-lawful 3 clockLines (λ m. satellite-threes clockShape (satellites (m .systems))))
-    (then (alone-lawful 4 codeLines (λ m. cell-threes codeShape (cells (m .systems))))
-    (then (alone-lawful 5 phaseLines (λ m. cell-threes phaseShape (cells (m .systems))))
-    (then tt (then tt (then tt (then tt (then packet-spelled (then combined-spelled end)))))))))))
+    (then (alone-lawful 2 (overSatellites orbitShape) (λ sky. satellite-threes orbitShape (sky .satellites)))
+    (then (alone-lawful 3 (overSatellites clockShape) (λ sky. satellite-threes clockShape (sky .satellites)))
+    (then (alone-lawful 4 (overCells codeShape) (λ sky. cell-threes codeShape (sky .cells)))
+    (then (alone-lawful 5 (overCells phaseShape) (λ sky. cell-threes phaseShape (sky .cells)))
+    (then tt (then tt (then tt (then tt (then packet-spelled (then (flagged-spelled 11 combinedShape) end)))))))))))
 
 pub table-lawful : (n : ℕ) → Lawful n (table n)
 unfolding Lawful

@@ -35,7 +35,7 @@ drop-take w n l h = ap (drop w) (take-add w n l) ∙ drop-at (take w l) (take n 
 
 -- ---- ends
 
-later-zero : {A : Type 0} (e : Ended A) → later 0 e ≡ e
+pub later-zero : {A : Type 0} (e : Ended A) → later 0 e ≡ e
 unfolding later
 later-zero (well a taken) = ap (well a) (zero-add taken)
 later-zero (badly r missing) = refl
@@ -59,7 +59,7 @@ unfolding later
 later-badly w (well b rest) r missing e = absurd (let z : _≡_ {A = ℕ} 0 1 = cc in omega arith)
 later-badly w (badly q rest) r missing e = e
 
-not-well : {A : Type 0} (r : Refusal) (missing : ℕ) (a : A) (taken : ℕ) → badly r missing ≡ well a taken → ⊥
+pub not-well : {A : Type 0} (r : Refusal) (missing : ℕ) (a : A) (taken : ℕ) → badly r missing ≡ well a taken → ⊥
 not-well r missing a taken e = let z : _≡_ {A = ℕ} 0 1 = cc in omega arith
 
 -- ---- a run that ended well
@@ -130,6 +130,13 @@ run-bind-badly (field w next) k l r missing e = go (run-bind-badly (next (take w
         let h : w ≤ length l = omega arith in
         run-field w (λ bs. next bs >>= k) l h ∙ ap (later w) (more (later-badly w (run (next (take w l)) (drop w l)) r missing (sym (run-field w next l h) ∙ e)))
         ∙ badly-later w r missing
+
+-- three, one after the other
+pub bind-assoc : {A B C : Type 0} (p : Program A) (f : A → Program B) (g : B → Program C) → ((p >>= f) >>= g) ≡ (p >>= (λ a. f a >>= g))
+unfolding _>>=_
+bind-assoc (done a) f g = refl
+bind-assoc (refuse r) f g = refl
+bind-assoc (field w more) f g = λ i. field w (λ b. bind-assoc (more b) f g i)
 
 -- and back: a run of one after the other that ended well is two
 pub record Both {A B : Type 0} (p : Program A) (k : A → Program B) (l : List Bool) (b : B) (taken : ℕ) : Type 0 where

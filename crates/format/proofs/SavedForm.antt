@@ -16,6 +16,7 @@ use Rattle.format.specs.Masks.{System, Held, nothing, mask, placesFrom, 
 use Rattle.format.specs.Messages.{named}
 use Rattle.format.specs.Same.{sameList}
 use Rattle.format.specs.Saved.{tab, lineFeed, dash, letterS, digitChar, charDigit, decimal, decimalValue, hex, hexBits, cellText, flagText, systemText, heldText, lineOf, fieldsFrom, systemFrom, systemsFrom, heldFrom, loaded, unloaded, load}
+use Rattle.format.proofs.MakesBack.{good-system}
 use Rattle.format.proofs.Sames.{sameList-sound, sameList-refl, eqb-refl}
 
 -- ---- digits
@@ -183,19 +184,10 @@ record Sized (s : System) : Type 0 where
   cells : length (s .cells) ≡ cond (s .flag) (length (placesFrom 0 (s .satellites)) * length (placesFrom 0 (s .signals))) 0
 
 sized : (before : List System) (s : System) → goodSystem before s ≡ true → Sized s
-unfolding goodSystem known
-sized before s g =
-    let sats = length (placesFrom 0 (s .satellites)) in
-    let sigs = length (placesFrom 0 (s .signals)) in
-    let h1 = and-eq-true-iff (known (s .id)) _ .0 g in
-    let h2 = and-eq-true-iff (not (named (s .id) before)) _ .0 (h1 .1) in
-    let h3 = and-eq-true-iff (eqb (length (s .satellites)) 40) _ .0 (h2 .1) in
-    let h4 = and-eq-true-iff (assigned satellitePlaces (s .id) (s .satellites)) _ .0 (h3 .1) in
-    let h5 = and-eq-true-iff (leb (length (satellites before) + sats) 64) _ .0 (h4 .1) in
-    let h6 = and-eq-true-iff (eqb (length (s .signals)) 16) _ .0 (h5 .1) in
-    let h7 = and-eq-true-iff (assigned signalPlaces (s .id) (s .signals)) _ .0 (h6 .1) in
-    let h8 = and-eq-true-iff (eqb (length (s .cells)) (cond (s .flag) (sats * sigs) 0)) _ .0 (h7 .1) in
-    record { id = leb-true (s .id) 4 (h1 .0); satellites = eqb-true _ _ (h3 .0); signals = eqb-true _ _ (h6 .0); cells = eqb-true _ _ (h8 .0) }
+unfolding known
+sized before s e =
+    let g = good-system before s e in
+    record { id = leb-true (s .id) 4 (g .known-id); satellites = g .whole; signals = g .long; cells = g .width }
 
 systemFrom-sized : (s : System) → Sized s
     → systemFrom (decimal (s .id)) (hex (s .satellites)) (hex (s .signals)) (flagText (s .flag)) (cellText (s .cells)) ≡ s

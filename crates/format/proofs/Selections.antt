@@ -12,7 +12,7 @@ use lib.ListN.{length, take, drop}
 use Rattle.format.specs.Assigned.{known}
 use Rattle.format.specs.Good.{goodSystem, goodSystems, good}
 use Rattle.format.specs.Masks.{System, Mask, mask, Satellite, placesFrom, pick, satellitesOf, satellites}
-use Rattle.format.specs.Messages.{satelliteLines, named}
+use Rattle.format.specs.Messages.{satelliteLines, named, idsOf}
 use Rattle.format.specs.Rows.{Column, shapeWidth, rowsOf}
 use Rattle.format.specs.Same.{sameℤ, sameList}
 use Rattle.format.specs.Spelling.{marks}
@@ -61,7 +61,7 @@ cond-false : (t r : Bool) → cond t true r ≡ false → (t ≡ false) × (r �
 cond-false true r e = absurd (false≢true (sym e))
 cond-false false r e = (refl, e)
 
-named-before : (id : ℕ) (before : List System) (s : System) → named id (before ++ (s ∷ [])) ≡ false → (named id before ≡ false) × (eqb id (s .id) ≡ false)
+named-before : (id : ℕ) (before : List System) (s : System) → named id (idsOf (before ++ (s ∷ []))) ≡ false → (named id (idsOf before) ≡ false) × (eqb id (s .id) ≡ false)
 unfolding named
 named-before id [] s e = (refl, cond-false (eqb id (s .id)) false e .0)
 named-before id (b ∷ before) s e =
@@ -69,12 +69,12 @@ named-before id (b ∷ before) s e =
     let later = named-before id before s (here .1) in
     (rw (here .0) (later .0), later .1)
 
-new-id : (before : List System) (s : System) → goodSystem before s ≡ true → named (s .id) before ≡ false
+new-id : (before : List System) (s : System) → goodSystem before s ≡ true → named (s .id) (idsOf before) ≡ false
 unfolding goodSystem
-new-id before s e = not-true (named (s .id) before) (and-true (not (named (s .id) before)) _ (and-true (known (s .id)) _ e .1) .0)
+new-id before s e = not-true (named (s .id) (idsOf before)) (and-true (not (named (s .id) (idsOf before))) _ (and-true (known (s .id)) _ e .1) .0)
 
 -- satellites of systems after others: none of a system named before, and no two the same
-distinct-from : (before ss : List System) → goodSystems before ss ≡ true → All (λ t. named (t .system) before ≡ false) (satellites ss) × Distinct (satellites ss)
+distinct-from : (before ss : List System) → goodSystems before ss ≡ true → All (λ t. named (t .system) (idsOf before) ≡ false) (satellites ss) × Distinct (satellites ss)
 unfolding goodSystems satellites satellitesOf flatMap
 distinct-from before [] e = (none, nobody)
 distinct-from before (s ∷ ss) e =

@@ -1,7 +1,7 @@
 -- How a reading ends; and a stop changes nothing: neither the holding nor the row buffer. Assumes nothing.
 use mathlib.Core.Path.{_≡_, refl}
 use mathlib.Core.Bool.{Bool, true, false, cond}
-use mathlib.Core.List.{List}
+use mathlib.Core.List.{List, [], _∷_}
 use Prim.Native.Nat.{ℕ, _+_}
 use lib.Dec.{leb}
 use lib.IntN.{ℤ}
@@ -9,10 +9,24 @@ use lib.ListN.{length}
 use Rattle.format.specs.declared.Refusal.{Refusal}
 use Rattle.format.specs.declared.Refusal.the-variants.{Room, Place, Value}
 use Rattle.format.specs.Assigned.{blank}
-use Rattle.format.specs.Masks.{Held}
+use Rattle.format.specs.Good.{good, isHolding}
+use Rattle.format.specs.Masks.{Held, Lent, stray, lent, heldIn}
 use Rattle.format.specs.Programs.{Ended, well, badly, run}
-use Rattle.format.specs.Reading.{rowRoom, Outcome, accepted, idle, refused, endedAt, readFrom, bitsFrom, placed, readingBy, reading, heldAfter, rowsAfter}
+use Rattle.format.specs.Reading.{rowRoom, placed, Outcome, accepted, idle, refused, endedAt, readFrom, bitsFrom, lentTests, readingBy, reading, lentAfter, rowsAfter}
 use Rattle.format.specs.Table.{Kind, Message, table, messageBy}
+use Rattle.format.specs.Tests.{Test, verdict}
+
+-- ---- tests in their order
+
+-- what holds where all of them hold, and of each refusal
+pub judged : {A : Type 0} (P : A → Type 0) (refusal : Refusal → A) (fine : A) (ts : List Test) → ((r : Refusal) → P (refusal r)) → P fine → P (verdict refusal fine ts)
+unfolding verdict
+judged P refusal fine [] stop good = good
+judged P refusal fine (t ∷ ts) stop good = go (t .holds) (judged P refusal fine ts stop good)
+  where
+    go : (b : Bool) → P (verdict refusal fine ts) → P (elim b [ true ↦ verdict refusal fine ts | false ↦ refusal (t .else) ])
+    go true rest = rest
+    go false rest = stop (t .else)
 
 -- ---- how a reading ends
 
@@ -22,42 +36,50 @@ module _ (P : Outcome → Type 0) where
   branch true a b pa pb = pa
   branch false a b pa pb = pb
 
-  module _ (held : Held) (stop : (r : Refusal) (missing : ℕ) → P (refused r missing held)) where
-    -- a program's end
-    ended : (place : ℕ) (e : Ended Message) → ((m : Message) (taken : ℕ) → e ≡ well m taken → P (accepted m (place + taken))) → P (endedAt held place e)
-    unfolding endedAt
-    ended place (well m taken) said = said m taken refl
-    ended place (badly r missing) said = stop r missing
+  -- a program's end
+  ended : (held : Held) → ((r : Refusal) (missing : ℕ) → P (refused r missing (lent held))) → (place : ℕ) (e : Ended Message)
+      → ((m : Message) (taken : ℕ) → e ≡ well m taken → P (accepted m (place + taken))) → P (endedAt held place e)
+  unfolding endedAt
+  ended held stop place (well m taken) said = said m taken refl
+  ended held stop place (badly r missing) said = stop r missing
 
-    -- what holds of stops that keep the holding, and of whatever message is read, holds of a reading
+  module _ (t : ℕ → Kind) (bytes : List ℕ) (end start : ℕ) (rows : List ℤ) where
+    -- what is no holding is refused
+    pub stray-refused : ((r : Refusal) → P (refused r 0 stray)) → P (readingBy t stray bytes end start rows)
+    unfolding readingBy isHolding lentTests verdict
+    stray-refused stop =
+        judged P (λ r. refused r 0 stray) (refused Value 0 stray)
+        (record { holds = leb rowRoom (length rows); else = Room } ∷ record { holds = placed bytes end start; else = Place } ∷ [])
+        stop (stop Value)
+
+    -- what holds of stops that keep what is lent, and of whatever message is read, holds of a reading
     pub reading-ends :
-        (t : ℕ → Kind) (sound : Bool) (bytes : List ℕ) (end start : ℕ) (rows : List ℤ) → P (idle held)
-        → ((m : Message) (taken : ℕ) → run (messageBy t held) (bitsFrom bytes end start) ≡ well m taken → P (accepted m (start + taken)))
-        → P (readingBy t sound held bytes end start rows)
-    unfolding readingBy readFrom
-    reading-ends t sound bytes end start rows none said =
+        (holding : Lent) → ((r : Refusal) (missing : ℕ) → P (refused r missing holding)) → P (idle holding)
+        → ((m : Message) (taken : ℕ) → run (messageBy t (heldIn holding)) (bitsFrom bytes end start) ≡ well m taken → P (accepted m (start + taken)))
+        → P (readingBy t holding bytes end start rows)
+    unfolding readingBy readFrom heldIn isHolding
+    reading-ends stray stop none said = stray-refused (λ r. stop r 0)
+    reading-ends (lent held) stop none said =
         let l : List Bool = bitsFrom bytes end start in
-        branch (leb rowRoom (length rows)) _ _
-        (branch (placed bytes end start) _ _ (branch sound _ _ (branch (blank l) _ _ none (ended start (run (messageBy t held) l) said)) (stop Value 0)) (stop Place 0))
-        (stop Room 0)
+        judged P (λ r. refused r 0 (lent held)) _ (lentTests (good held) bytes end start (length rows)) (λ r. stop r 0)
+        (branch (blank l) _ _ none (ended held stop start (run (messageBy t held) l) said))
 
 -- ---- stops
 
 -- idle or a refusal
 abbrev pub Stopped : Outcome → Type 0
 Stopped (accepted m next) = ⊥
-Stopped (idle held) = Unit {0}
-Stopped (refused r missing held) = Unit {0}
+Stopped (idle holding) = Unit {0}
+Stopped (refused r missing holding) = Unit {0}
 
-pub stop-holds :
-    (sound : Bool) (held : Held) (bytes : List ℕ) (end start : ℕ) (rows : List ℤ) → Stopped (reading sound held bytes end start rows)
-    → heldAfter (reading sound held bytes end start rows) ≡ held
-unfolding heldAfter
-stop-holds sound held bytes end start rows =
-    reading-ends (λ o. Stopped o → heldAfter o ≡ held) held (λ r missing _. refl) table sound bytes end start rows (λ _. refl) (λ m taken e stopped. absurd stopped)
+pub stop-holds : (holding : Lent) (bytes : List ℕ) (end start : ℕ) (rows : List ℤ) → Stopped (reading holding bytes end start rows)
+    → lentAfter (reading holding bytes end start rows) ≡ holding
+unfolding lentAfter
+stop-holds holding bytes end start rows =
+    reading-ends (λ o. Stopped o → lentAfter o ≡ holding) table bytes end start rows holding (λ r missing _. refl) (λ _. refl) (λ m taken e stopped. absurd stopped)
 
 pub stop-leaves : (o : Outcome) (rows : List ℤ) → Stopped o → rowsAfter o rows ≡ rows
 unfolding rowsAfter
 stop-leaves (accepted m next) rows stopped = absurd stopped
-stop-leaves (idle held) rows stopped = refl
-stop-leaves (refused r missing held) rows stopped = refl
+stop-leaves (idle holding) rows stopped = refl
+stop-leaves (refused r missing holding) rows stopped = refl

@@ -32,5 +32,5 @@ pub data Said : Type 0 where
 
 unfoldable pub saidAt : ℕ → Answer → Said
 saidAt start Idle = stop idleNumber start
-saidAt start (Refused r) = stop (numberOf r) start
+saidAt start (Refused r missing) = stop (numberOf r) start
 saidAt start (Message h next rows) = message h next rows

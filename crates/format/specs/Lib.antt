@@ -8,6 +8,7 @@ pub mod Same
 pub mod Spelling
 pub mod Table
 pub mod Good
+pub mod Tests
 pub mod Reading
 pub mod Walking
 pub mod Writing

@@ -21,6 +21,16 @@ pub data Held : Type 0 where
   nothing : Held
   mask : Mask → Held
 
+-- What is lent as a holding: bytes or a struct that say none, or what they hold. Document 01's 12 is for the first, and for a mask that no good mask message makes.
+pub data Lent : Type 0 where
+  stray : Lent
+  lent : Held → Lent
+
+-- what it holds: nothing where it is no holding
+unfoldable pub heldIn : Lent → Held
+heldIn stray = nothing
+heldIn (lent held) = held
+
 -- a satellite, by its system and its number, and a cell, a satellite with a signal that counts for it
 pub record Satellite : Type 0 where
   pub system : ℕ
@@ -60,3 +70,11 @@ satellites systems = flatMap satellitesOf systems
 
 unfoldable pub cells : List System → List Cell
 cells systems = flatMap cellsOf systems
+
+-- what a mask names, in order: a message's rows go over these
+pub record Sky : Type 0 where
+  pub satellites : List Satellite
+  pub cells : List Cell
+
+unfoldable pub skyOf : Mask → Sky
+skyOf m = record { satellites = satellites (m .systems); cells = cells (m .systems) }

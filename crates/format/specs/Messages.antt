@@ -9,7 +9,7 @@ use Rattle.format.specs.declared.Head.{Head}
 use Rattle.format.specs.declared.Refusal.the-variants.{System, Reserved, Size, Network}
 use Rattle.format.specs.Assigned.{satellitePlaces, signalPlaces, known, assigned}
 use Rattle.format.specs.Masks as Masks
-use Rattle.format.specs.Masks.{Mask, Satellite, Cell, placesFrom, pick, satellites, cells}
+use Rattle.format.specs.Masks.{Mask, Sky, Satellite, Cell, placesFrom, pick, satellites, cells}
 use Rattle.format.specs.Programs.{Program, done, field, _>>=_, _>>_, taking, numbered, require}
 use Rattle.format.specs.Rows.{Column, gap, plain, counts, Line, absent, bodyWidth, rowsOf}
 
@@ -23,13 +23,27 @@ pub record Content : Type 0 where
 unfoldable pub body : List Line → Program (List (List ℤ))
 body lines = field (bodyWidth lines) (λ b. done (rowsOf lines b))
 
+-- what a message says before its body: its head, and the lines of the rows to come
+pub record Heading : Type 0 where
+  pub head : Head
+  pub lines : List Line
+
+-- and with its body
+unfoldable pub bodied : Program Heading → Program Content
+bodied heading = do
+  d ← heading
+  rows ← body (d .lines)
+  done (record { head = d .head; rows = rows })
+
+-- ---- over which keys the lines go: satellites, or cells; a shape may differ by the system
+
 unfoldable pub satelliteLines : (ℕ → List Column) → List Satellite → List Line
 satelliteLines shape sats =
     map (λ s. record { keys = pos (s .system) ∷ pos (s .number) ∷ absent ∷ []; shape = shape (s .system) }) sats
 
-unfoldable pub cellLines : List Column → List Cell → List Line
+unfoldable pub cellLines : (ℕ → List Column) → List Cell → List Line
 cellLines shape cs =
-    map (λ c. record { keys = pos (c .satellite .system) ∷ pos (c .satellite .number) ∷ pos (c .signal) ∷ []; shape = shape }) cs
+    map (λ c. record { keys = pos (c .satellite .system) ∷ pos (c .satellite .number) ∷ pos (c .signal) ∷ []; shape = shape (c .satellite .system) }) cs
 
 -- ---- the head that sub types 2, 3, 4, 5 and 11 share
 
@@ -63,11 +77,11 @@ orbitShape system = plain (iodeWidth system) ∷ counts 15 ∷ counts 13 ∷ cou
 unfoldable pub clockShape : ℕ → List Column
 clockShape system = counts 15 ∷ gap ∷ gap ∷ gap ∷ gap ∷ []
 
-unfoldable pub codeShape : List Column
-codeShape = counts 11 ∷ gap ∷ gap ∷ gap ∷ gap ∷ []
+unfoldable pub codeShape : ℕ → List Column
+codeShape system = counts 11 ∷ gap ∷ gap ∷ gap ∷ gap ∷ []
 
-unfoldable pub phaseShape : List Column
-phaseShape = counts 15 ∷ plain 2 ∷ gap ∷ gap ∷ gap ∷ []
+unfoldable pub phaseShape : ℕ → List Column
+phaseShape system = counts 15 ∷ plain 2 ∷ gap ∷ gap ∷ gap ∷ []
 
 -- the four of sub type 2, then the clock in v5, as the flags allow
 unfoldable pub combinedShape : Bool → Bool → ℕ → List Column
@@ -77,12 +91,16 @@ combinedShape orbit clock system =
 unfoldable pub packetShape : List Column
 packetShape = plain 8 ∷ plain 8 ∷ plain 8 ∷ plain 8 ∷ plain 8 ∷ []
 
--- ---- 2, 3, 4 and 5: the head, then a row for each satellite or cell; which lines and which shape, the table says
+-- ---- 2, 3, 4 and 5: the head, then a row for each satellite or cell; over which of them and in which shape, the table says
 
-unfoldable pub rowsAlone : ℕ → (Mask → List Line) → Mask → Common → Program Content
-rowsAlone subType lines m h = do
-  rows ← body (lines m)
-  done (record { head = headOf subType h absent absent absent; rows = rows })
+unfoldable pub overSatellites : (ℕ → List Column) → Sky → List Line
+overSatellites shape sky = satelliteLines shape (sky .satellites)
+
+unfoldable pub overCells : (ℕ → List Column) → Sky → List Line
+overCells shape sky = cellLines shape (sky .cells)
+
+unfoldable pub rowsAlone : ℕ → (Sky → List Line) → Sky → Common → Program Heading
+rowsAlone subType over sky h = done (record { head = headOf subType h absent absent absent; lines = over sky })
 
 -- ---- 11: flags, perhaps a network with its selection, then the selected satellites' fields
 
@@ -98,14 +116,14 @@ selection sats (suc one) = do
   bits ← taking (length sats)
   done (record { network = pos network; chosen = pick bits sats })
 
-unfoldable pub combined : Mask → Common → Program Content
-combined m h = do
-  orbit ← numbered 1
-  clock ← numbered 1
+-- two flags that say which columns there are
+unfoldable pub flagged : ℕ → (Bool → Bool → ℕ → List Column) → Sky → Common → Program Heading
+flagged subType shape sky h = do
+  a ← numbered 1
+  b ← numbered 1
   flag ← numbered 1
-  s ← selection (satellites (m .systems)) flag
-  rows ← body (satelliteLines (combinedShape (eqb orbit 1) (eqb clock 1)) (s .chosen))
-  done (record { head = headOf 11 h (pos orbit) (pos clock) (s .network); rows = rows })
+  s ← selection (sky .satellites) flag
+  done (record { head = headOf subType h (pos a) (pos b) (s .network); lines = satelliteLines (shape (eqb a 1) (eqb b 1)) (s .chosen) })
 
 -- ---- 10: a packet's part, a row to 40 bits
 
@@ -114,40 +132,65 @@ unfoldable pub packetLines : ℕ → ℕ → List Line
 packetLines k zero = []
 packetLines k (suc n) = record { keys = absent ∷ absent ∷ pos k ∷ []; shape = packetShape } ∷ packetLines (suc k) n
 
-unfoldable pub packet : Program Content
+unfoldable pub packet : Program Heading
 packet = do
   indicator ← numbered 1
   counter ← numbered 3
   size ← numbered 2
-  rows ← body (packetLines 1 (suc size))
   done
       (record {
         head =
             record
             { subtype = pos 10; epoch = absent; interval = absent; indicator = pos indicator; iod = absent; a = pos counter; b = pos size; c = absent };
-        rows = rows;
+        lines = packetLines 1 (suc size);
       })
 
 -- ---- 1: a mask
 
-unfoldable pub named : ℕ → List Masks.System → Bool
+-- its systems one after the other, each after those before it. First the ID, by the IDs named before
+unfoldable pub named : ℕ → List ℕ → Bool
 named id [] = false
-named id (s ∷ ss) = cond (eqb id (s .id)) true (named id ss)
+named id (x ∷ xs) = cond (eqb id x) true (named id xs)
 
--- one more system after others. The cell mask has no bits where the flag is 0
-unfoldable pub system : List Masks.System → Program Masks.System
-system before = do
+abbrev pub idsOf : List Masks.System → List ℕ
+idsOf ss = map (λ s. s .id) ss
+
+unfoldable pub systemId : List ℕ → Program ℕ
+systemId ids = do
   id ← numbered 4
-  require (known id && not (named id before)) System
+  require (known id && not (named id ids)) System
+  done id
+
+-- then the masks, after n satellites
+pub record BothMasks : Type 0 where
+  pub satellites : List Bool
+  pub signals : List Bool
+
+unfoldable pub systemMasks : ℕ → ℕ → Program BothMasks
+systemMasks n id = do
   sats ← taking 40
   require (assigned satellitePlaces id sats) Reserved
-  require (leb (length (satellites before) + length (placesFrom 0 sats)) 64) Size
+  require (leb (n + length (placesFrom 0 sats)) 64) Size
   signals ← taking 16
   require (assigned signalPlaces id signals) Reserved
+  done (record { satellites = sats; signals = signals })
+
+-- then the cells: the cell mask has no bits where the flag is 0
+unfoldable pub systemWith : ℕ → BothMasks → ℕ → List Bool → Masks.System
+systemWith id k flag bits = record { id = id; satellites = k .satellites; signals = k .signals; flag = eqb flag 1; cells = bits }
+
+unfoldable pub systemCells : List Masks.System → ℕ → BothMasks → Program Masks.System
+systemCells before id k = do
   flag ← numbered 1
-  bits ← taking (flag * (length (placesFrom 0 sats) * length (placesFrom 0 signals)))
-  let s : Masks.System = record { id = id; satellites = sats; signals = signals; flag = eqb flag 1; cells = bits } in
-      require (leb (length (cells (before ++ (s ∷ [])))) 256) Size >> done s
+  bits ← taking (flag * (length (placesFrom 0 (k .satellites)) * length (placesFrom 0 (k .signals))))
+  require (leb (length (cells (before ++ (systemWith id k flag bits ∷ [])))) 256) Size
+  done (systemWith id k flag bits)
+
+unfoldable pub system : List Masks.System → Program Masks.System
+system before = do
+  id ← systemId (idsOf before)
+  masks ← systemMasks (length (satellites before)) id
+  systemCells before id masks
 
 unfoldable pub systems : ℕ → List Masks.System → Program (List Masks.System)
 systems zero before = done before

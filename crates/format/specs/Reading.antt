@@ -1,6 +1,6 @@
 -- Reading one message: the reader's order 1, 2, 12, 0, then field by field. By a table of sub types; ours is `table`.
 use mathlib.Core.Bool.{Bool, cond, _&&_}
-use mathlib.Core.List.{List, _++_, flatten}
+use mathlib.Core.List.{List, [], _∷_, _++_, flatten}
 use Prim.Native.Nat.{ℕ, _+_, _*_}
 use lib.Dec.{leb}
 use lib.IntN.{ℤ}
@@ -11,9 +11,11 @@ use Rattle.format.specs.declared.Answer.the-variants as Answers
 use Rattle.format.specs.declared.Refusal.{Refusal}
 use Rattle.format.specs.declared.Refusal.the-variants.{Room, Place, Value}
 use Rattle.format.specs.Assigned.{blank}
-use Rattle.format.specs.Masks.{Held}
+use Rattle.format.specs.Good.{isHolding}
+use Rattle.format.specs.Masks.{Held, Lent, lent, heldIn}
 use Rattle.format.specs.Table.{Kind, Message, table, messageBy}
 use Rattle.format.specs.Programs.{Ended, well, badly, run}
+use Rattle.format.specs.Tests.{Test, verdict}
 
 -- 30 data parts of 1,695 bits; 256 rows of eight numbers
 abbrev pub stretchLimit : ℕ
@@ -22,20 +24,20 @@ stretchLimit = 50850
 abbrev pub rowRoom : ℕ
 rowRoom = 2048
 
--- How reading ends: with a message and the place after it; idle; or with a refusal and how many bits were missing. A stop says what is held after it, too.
+-- How reading ends: with a message and the place after it; idle; or with a refusal and how many bits were missing. A stop says what is lent after it, too.
 pub data Outcome : Type 0 where
   accepted : Message → ℕ → Outcome
-  idle : Held → Outcome
-  refused : Refusal → ℕ → Held → Outcome
+  idle : Lent → Outcome
+  refused : Refusal → ℕ → Lent → Outcome
 
 -- what a program's end is to the place where it began
 unfoldable pub endedAt : Held → ℕ → Ended Message → Outcome
 endedAt held place (well m taken) = accepted m (place + taken)
-endedAt held place (badly r missing) = refused r missing held
+endedAt held place (badly r missing) = refused r missing (lent held)
 
 -- reading the bits from a place on: idle where they are all zero, or none
 unfoldable pub readFrom : (ℕ → Kind) → Held → ℕ → List Bool → Outcome
-readFrom t held place l = cond (blank l) (idle held) (endedAt held place (run (messageBy t held) l))
+readFrom t held place l = cond (blank l) (idle (lent held)) (endedAt held place (run (messageBy t held) l))
 
 -- the bits of a string from a place on, up to the end
 unfoldable pub bitsFrom : List ℕ → ℕ → ℕ → List Bool
@@ -49,24 +51,27 @@ subTypeIn l = number (take 4 (drop 12 l))
 unfoldable pub placed : List ℕ → ℕ → ℕ → Bool
 placed bytes end start = leb end stretchLimit && (leb end (8 * length bytes) && leb start end)
 
--- `sound` says whether the lent holding is empty or what a good mask message makes
-unfoldable pub readingBy : (ℕ → Kind) → Bool → Held → List ℕ → ℕ → ℕ → List ℤ → Outcome
-readingBy t sound held bytes end start rows =
-    cond (leb rowRoom (length rows))
-    (cond (placed bytes end start)
-    (cond sound (readFrom t held start (bitsFrom bytes end start)) (refused Value 0 held))
-    (refused Place 0 held))
-    (refused Room 0 held)
+-- what is lent, for so many numbers of rows: 1, 2, 12
+unfoldable pub lentTests : Bool → List ℕ → ℕ → ℕ → ℕ → List Test
+lentTests holding bytes end start room =
+    record { holds = leb rowRoom room; else = Room }
+    ∷ record { holds = placed bytes end start; else = Place }
+    ∷ record { holds = holding; else = Value }
+    ∷ []
 
-abbrev pub reading : Bool → Held → List ℕ → ℕ → ℕ → List ℤ → Outcome
-reading sound held bytes end start rows = readingBy table sound held bytes end start rows
+unfoldable pub readingBy : (ℕ → Kind) → Lent → List ℕ → ℕ → ℕ → List ℤ → Outcome
+readingBy t holding bytes end start rows =
+    verdict (λ r. refused r 0 holding) (readFrom t (heldIn holding) start (bitsFrom bytes end start)) (lentTests (isHolding holding) bytes end start (length rows))
+
+abbrev pub reading : Lent → List ℕ → ℕ → ℕ → List ℤ → Outcome
+reading holding bytes end start rows = readingBy table holding bytes end start rows
 
 -- ---- what a reading leaves
 
-unfoldable pub heldAfter : Outcome → Held
-heldAfter (accepted m next) = m .after
-heldAfter (idle held) = held
-heldAfter (refused r missing held) = held
+unfoldable pub lentAfter : Outcome → Lent
+lentAfter (accepted m next) = lent (m .after)
+lentAfter (idle holding) = holding
+lentAfter (refused r missing holding) = holding
 
 -- the buffer holds the rows first and its old numbers after them
 unfoldable pub over : {A : Type 0} → List A → List A → List A
@@ -74,16 +79,16 @@ over new old = new ++ drop (length new) old
 
 unfoldable pub rowsAfter : Outcome → List ℤ → List ℤ
 rowsAfter (accepted m next) rows = over (flatten (m .content .rows)) rows
-rowsAfter (idle held) rows = rows
-rowsAfter (refused r missing held) rows = rows
+rowsAfter (idle holding) rows = rows
+rowsAfter (refused r missing holding) rows = rows
 
 -- where the raw part of a reading at a start ends: a stop's is empty
 unfoldable pub rawEnd : Outcome → ℕ → ℕ
 rawEnd (accepted m next) start = next
-rawEnd (idle held) start = start
-rawEnd (refused r missing held) start = start
+rawEnd (idle holding) start = start
+rawEnd (refused r missing holding) start = start
 
 unfoldable pub answerOf : Outcome → Answer
 answerOf (accepted m next) = Answers.Message (m .content .head) next (length (m .content .rows))
-answerOf (idle held) = Answers.Idle
-answerOf (refused r missing held) = Answers.Refused r
+answerOf (idle holding) = Answers.Idle
+answerOf (refused r missing holding) = Answers.Refused r missing

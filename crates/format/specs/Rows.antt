@@ -27,10 +27,11 @@ widthOf gap = 0
 widthOf (plain w) = w
 widthOf (counts w) = w
 
-unfoldable pub valueOf : Column → List Bool → ℤ
-valueOf gap b = absent
-valueOf (plain w) b = pos (number b)
-valueOf (counts w) b = signed w (number b)
+-- what a column makes of the number in its bits
+unfoldable pub valueOf : Column → ℕ → ℤ
+valueOf gap n = absent
+valueOf (plain w) n = pos n
+valueOf (counts w) n = signed w n
 
 unfoldable pub shapeWidth : List Column → ℕ
 shapeWidth [] = 0
@@ -38,7 +39,7 @@ shapeWidth (c ∷ cs) = widthOf c + shapeWidth cs
 
 unfoldable pub valuesOf : List Column → List Bool → List ℤ
 valuesOf [] l = []
-valuesOf (c ∷ cs) l = valueOf c (take (widthOf c) l) ∷ valuesOf cs (drop (widthOf c) l)
+valuesOf (c ∷ cs) l = valueOf c (number (take (widthOf c) l)) ∷ valuesOf cs (drop (widthOf c) l)
 
 -- the body's width is the sum over its lines of the widths of their shapes
 unfoldable pub bodyWidth : List Line → ℕ

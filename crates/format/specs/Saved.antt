@@ -7,9 +7,10 @@ use lib.ListN.{length, getD, take, drop}
 use Rattle.bits.specs.BitLists.{number, spell}
 use Rattle.format.specs.declared.Refusal.{Refusal}
 use Rattle.format.specs.declared.Refusal.the-variants.{Room, Value}
-use Rattle.format.specs.Good.{good}
-use Rattle.format.specs.Masks.{System, Held, nothing, mask, placesFrom}
+use Rattle.format.specs.Good.{good, isHolding}
+use Rattle.format.specs.Masks.{System, Held, nothing, mask, Lent, heldIn, placesFrom}
 use Rattle.format.specs.Same.{sameList}
+use Rattle.format.specs.Tests.{Test, verdict}
 
 -- ---- characters
 
@@ -125,9 +126,13 @@ pub data Saved : Type 0 where
   saved : ℕ → Saved
   unsaved : Refusal → Saved
 
-unfoldable pub saving : Bool → Held → List ℕ → Saved
-saving sound held buffer =
-    cond sound (cond (leb (length (lineOf held)) (length buffer)) (saved (length (lineOf held))) (unsaved Room)) (unsaved Value)
+unfoldable pub saving : Lent → List ℕ → Saved
+saving holding buffer =
+    let size = length (lineOf (heldIn holding)) in
+    verdict unsaved (saved size)
+    (record { holds = isHolding holding; else = Value }
+    ∷ record { holds = leb size (length buffer); else = Room }
+    ∷ [])
 
 -- later bytes stay
 unfoldable pub bufferAfter : Saved → Held → List ℕ → List ℕ

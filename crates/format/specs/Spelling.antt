@@ -7,9 +7,9 @@ use lib.ListN.{length, take}
 use Rattle.bits.specs.BitLists.{spell}
 use Rattle.bits.specs.Signed.{unsigned}
 use Rattle.format.specs.declared.Head.{Head}
-use Rattle.format.specs.Masks.{System, Mask, Satellite, pick, satellites}
-use Rattle.format.specs.Messages.{satelliteLines, combinedShape, packetLines}
-use Rattle.format.specs.Rows.{Line, absent, spellRows}
+use Rattle.format.specs.Masks.{System, Mask, Sky, Satellite, pick}
+use Rattle.format.specs.Messages.{satelliteLines, packetLines}
+use Rattle.format.specs.Rows.{Column, Line, absent, spellRows}
 use Rattle.format.specs.Same.{sameℤ, sameList}
 
 -- a number in w bits
@@ -20,8 +20,8 @@ unfoldable pub putCommon : ℕ → Head → List Bool
 putCommon epochWidth h = put epochWidth (h .epoch) ++ (put 4 (h .interval) ++ (put 1 (h .indicator) ++ put 4 (h .iod)))
 
 -- 2, 3, 4 and 5
-unfoldable pub putRows : (Mask → List Line) → Mask → Head → List (List ℤ) → List Bool
-putRows lines m h rows = spellRows (lines m) rows
+unfoldable pub putRows : (Sky → List Line) → Sky → Head → List (List ℤ) → List Bool
+putRows over sky h rows = spellRows (over sky) rows
 
 -- 11: which satellites have a row, the rows standing in their order
 unfoldable pub marks : List Satellite → List (List ℤ) → List Bool
@@ -38,11 +38,11 @@ putSelection sats network rows = cond (sameℤ network absent) (false ∷ []) (t
 unfoldable pub chosenBy : List Satellite → ℤ → List (List ℤ) → List Satellite
 chosenBy sats network rows = cond (sameℤ network absent) sats (pick (marks sats rows) sats)
 
-unfoldable pub putCombined : Mask → Head → List (List ℤ) → List Bool
-putCombined m h rows =
-    let sats = satellites (m .systems) in
+unfoldable pub putFlagged : (Bool → Bool → ℕ → List Column) → Sky → Head → List (List ℤ) → List Bool
+putFlagged shape sky h rows =
+    let sats = sky .satellites in
     put 1 (h .a) ++ (put 1 (h .b) ++ (putSelection sats (h .c) rows
-    ++ spellRows (satelliteLines (combinedShape (sameℤ (h .a) (pos 1)) (sameℤ (h .b) (pos 1))) (chosenBy sats (h .c) rows)) rows))
+    ++ spellRows (satelliteLines (shape (sameℤ (h .a) (pos 1)) (sameℤ (h .b) (pos 1))) (chosenBy sats (h .c) rows)) rows))
 
 -- 10
 unfoldable pub putPacket : Head → List (List ℤ) → List Bool

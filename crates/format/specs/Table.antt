@@ -8,45 +8,54 @@ use lib.ListN.{getD}
 use Rattle.bits.specs.BitLists.{spell}
 use Rattle.format.specs.declared.Head.{Head}
 use Rattle.format.specs.declared.Refusal.the-variants.{Number, SubType, NoMask, OtherIssue}
-use Rattle.format.specs.Masks.{Mask, Held, nothing, mask, satellites, cells}
-use Rattle.format.specs.Messages.{Content, Common, common, Adopted, maskMessage, rowsAlone, satelliteLines, cellLines, orbitShape, clockShape, codeShape, phaseShape, combined, packet}
+use Rattle.format.specs.Masks.{Mask, Held, nothing, mask, Sky, skyOf}
+use Rattle.format.specs.Messages.{Content, Heading, bodied, Common, common, Adopted, maskMessage, rowsAlone, overSatellites, overCells, orbitShape, clockShape, codeShape, phaseShape, combinedShape, flagged, packet}
 use Rattle.format.specs.Programs.{Program, done, refuse, _>>=_, _>>_, numbered, require}
 use Rattle.format.specs.Rows.{Line}
-use Rattle.format.specs.Spelling.{put, putCommon, putRows, putCombined, putPacket, putMask}
+use Rattle.format.specs.Spelling.{put, putCommon, putRows, putFlagged, putPacket, putMask}
 
 -- a message, with what is held after it
 pub record Message : Type 0 where
   pub content : Content
   pub after : Held
 
--- What a sub type is to the holding: none of ours; free of it; read under the mask of its issue, after the common head; or a mask to be adopted.
--- Each with its program and its spelling.
+-- A message free of the holding, one read under the mask of its issue, after the common head, and a mask to be adopted: each with its program, of the
+-- first two up to the body, and its spelling.
+pub record FreeKind : Type 0 where
+  pub program : Program Heading
+  pub spelling : Head → List (List ℤ) → List Bool
+
+pub record MaskedKind : Type 0 where
+  pub program : Sky → Common → Program Heading
+  pub spelling : Sky → Head → List (List ℤ) → List Bool
+
+pub record AdoptedKind : Type 0 where
+  pub program : Program Adopted
+  pub spelling : Mask → Head → List Bool
+
+-- what a sub type is: none of ours, or one of these
 pub data Kind : Type 0 where
   other : Kind
-  free : Program Content → (Head → List (List ℤ) → List Bool) → Kind
-  masked : (Mask → Common → Program Content) → (Mask → Head → List (List ℤ) → List Bool) → Kind
-  adopts : Program Adopted → (Mask → Head → List Bool) → Kind
+  free : FreeKind → Kind
+  masked : MaskedKind → Kind
+  adopts : AdoptedKind → Kind
 
--- rows alone after the common head: for each satellite, or for each cell
-unfoldable pub alone : ℕ → (Mask → List Line) → Kind
-alone subType lines = masked (rowsAlone subType lines) (putRows lines)
-
-unfoldable pub orbitLines : Mask → List Line
-orbitLines m = satelliteLines orbitShape (satellites (m .systems))
-
-unfoldable pub clockLines : Mask → List Line
-clockLines m = satelliteLines clockShape (satellites (m .systems))
-
-unfoldable pub codeLines : Mask → List Line
-codeLines m = cellLines codeShape (cells (m .systems))
-
-unfoldable pub phaseLines : Mask → List Line
-phaseLines m = cellLines phaseShape (cells (m .systems))
+-- rows alone after the common head
+unfoldable pub alone : ℕ → (Sky → List Line) → Kind
+alone subType over = masked (record { program = rowsAlone subType over; spelling = putRows over })
 
 unfoldable pub kinds : List Kind
 kinds =
-    other ∷ adopts maskMessage putMask ∷ alone 2 orbitLines ∷ alone 3 clockLines ∷ alone 4 codeLines ∷ alone 5 phaseLines
-    ∷ other ∷ other ∷ other ∷ other ∷ free packet putPacket ∷ masked combined putCombined ∷ []
+    other
+    ∷ adopts (record { program = maskMessage; spelling = putMask })
+    ∷ alone 2 (overSatellites orbitShape)
+    ∷ alone 3 (overSatellites clockShape)
+    ∷ alone 4 (overCells codeShape)
+    ∷ alone 5 (overCells phaseShape)
+    ∷ other ∷ other ∷ other ∷ other
+    ∷ free (record { program = packet; spelling = putPacket })
+    ∷ masked (record { program = flagged 11 combinedShape; spelling = putFlagged combinedShape })
+    ∷ []
 
 unfoldable pub table : ℕ → Kind
 table subType = getD kinds subType other
@@ -54,25 +63,36 @@ table subType = getD kinds subType other
 -- ---- reading by a table
 
 -- the gate after IOD SSR: 6, then 7
-unfoldable pub gate : Held → ℕ → (Mask → Program Content) → Program Content
-gate nothing iod next = refuse NoMask
-gate (mask m) iod next = require (eqb iod (m .iod)) OtherIssue >> next m
+unfoldable pub gate : Held → ℕ → Program Mask
+gate nothing iod = refuse NoMask
+gate (mask m) iod = require (eqb iod (m .iod)) OtherIssue >> done m
+
+unfoldable pub underMask : MaskedKind → Held → Program Heading
+underMask k held = do
+  h ← common 12
+  m ← gate held (h .iod)
+  k .program (skyOf m) h
+
+-- a message that leaves the holding as it is
+unfoldable pub keeping : Held → Program Heading → Program Message
+keeping held heading = bodied heading >>= (λ c. done (record { content = c; after = held }))
 
 unfoldable pub byKind : Kind → Held → Program Message
 byKind other held = refuse SubType
-byKind (free p q) held = p >>= (λ c. done (record { content = c; after = held }))
-byKind (masked p q) held = do
-  h ← common 12
-  c ← gate held (h .iod) (λ m. p m h)
-  done (record { content = c; after = held })
-byKind (adopts p q) held = p >>= (λ d. done (record { content = record { head = d .head; rows = [] }; after = mask (d .made) }))
+byKind (free k) held = keeping held (k .program)
+byKind (masked k) held = keeping held (underMask k held)
+byKind (adopts k) held = k .program >>= (λ d. done (record { content = record { head = d .head; rows = [] }; after = mask (d .made) }))
 
-unfoldable pub messageBy : (ℕ → Kind) → Held → Program Message
-messageBy t held = do
+-- every message opens with its number and its sub type
+unfoldable pub opening : Program ℕ
+opening = do
   number ← numbered 12
   require (eqb number 4073) Number
   subType ← numbered 4
-  byKind (t subType) held
+  done subType
+
+unfoldable pub messageBy : (ℕ → Kind) → Held → Program Message
+messageBy t held = opening >>= (λ subType. byKind (t subType) held)
 
 abbrev pub message : Held → Program Message
 message held = messageBy table held
@@ -85,11 +105,11 @@ kindOf t (negsuc n) = other
 
 unfoldable pub spellKind : Kind → Held → Head → List (List ℤ) → List Bool
 spellKind other held h rows = []
-spellKind (free p q) held h rows = q h rows
-spellKind (masked p q) nothing h rows = []
-spellKind (masked p q) (mask m) h rows = putCommon 12 h ++ q m h rows
-spellKind (adopts p q) nothing h rows = []
-spellKind (adopts p q) (mask m) h rows = q m h
+spellKind (free k) held h rows = k .spelling h rows
+spellKind (masked k) nothing h rows = []
+spellKind (masked k) (mask m) h rows = putCommon 12 h ++ k .spelling (skyOf m) h rows
+spellKind (adopts k) nothing h rows = []
+spellKind (adopts k) (mask m) h rows = k .spelling m h
 
 unfoldable pub spelledBy : (ℕ → Kind) → Held → Head → List (List ℤ) → List Bool
 spelledBy t held h rows = spell 12 4073 ++ (put 4 (h .subtype) ++ spellKind (kindOf t (h .subtype)) held h rows)

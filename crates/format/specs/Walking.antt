@@ -1,11 +1,9 @@
 -- The walk: single readings from place 0 on, each going on where the one before ended, until idle or a refusal.
-use mathlib.Core.Bool.{Bool}
 use mathlib.Core.List.{List, [], _∷_}
 use Prim.Native.Nat.{ℕ, zero, suc, _+_, _-_}
 use lib.IntN.{ℤ}
 use lib.ListN.{length}
-use Rattle.format.specs.Good.{good}
-use Rattle.format.specs.Masks.{Held}
+use Rattle.format.specs.Masks.{Lent, lent}
 use Rattle.format.specs.Messages.{Content}
 use Rattle.format.specs.Table.{Kind, Message, table}
 use Rattle.format.specs.Reading.{Outcome, accepted, idle, refused, readingBy, rowsAfter}
@@ -23,25 +21,22 @@ hand c w = record { handed = c ∷ w .handed; stop = w .stop; place = w .place; 
 -- goes on with an accepted answer only
 unfoldable pub goOn : Outcome → ℕ → List ℤ → (Message → ℕ → Walk) → Walk
 goOn (accepted m next) place rows more = hand (m .content) (more m next)
-goOn (idle held) place rows more = record { handed = []; stop = idle held; place = place; rows = rows }
-goOn (refused r missing held) place rows more = record { handed = []; stop = refused r missing held; place = place; rows = rows }
+goOn (idle holding) place rows more = record { handed = []; stop = idle holding; place = place; rows = rows }
+goOn (refused r missing holding) place rows more = record { handed = []; stop = refused r missing holding; place = place; rows = rows }
 
 -- by fuel, of which one more than the bits left suffices (proofs/Walks.antt): each message takes some
-unfoldable pub walkFrom : (ℕ → Kind) → ℕ → Bool → Held → List ℕ → ℕ → ℕ → List ℤ → Walk
-walkFrom t zero sound held bytes end place rows = record { handed = []; stop = idle held; place = place; rows = rows }
-walkFrom t (suc fuel) sound held bytes end place rows =
-    goOn (readingBy t sound held bytes end place rows) place rows
-    (λ m next. walkFrom t fuel (good (m .after)) (m .after) bytes end next (rowsAfter (accepted m next) rows))
+unfoldable pub walkFrom : (ℕ → Kind) → ℕ → Lent → List ℕ → ℕ → ℕ → List ℤ → Walk
+walkFrom t zero holding bytes end place rows = record { handed = []; stop = idle holding; place = place; rows = rows }
+walkFrom t (suc fuel) holding bytes end place rows =
+    goOn (readingBy t holding bytes end place rows) place rows
+    (λ m next. walkFrom t fuel (lent (m .after)) bytes end next (rowsAfter (accepted m next) rows))
 
 -- from a place on
-unfoldable pub walkOn : (ℕ → Kind) → Bool → Held → List ℕ → ℕ → ℕ → List ℤ → Walk
-walkOn t sound held bytes end place rows = walkFrom t (suc (end - place)) sound held bytes end place rows
+unfoldable pub walkOn : (ℕ → Kind) → Lent → List ℕ → ℕ → ℕ → List ℤ → Walk
+walkOn t holding bytes end place rows = walkFrom t (suc (end - place)) holding bytes end place rows
 
-unfoldable pub walkBy : (ℕ → Kind) → Bool → Held → List ℕ → ℕ → List ℤ → Walk
-walkBy t sound held bytes end rows = walkFrom t (suc end) sound held bytes end 0 rows
-
-abbrev pub walk : Bool → Held → List ℕ → ℕ → List ℤ → Walk
-walk sound held bytes end rows = walkBy table sound held bytes end rows
+abbrev pub walk : Lent → List ℕ → ℕ → List ℤ → Walk
+walk holding bytes end rows = walkOn table holding bytes end 0 rows
 
 -- ---- what the walk answers
 

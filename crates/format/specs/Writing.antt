@@ -9,10 +9,12 @@ use Rattle.bits.specs.BitLists.{setBytes}
 use Rattle.format.specs.declared.Head.{Head}
 use Rattle.format.specs.declared.Refusal.{Refusal}
 use Rattle.format.specs.declared.Refusal.the-variants.{Room, Place, SubType, NoMask, OtherIssue, Network, Value}
-use Rattle.format.specs.Masks.{Held, nothing, mask}
+use Rattle.format.specs.Good.{isHolding}
+use Rattle.format.specs.Masks.{Held, nothing, mask, Lent, heldIn}
 use Rattle.format.specs.Programs.{Ended, well, badly, run}
 use Rattle.format.specs.Reading.{stretchLimit}
 use Rattle.format.specs.Same.{sameList, sameℤ, sameHead, sameHeld}
+use Rattle.format.specs.Tests.{Test, verdict}
 use Rattle.format.specs.Table.{Kind, other, free, masked, adopts, table, kindOf, Message, message, spelled}
 
 -- the lent numbers as rows of eight, as many as counted
@@ -37,51 +39,43 @@ exact held h rows =
 
 unfoldable pub isOurs : Kind → Bool
 isOurs other = false
-isOurs (free p q) = true
-isOurs (masked p q) = true
-isOurs (adopts p q) = true
+isOurs (free k) = true
+isOurs (masked k) = true
+isOurs (adopts k) = true
 
 unfoldable pub hasMask : Kind → Held → Bool
 hasMask other held = true
-hasMask (free p q) held = true
-hasMask (masked p q) nothing = false
-hasMask (masked p q) (mask m) = true
-hasMask (adopts p q) nothing = false
-hasMask (adopts p q) (mask m) = true
+hasMask (free k) held = true
+hasMask (masked k) nothing = false
+hasMask (masked k) (mask m) = true
+hasMask (adopts k) nothing = false
+hasMask (adopts k) (mask m) = true
 
 unfoldable pub ofIssue : Kind → Held → ℤ → Bool
 ofIssue other held iod = true
-ofIssue (free p q) held iod = true
-ofIssue (masked p q) nothing iod = true
-ofIssue (masked p q) (mask m) iod = sameℤ iod (pos (m .iod))
-ofIssue (adopts p q) nothing iod = true
-ofIssue (adopts p q) (mask m) iod = sameℤ iod (pos (m .iod))
-
--- a test that has to hold, and the refusal where it does not
-pub record Test : Type 0 where
-  pub holds : Bool
-  pub else : Refusal
+ofIssue (free k) held iod = true
+ofIssue (masked k) nothing iod = true
+ofIssue (masked k) (mask m) iod = sameℤ iod (pos (m .iod))
+ofIssue (adopts k) nothing iod = true
+ofIssue (adopts k) (mask m) iod = sameℤ iod (pos (m .iod))
 
 -- How writing ends: with the bits written, or with the refusal of the first test that fails.
 pub data Written : Type 0 where
   wrote : List Bool → Written
   refused : Refusal → Written
 
-unfoldable pub verdict : List Bool → List Test → Written
-verdict bits [] = wrote bits
-verdict bits (t ∷ ts) = elim (t .holds) [ true ↦ verdict bits ts | false ↦ refused (t .else) ]
-
 -- bits up to 50,850 or the bytes' end, the smaller
 unfoldable pub limit : List ℕ → ℕ
 limit bytes = min stretchLimit (8 * length bytes)
 
-unfoldable pub writing : Bool → Held → Head → List ℤ → ℕ → List ℕ → ℕ → Written
-writing sound held h rows count bytes start =
+unfoldable pub writing : Lent → Head → List ℤ → ℕ → List ℕ → ℕ → Written
+writing holding h rows count bytes start =
+    let held = heldIn holding in
     let kind = kindOf table (h .subtype) in
     let bits = spelled held h (rowsIn count rows) in
-    verdict bits
+    verdict refused (wrote bits)
     (record { holds = leb start (limit bytes); else = Place }
-    ∷ record { holds = sound; else = Value }
+    ∷ record { holds = isHolding holding; else = Value }
     ∷ record { holds = isOurs kind; else = SubType }
     ∷ record { holds = hasMask kind held; else = NoMask }
     ∷ record { holds = ofIssue kind held (h .iod); else = OtherIssue }

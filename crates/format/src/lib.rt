@@ -30,9 +30,16 @@ pub enum Refusal {
     Value,
 }
 
-// What reading answers: a message with its head, the place after it and its row count; idle; or a refusal.
+// What isn't there, in a head or a row.
+pub const ABSENT: i32 = -32768;
+
+// How many numbers a row buffer must have: 256 rows of eight.
+pub const ROOM: usize = 2048;
+
+// What reading answers: a message with its head, the place after it and its row count; idle; or a refusal, with how
+// many bits were missing where it is short and else 0.
 pub enum Answer {
     Message(Head, usize, usize),
     Idle,
-    Refused(Refusal),
+    Refused(Refusal, usize),
 }

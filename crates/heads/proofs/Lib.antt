@@ -1,9 +1,8 @@
-pub mod Openings
 pub mod Parts
-pub mod Chosen
-pub mod Bodied
-pub mod Picked
-pub mod Networks
+pub mod Runs
 pub mod Headed
+pub mod Commons
 pub mod Sorted
-pub mod Begun
+pub mod Opened
+pub mod Chosen
+pub mod Picked

@@ -3,16 +3,13 @@
 use mathlib.Core.Path.{_≡_}
 use mathlib.Core.List.{List}
 use Prim.Native.Nat.{ℕ, _+_, _-_, _*_, _/_, _%_, _≤_, _<_}
-use native.Mathlib.Decide.{decLt}
-use native.Mathlib.Nat.{lt-of-lt-of-le}
 use native.Mathlib.Omega.{arith}
-use lib.Pow.{pow-mono}
-use borrow.Author.Tests.{lt-ltb, le-ltb}
 use Rattle.bits.specs.Places.{field}
 use Rattle.bits.proofs.Fields.{field-add, field-lt}
-use Rattle.heads.specs.declared.CommonHead.{CommonHead}
-use Rattle.heads.specs.declared.Opened.the-variants.{Common}
-use Rattle.heads.specs.Openings.{Small, commonAt}
+use Rattle.format.specs.Messages.{Common}
+use Rattle.heads.specs.Heads.{headFor, headFrom, Small}
+use native.Mathlib.Nat.{lt-of-lt-of-le}
+use lib.Pow.{pow-mono}
 
 -- ---- number and sub type
 
@@ -45,49 +42,33 @@ module _ (bs : List ℕ) (place : ℕ) where
 
 module _ (bs : List ℕ) (place w : ℕ) where
   -- all of it: the epoch, then 4, 1 and 4 bits
-  parts : field bs place (w + 9) ≡ field bs place w * 512 + (field bs (place + w) 4 * 32 + (field bs (place + w + 4) 1 * 16 + field bs (place + w + 5) 4))
-  parts =
-      let first = field-add bs place w 9 in
-      let second = field-add bs (place + w) 4 5 in
-      let third = field-add bs (place + w + 4) 1 4 in
-      let last : place + w + 4 + 1 ≡ place + w + 5 = omega arith in
-      let third′ = rw last at third in
-      omega (arith, first, second, third′)
+  parts : field bs place (w + 9) ≡ field bs place w * 512 + (field bs (place + w) 4 * 32 + (field bs (place + w + 4) 1 * 16 + field bs (place + w + 4 + 1) 4))
+  parts = omega (arith, field-add bs place w 9, field-add bs (place + w) 4 5, field-add bs (place + w + 4) 1 4)
 
-  pub epoch-part : field bs place (w + 9) / 512 ≡ field bs place w
-  epoch-part = omega (arith, parts, field-lt bs (place + w) 4, field-lt bs (place + w + 4) 1, field-lt bs (place + w + 5) 4)
+  -- the fields that a common head has
+  abbrev pub commonAt : Common
+  commonAt = record { epoch = field bs place w; interval = field bs (place + w) 4; indicator = field bs (place + w + 4) 1; iod = field bs (place + w + 4 + 1) 4 }
 
-  pub interval-part : field bs place (w + 9) / 32 % 16 ≡ field bs (place + w) 4
-  interval-part = omega (arith, parts, field-lt bs (place + w) 4, field-lt bs (place + w + 4) 1, field-lt bs (place + w + 5) 4)
+  pub parted-fields : headFrom (field bs place (w + 9)) ≡ headFor commonAt
+  unfolding headFrom headFor
+  parted-fields =
+      let interval = field-lt bs (place + w) 4 in
+      let indicator = field-lt bs (place + w + 4) 1 in
+      let iod = field-lt bs (place + w + 4 + 1) 4 in
+      let n = field bs place (w + 9) in
+      let a : n / 512 ≡ field bs place w = omega (arith, parts) in
+      let b : n / 32 % 16 ≡ field bs (place + w) 4 = omega (arith, parts) in
+      let c : n / 16 % 2 ≡ field bs (place + w + 4) 1 = omega (arith, parts) in
+      let d : n % 16 ≡ field bs (place + w + 4 + 1) 4 = omega (arith, parts) in
+      rw (a, b, c, d)
 
-  pub indicator-part : field bs place (w + 9) / 16 % 2 ≡ field bs (place + w + 4) 1
-  indicator-part = omega (arith, parts, field-lt bs (place + w) 4, field-lt bs (place + w + 4) 1, field-lt bs (place + w + 5) 4)
-
-  pub iod-part : field bs place (w + 9) % 16 ≡ field bs (place + w + 5) 4
-  iod-part = omega (arith, parts, field-lt bs (place + w) 4, field-lt bs (place + w + 4) 1, field-lt bs (place + w + 5) 4)
-
--- ---- what is known of a common head that is there
-
-small-fields : (bs : List ℕ) (place w : ℕ) → w ≤ 20
-    → Small (record { epoch = field bs place w; interval = field bs (place + w) 4; indicator = field bs (place + w + 4) 1; iod = field bs (place + w + 5) 4 })
-small-fields bs place w few =
-    record {
-      epoch = lt-of-lt-of-le (field-lt bs place w) (pow-mono few);
-      interval = field-lt bs (place + w) 4;
-      indicator = omega (arith, field-lt bs (place + w + 4) 1);
-      iod = field-lt bs (place + w + 5) 4;
-    }
-
--- its fields are small, and its bits were there
-pub common-told : (bs : List ℕ) (end place w : ℕ) (h : CommonHead) → w ≤ 20 → commonAt bs end place w ≡ Common h → Small h × (w + 9 ≤ end - place)
-unfolding commonAt
-common-told bs end place w h few e = go (decLt (end - place) (w + 9))
-  where
-    go : Dec (end - place < w + 9) → Small h × (w + 9 ≤ end - place)
-    go (yes short) =
-        let f = rw (lt-ltb (end - place) (w + 9) short) at e in
-        absurd (let z : _≡_ {A = ℕ} 0 1 = cc in omega arith)
-    go (no there) =
-        let f = rw (le-ltb (end - place) (w + 9) (omega arith)) at e in
-        let same : record { epoch = field bs place w; interval = field bs (place + w) 4; indicator = field bs (place + w + 4) 1; iod = field bs (place + w + 5) 4 } ≡ h = cc in
-        (rw same at (small-fields bs place w few), omega arith)
+  -- they are small
+  pub small-fields : w ≤ 20 → Small (headFor commonAt)
+  unfolding headFor
+  small-fields few =
+      record {
+        epoch = lt-of-lt-of-le (field-lt bs place w) (pow-mono few);
+        interval = field-lt bs (place + w) 4;
+        indicator = omega (arith, field-lt bs (place + w + 4) 1);
+        iod = field-lt bs (place + w + 4 + 1) 4;
+      }

@@ -1,92 +1,115 @@
--- Crate format's reading of a message is reading by its sub type at places of the byte string.
--- Assumes nothing.
-use mathlib.Core.Path.{_≡_, refl, ap, _∙_}
+-- Reading a message by its sub type is crate format's reading: its opening, then its heading and body, or a mask. Assumes nothing.
+use mathlib.Core.Path.{_≡_, refl, sym, ap, _∙_}
 use mathlib.Core.Bool.{Bool, true, false}
 use mathlib.Core.List.{List, []}
 use Prim.Native.Nat.{ℕ, zero, suc, _+_, _-_, _*_, _≤_, _<_}
+use native.Mathlib.Nat.{add-zero, add-assoc}
 use native.Mathlib.Decide.{decLt}
-use native.Mathlib.Nat.{add-zero}
 use native.Mathlib.Omega.{arith}
 use lib.Dec.{eqb}
-use lib.ListN.{length}
-use borrow.Author.Tests.{eqb-true, ne-eqb, lt-leb, le-leb, lt-ltb, le-ltb}
-use Rattle.bits.specs.Places.{field}
-use Rattle.bits.proofs.Fields.{field-lt}
-use Rattle.format.specs.Masks.{Held, mask}
-use Rattle.format.specs.Messages.{Adopted, maskMessage}
-use Rattle.format.specs.Programs.{Program, done, _>>=_, Ended, well, badly, later, run}
-use Rattle.format.specs.Reading.{endedAt, bitsFrom}
-use Rattle.format.specs.Table.{Message, kinds, table, byKind, message}
-use Rattle.format.proofs.Runs.{run-bind, run-bind-badly}
-use Rattle.heads.specs.declared.Opening.{Opening}
-use Rattle.heads.specs.declared.Opening.the-variants.{SubType, Refused}
-use Rattle.heads.specs.Headings.{isMasked}
-use Rattle.heads.specs.Openings.{openingAt, afterOpening}
-use Rattle.heads.specs.Sorting.{adoptedBy, sortedAt, openedBy}
-use Rattle.holding.specs.Kth.{satellitesHeld}
-use Rattle.heads.proofs.Bodied.{ended-later}
-use Rattle.heads.proofs.Headed.{kind-headed, packet-headed}
-use Rattle.heads.proofs.Openings.{opened}
+use lib.IntN.{ℤ}
+use lib.ListN.{length, take, drop}
+use Rattle.format.specs.declared.Refusal.{Refusal}
+use Rattle.format.specs.declared.Refusal.the-variants.{Short, SubType, OtherIssue}
+use Rattle.format.specs.Masks.{Mask, Held, nothing, mask, lent, Sky, skyOf}
+use Rattle.format.specs.Messages as Messages
+use Rattle.format.specs.Messages.{Content, Common, common, bodied, body, maskMessage}
+use Rattle.format.specs.Programs.{Program, done, field, _>>=_, _>>_, require, Ended, well, badly, later, unlessShort, run}
+use Rattle.format.specs.Reading.{Outcome, accepted, refused, endedAt, bitsFrom}
+use Rattle.format.specs.Rows.{bodyWidth, rowsOf}
+use Rattle.format.specs.Table as Table
+use Rattle.format.specs.Table.{Message, MaskedKind, gate, underMask, keeping, byKind}
+use Rattle.format.proofs.Placed.{length-from, take-from, drop-from}
+use Rattle.format.proofs.Runs.{run-bind, run-bind-badly, later-later, bind-assoc, badly-later}
+use Rattle.heads.specs.declared.heading.Seen.{Seen}
+use Rattle.heads.specs.Headings.{gateBy, gatedBy, underBy}
+use Rattle.heads.specs.Sorting.{headingFor, underWith, bodiedBy, headedAt, adoptedBy, seenOf, skyHeld}
+use Rattle.holding.specs.Held.{isHeld, issueOf, satellitesHeld, cellsHeld}
+use Rattle.table.specs.declared.Kind.{Kind}
+use Rattle.table.specs.declared.Kind.the-variants.{Other, Mask as IsMask, Packet, Masked}
+use Rattle.table.specs.declared.Layout.{Layout}
+use Rattle.table.specs.Kinds.{programBy, maskedBy, kindBy}
 
--- ---- a mask message
+-- ---- a program's end, taken from a place
 
-abbrev adopting : Adopted → Program Message
-adopting d = done (record { content = record { head = d .head; rows = [] }; after = mask (d .made) })
+-- what was read before it moves the place
+pub ended-later : (held : Held) (place w : ℕ) (e : Ended Message) → endedAt held place (later w e) ≡ endedAt held (place + w) e
+unfolding endedAt later
+ended-later held place w (well m taken) = ap (accepted m) (sym (add-assoc place w taken))
+ended-later held place w (badly r missing) = refl
 
-adopted-by : (held : Held) (place : ℕ) (l : List Bool) (e : Ended Adopted) → run maskMessage l ≡ e → endedAt held place (run (maskMessage >>= adopting) l) ≡ adoptedBy held place e
-unfolding adoptedBy endedAt run later
-adopted-by held place l (well d taken) e = ap (endedAt held place) (run-bind maskMessage adopting l d taken e) ∙ rw (add-zero taken)
-adopted-by held place l (badly r missing) e = ap (endedAt held place) (run-bind-badly maskMessage adopting l r missing e)
+module _ (bs : List ℕ) (end : ℕ) (inside : end ≤ 8 * length bs) (held : Held) where
+  -- a body is there or short
+  body-ended : (d : Messages.Heading) (at : ℕ)
+      → endedAt held at (run (body (d .lines) >>= (λ rows. done (record { content = record { head = d .head; rows = rows }; after = held }))) (bitsFrom bs end at)) ≡ headedAt held bs end (well d at)
+  unfolding body _>>=_ run headedAt bodiedBy endedAt unlessShort later
+  body-ended d at = rw (length-from bs end inside at) (go (bodyWidth (d .lines) - (end - at)))
+    where
+      go : (missing : ℕ)
+          → endedAt held at
+          (unlessShort missing
+          (well (record { content = record { head = d .head; rows = rowsOf (d .lines) (take (bodyWidth (d .lines)) (bitsFrom bs end at)) }; after = held }) (bodyWidth (d .lines) + 0)))
+          ≡ bodiedBy held (record { content = record { head = d .head; rows = rowsOf (d .lines) (take (bodyWidth (d .lines)) (bitsFrom bs end at)) }; after = held }) (at + bodyWidth (d .lines)) missing
+      go zero = rw add-zero
+      go (suc missing) = refl
 
--- a sub type that was read was there, in 4 bits, behind the number
-pub sub-type-told : (bs : List ℕ) (end start n : ℕ) → start ≤ end → openingAt bs end start ≡ SubType n → (start + 16 ≤ end) × (n < 16) × (field bs start 12 ≡ 4073)
-unfolding openingAt
-sub-type-told bs end start n room e = go (decLt (end - start) 12) (decLt (end - start) 16) (eqb (field bs start 12) 4073) refl
+  -- a heading, then its body
+  abbrev then-body : Messages.Heading → Program Message
+  then-body d = body (d .lines) >>= (λ rows. done (record { content = record { head = d .head; rows = rows }; after = held }))
+
+  keeping-parts : (p : Program Messages.Heading) → keeping held p ≡ p >>= then-body
+  unfolding keeping bodied body _>>=_
+  keeping-parts p = bind-assoc p _ _
+
+  pub keeping-ended : (place : ℕ) (p : Program Messages.Heading)
+      → endedAt held place (run (keeping held p) (bitsFrom bs end place)) ≡ headedAt held bs end (later place (run p (bitsFrom bs end place)))
+  unfolding later headedAt endedAt
+  keeping-ended place p = rw (keeping-parts p) (go (run p (bitsFrom bs end place)) refl)
+    where
+      go : (e : Ended Messages.Heading) → run p (bitsFrom bs end place) ≡ e → endedAt held place (run (p >>= then-body) (bitsFrom bs end place)) ≡ headedAt held bs end (later place e)
+      go (well d taken) ran =
+          ap (endedAt held place) (run-bind p then-body (bitsFrom bs end place) d taken ran)
+          ∙ ended-later held place taken (run (then-body d) (drop taken (bitsFrom bs end place)))
+          ∙ rw (drop-from bs end inside place taken) (body-ended d (place + taken))
+      go (badly r missing) ran = ap (endedAt held place) (run-bind-badly p then-body (bitsFrom bs end place) r missing ran)
+
+-- ---- a mask
+
+abbrev made : Messages.Adopted → Program Message
+made d = done (record { content = record { head = d .head; rows = [] }; after = mask (d .made) })
+
+pub adopted-ended : (held : Held) (place : ℕ) (n : ℕ) (l : List Bool) → endedAt held place (run (byKind (kindBy n IsMask) held) l) ≡ adoptedBy held place (run maskMessage l)
+unfolding byKind kindBy adoptedBy endedAt later run
+adopted-ended held place n l = go (run maskMessage l) refl
   where
-    go : Dec (end - start < 12) → Dec (end - start < 16) → (b : Bool) → eqb (field bs start 12) 4073 ≡ b → (start + 16 ≤ end) × (n < 16) × (field bs start 12 ≡ 4073)
-    go (yes short) _ b f =
-        let g = rw (lt-ltb (end - start) 12 short) at e in
-        absurd (let z : _≡_ {A = ℕ} 0 1 = cc in omega arith)
-    go (no there) d false f =
-        let g = rw (le-ltb (end - start) 12 (omega arith), f) at e in
-        absurd (let z : _≡_ {A = ℕ} 0 1 = cc in omega arith)
-    go (no there) (yes short) true f =
-        let g = rw (le-ltb (end - start) 12 (omega arith), f, lt-ltb (end - start) 16 short) at e in
-        absurd (let z : _≡_ {A = ℕ} 0 1 = cc in omega arith)
-    go (no there) (no more) true f =
-        let g = rw (le-ltb (end - start) 12 (omega arith), f, le-ltb (end - start) 16 (omega arith)) at e in
-        let same : field bs (start + 12) 4 ≡ n = cc in
-        (omega arith, omega (arith, field-lt bs (start + 12) 4), eqb-true (field bs start 12) 4073 f)
+    go : (e : Ended Messages.Adopted) → run maskMessage l ≡ e → endedAt held place (run (maskMessage >>= made) l) ≡ adoptedBy held place e
+    go (well d taken) ran = ap (endedAt held place) (run-bind maskMessage made l d taken ran) ∙ rw add-zero
+    go (badly r missing) ran = ap (endedAt held place) (run-bind-badly maskMessage made l r missing ran)
 
-module _ (bs : List ℕ) (end : ℕ) (inside : end ≤ 8 * length bs) (held : Held) (few : length (satellitesHeld held) ≤ 64) where
-  -- ---- by the sub type
+-- ---- under a mask: the gate by what is held
 
-  sorted : (place : ℕ) → place ≤ end → (n : ℕ) → endedAt held place (run (byKind (table n) held) (bitsFrom bs end place)) ≡ sortedAt held bs end place n
-  unfolding table kinds byKind isMasked sortedAt run endedAt
-  sorted place room zero = refl
-  sorted place room (suc zero) = adopted-by held place (bitsFrom bs end place) (run maskMessage (bitsFrom bs end place)) refl
-  sorted place room (suc (suc zero)) = kind-headed bs end inside held few place room 2 refl
-  sorted place room (suc (suc (suc zero))) = kind-headed bs end inside held few place room 3 refl
-  sorted place room (suc (suc (suc (suc zero)))) = kind-headed bs end inside held few place room 4 refl
-  sorted place room (suc (suc (suc (suc (suc zero))))) = kind-headed bs end inside held few place room 5 refl
-  sorted place room (suc (suc (suc (suc (suc (suc zero)))))) = refl
-  sorted place room (suc (suc (suc (suc (suc (suc (suc zero))))))) = refl
-  sorted place room (suc (suc (suc (suc (suc (suc (suc (suc zero)))))))) = refl
-  sorted place room (suc (suc (suc (suc (suc (suc (suc (suc (suc zero))))))))) = refl
-  sorted place room (suc (suc (suc (suc (suc (suc (suc (suc (suc (suc zero)))))))))) = packet-headed bs end inside held place room
-  sorted place room (suc (suc (suc (suc (suc (suc (suc (suc (suc (suc (suc zero))))))))))) = kind-headed bs end inside held few place room 11 refl
-  sorted place room (suc (suc (suc (suc (suc (suc (suc (suc (suc (suc (suc (suc n)))))))))))) =
-      let m = suc (suc (suc (suc (suc (suc (suc (suc (suc (suc (suc (suc n))))))))))) in
-      rw (ne-eqb m 1 (λ e. omega arith), ne-eqb m 10 (λ e. omega arith), ne-eqb m 11 (λ e. omega arith), le-leb 2 m (omega arith), lt-leb m 5 (omega arith))
+gate-then : (held : Held) (k : Sky → Program Messages.Heading) (issue : ℕ)
+    → gate held issue >>= (λ m. k (skyOf m)) ≡ gateBy (isHeld held) (issueOf held) issue >> k (skyHeld held)
+unfolding gate gateBy isHeld issueOf satellitesHeld cellsHeld skyOf require _>>_ _>>=_
+gate-then nothing k issue = refl
+gate-then (mask m) k issue = go (eqb issue (m .iod))
+  where
+    go : (test : Bool) → (require test OtherIssue >> done m) >>= (λ m. k (skyOf m)) ≡ require test OtherIssue >> k (skyOf m)
+    go true = refl
+    go false = refl
 
-  -- ---- the whole
+under-seen : (held : Held) (n count : ℕ) (l : Layout) → underMask (maskedBy n l) held ≡ underBy (underWith (seenOf held count n) l) (skyHeld held)
+unfolding underMask underBy gatedBy maskedBy
+under-seen held n count l = ap (λ (k : Common → Program Messages.Heading). common 12 >>= k) (λ i h. gate-then held (λ sky. programBy n l sky h) (h .iod) i)
 
-  by-opening : (start : ℕ) (o : Opening) → ((n : ℕ) → o ≡ SubType n → start + 16 ≤ end)
-      → endedAt held start (afterOpening o (λ n. run (byKind (table n) held) (bitsFrom bs end (start + 16)))) ≡ openedBy held bs end start o
-  unfolding afterOpening openedBy endedAt
-  by-opening start (SubType n) known = ended-later held start 16 (run (byKind (table n) held) (bitsFrom bs end (start + 16))) ∙ sorted (start + 16) (known n refl) n
-  by-opening start (Refused r missing) known = refl
+-- ---- by its kind
 
-  pub message-sorted : (start : ℕ) → start ≤ end → endedAt held start (run (message held) (bitsFrom bs end start)) ≡ openedBy held bs end start (openingAt bs end start)
-  message-sorted start room =
-      ap (endedAt held start) (opened bs end inside start room table held) ∙ by-opening start (openingAt bs end start) (λ n e. sub-type-told bs end start n room e .0)
+module _ (bs : List ℕ) (end : ℕ) (inside : end ≤ 8 * length bs) (held : Held) (place : ℕ) (n count : ℕ) where
+  pub kind-ended : (kind : Kind) → (kind ≡ IsMask → ⊥)
+      → endedAt held place (run (byKind (kindBy n kind) held) (bitsFrom bs end place))
+      ≡ headedAt held bs end (later place (run (headingFor kind (seenOf held count n) (skyHeld held)) (bitsFrom bs end place)))
+  unfolding byKind kindBy headingFor endedAt headedAt later run
+  kind-ended Other other = refl
+  kind-ended IsMask other = absurd (other refl)
+  kind-ended Packet other = keeping-ended bs end inside held place Messages.packet
+  kind-ended (Masked l) other = keeping-ended bs end inside held place (underMask (maskedBy n l) held) ∙ rw (under-seen held n count l)

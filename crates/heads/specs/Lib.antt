@@ -1,4 +1,3 @@
-pub mod Openings
-pub mod Lines
+pub mod Heads
 pub mod Headings
 pub mod Sorting

@@ -1,32 +1,63 @@
 -- Reading a message by its sub type, at places of a byte string. proofs/Sorted.antt shows that this is crate format's reading.
-use mathlib.Core.Bool.{cond}
 use mathlib.Core.List.{List, []}
-use Prim.Native.Nat.{ℕ, _+_}
-use lib.Dec.{eqb}
-use lib.ListN.{length}
-use Rattle.format.specs.declared.Refusal.the-variants as Refusal
-use Rattle.format.specs.Masks.{Held, mask}
-use Rattle.format.specs.Messages.{Adopted, maskMessage}
-use Rattle.format.specs.Programs.{Ended, well, badly, run}
+use Prim.Native.Nat.{ℕ, zero, suc, _+_, _-_}
+use lib.ListN.{take}
+use Rattle.format.specs.declared.Refusal.the-variants.{Short, SubType}
+use Rattle.format.specs.Masks.{Held, mask, lent, Sky}
+use Rattle.format.specs.Messages as Messages
+use Rattle.format.specs.Messages.{Adopted, packet}
+use Rattle.format.specs.Programs.{Program, refuse, Ended, well, badly}
 use Rattle.format.specs.Reading.{Outcome, accepted, refused, bitsFrom}
-use Rattle.heads.specs.declared.Opening.{Opening}
-use Rattle.heads.specs.declared.Opening.the-variants.{SubType, Refused}
-use Rattle.heads.specs.Headings.{isHeld, issueOf, isMasked, maskedAt, packetAt, headedBy}
-use Rattle.holding.specs.Kth.{satellitesHeld}
+use Rattle.format.specs.Rows.{bodyWidth, rowsOf}
+use Rattle.format.specs.Table.{Message}
+use Rattle.heads.specs.declared.heading.Seen.{Seen}
+use Rattle.heads.specs.declared.heading.Under.{Under}
+use Rattle.heads.specs.Headings.{underBy}
+use Rattle.holding.specs.Held.{isHeld, issueOf, satellitesHeld, cellsHeld}
+use Rattle.table.specs.declared.Kind.{Kind}
+use Rattle.table.specs.declared.Kind.the-variants.{Other, Mask, Packet, Masked}
+use Rattle.table.specs.declared.Layout.{Layout}
+use Rattle.table.specs.Kinds.{LaidOut}
+
+-- a layout that the table has
+unfoldable pub OfTable : Kind → Type 0
+OfTable Other = Unit {0}
+OfTable Mask = Unit {0}
+OfTable Packet = Unit {0}
+OfTable (Masked l) = LaidOut l
+
+abbrev pub underWith : Seen → Layout → Under
+underWith s l = record { held = s .held; iod = s .iod; n = s .n; subtype = s .subtype; layout = l }
+
+-- what is held, as a message of a sub type sees it
+abbrev pub skyHeld : Held → Sky
+skyHeld held = record { satellites = satellitesHeld held; cells = cellsHeld held }
+
+abbrev pub seenOf : Held → ℕ → ℕ → Seen
+seenOf held count n = record { held = isHeld held; iod = issueOf held; n = count; subtype = n }
+
+-- what a message of a kind says before its body
+unfoldable pub headingFor : Kind → Seen → Sky → Program Messages.Heading
+headingFor Other s sky = refuse SubType
+headingFor Mask s sky = refuse SubType
+headingFor Packet s sky = packet
+headingFor (Masked l) s sky = underBy (underWith s l) sky
+
+-- ---- what reading comes to, from what a message says before its body
+
+-- by how many bits of the body are missing
+unfoldable pub bodiedBy : Held → Message → ℕ → ℕ → Outcome
+bodiedBy held m next zero = accepted m next
+bodiedBy held m next (suc missing) = refused Short (suc missing) (lent held)
+
+-- from a heading that ended at a place
+unfoldable pub headedAt : Held → List ℕ → ℕ → Ended Messages.Heading → Outcome
+headedAt held bs end (well d at) =
+    let w = bodyWidth (d .lines) in
+    bodiedBy held (record { content = record { head = d .head; rows = rowsOf (d .lines) (take w (bitsFrom bs end at)) }; after = held }) (at + w) (w - (end - at))
+headedAt held bs end (badly r missing) = refused r missing (lent held)
 
 -- a mask message, by how its program ended at a place
 unfoldable pub adoptedBy : Held → ℕ → Ended Adopted → Outcome
 adoptedBy held place (well d taken) = accepted (record { content = record { head = d .head; rows = [] }; after = mask (d .made) }) (place + taken)
-adoptedBy held place (badly r missing) = refused r missing held
-
--- behind number and sub type
-unfoldable pub sortedAt : Held → List ℕ → ℕ → ℕ → ℕ → Outcome
-sortedAt held bs end place n =
-    cond (eqb n 1) (adoptedBy held place (run maskMessage (bitsFrom bs end place)))
-    (cond (eqb n 10) (headedBy held bs end (packetAt bs end place))
-    (cond (isMasked n) (headedBy held bs end (maskedAt (isHeld held) (issueOf held) (length (satellitesHeld held)) n bs end place))
-    (refused Refusal.SubType 0 held)))
-
-unfoldable pub openedBy : Held → List ℕ → ℕ → ℕ → Opening → Outcome
-openedBy held bs end start (SubType n) = sortedAt held bs end (start + 16) n
-openedBy held bs end start (Refused r missing) = refused r missing held
+adoptedBy held place (badly r missing) = refused r missing (lent held)

@@ -1,24 +1,50 @@
-// What a message says before its body: its head, which rows its body has and where the body begins; with every
-// refusal on the way there (document 01, "Reader's order").
+// What a message says before its body: its head, the keys and the shape of its rows and where the body begins; with
+// every refusal on the way there (document 01, "Reader's order").
 ghost use mathlib.Core.Path.{_≡_};
-ghost use Prim.Native.Nat.{_^_, _≤_, _<_};
-ghost use Rattle.heads.specs.Openings.{Small};
-ghost use Rattle.heads.specs.Headings.{headWith, linesAlone, chosenAt, selectionAt, combinedAt, gatedAt, maskedAt, packetShort, packetAt};
+ghost use mathlib.Core.Bool.{true};
+ghost use Prim.Native.Nat.{_*_, _^_, _≤_, _<_};
+ghost use lib.ListN.{length};
+ghost use Rattle.format.specs.Messages as Messages;
+ghost use Rattle.format.specs.Programs.{later, run};
+ghost use Rattle.format.specs.Reading.{bitsFrom};
+ghost use Rattle.holding.specs.Held.{View, skyIn};
+ghost use Rattle.heads.specs.Heads.{commonOf, Small};
+ghost use Rattle.heads.specs.Headings.{headWith, chosenAt, Shows, saidBy, FitsHeading, networked, networkBy, afterFlags, gatedBy, underBy};
+ghost use Rattle.heads.specs.Sorting.{OfTable, headingFor};
+ghost use Rattle.table.specs.Kinds.{LaidOut};
+ghost use Rattle.rows.specs.Table.{shapeAt};
+ghost use Rattle.table.specs.Shapes.{shapesFrom};
 use crate::CommonHead;
-use crate::Opened;
-use crate::lines::Lines;
+use crate::CommonTaken;
+use bits::read::Taken;
+use bits::read::Widths;
 use bits::read::read_field;
+use bits::read::short_by;
+use bits::read::take_field;
+use format::ABSENT;
 use format::Head;
 use format::Refusal;
+use rows::shapes;
+use table::ALL;
+use table::Body;
+use table::Keys;
+use table::Kind;
+use table::Layout;
 
-// Head, lines and the body's place; or the refusal and how many bits were missing.
+// Head, body and the body's place; or the refusal and how many bits were missing.
 pub enum Heading {
-    Rows(Head, Lines, usize),
+    Rows(Head, Body, usize),
     Refused(Refusal, usize),
 }
 
-// What isn't there.
-pub const ABSENT: i32 = -32768;
+// A sub type that is read under the mask, where a mask of n satellites is held under an issue, or nothing.
+pub struct Under {
+    pub held: bool,
+    pub iod: u8,
+    pub n: usize,
+    pub subtype: usize,
+    pub layout: Layout,
+}
 
 // The eight numbers, from the common head.
 pub fn head(subtype: usize, h: CommonHead, a: i32, b: i32, c: i32) -> Head
@@ -37,20 +63,20 @@ pub fn head(subtype: usize, h: CommonHead, a: i32, b: i32, c: i32) -> Head
     }
 }
 
-// The lines of sub types 2, 3, 4 and 5.
-fn lines_alone(subtype: usize) -> Lines
-    ensures { λ r. ⌜ r ≡ linesAlone subtype ⌝ }
+// The same eight numbers with a network.
+fn with_network(h: Head, network: i32) -> Head
+    ensures { λ r. ⌜ r ≡ networked h network ⌝ }
 {
-    if subtype == 2 {
-        return Lines::Orbits;
+    Head {
+        subtype: h.subtype,
+        epoch: h.epoch,
+        interval: h.interval,
+        indicator: h.indicator,
+        iod: h.iod,
+        a: h.a,
+        b: h.b,
+        c: network,
     }
-    if subtype == 3 {
-        return Lines::Clocks;
-    }
-    if subtype == 4 {
-        return Lines::Codes;
-    }
-    Lines::Phases
 }
 
 // A selection of n satellites, the first one's bit as the highest of 64.
@@ -66,137 +92,193 @@ fn chosen(bytes: &[u8], place: usize, n: usize) -> u64
     (first << 32) + (second << (64 - n))
 }
 
-// A network and its selection of n satellites.
+// How many bits a network has.
+const NETWORK: usize = 5;
+
+// A network and its selection of n satellites, behind which rows of a shape begin.
 fn selection(
     n: usize,
     bytes: &[u8],
     end: usize,
     place: usize,
-    h: CommonHead,
-    orbit: u64,
-    clock: u64,
+    numbers: Head,
+    shape: usize,
 ) -> Heading
-    requires { ⌜ (n ≤ 64) × (place ≤ end) × (end < 2 ^ 32) × Small h × (orbit < 2) × (clock < 2) ⌝ }
-    ensures { λ r. ⌜ r ≡ selectionAt n (now (bytes .entry)) end place h orbit clock ⌝ }
+    requires { ⌜ (n ≤ 64) × (shape < 4) × (end ≤ 8 * length (now bytes)) × (place ≤ end) × (end < 2 ^ 32) ⌝ }
+    ensures { λ r. ⌜ ((v : View) → Shows v n → saidBy v r ≡ later place (run (networkBy (v .satellites) numbers (shapeAt shape)) (bitsFrom (now (bytes .entry)) end place))) ⌝ }
+    ensures { λ r. ⌜ FitsHeading r ⌝ }
 {
-    let left = end - place;
-    if left < 5 {
-        return Heading::Refused(Refusal::Short, 5 - left);
+    let taken = take_field(bytes, end, place, NETWORK);
+    match taken {
+        Taken::Short(missing) => Heading::Refused(Refusal::Short, missing),
+        Taken::Whole(network) => {
+            if network == 0 {
+                return Heading::Refused(Refusal::Network, 0);
+            }
+            let at = place + NETWORK;
+            if end - at < n {
+                return Heading::Refused(Refusal::Short, n - (end - at));
+            }
+            let head = with_network(numbers, network as i32);
+            let keys = Keys::Satellites(chosen(bytes, at, n));
+            Heading::Rows(head, Body { keys, shape }, at + n)
+        }
     }
-    let network = read_field(bytes, place, 5);
-    if network == 0 {
-        return Heading::Refused(Refusal::Network, 0);
-    }
-    if left - 5 < n {
-        return Heading::Refused(Refusal::Short, n - (left - 5));
-    }
-    let numbers = head(11, h, orbit as i32, clock as i32, network as i32);
-    let lines = Lines::Combined(orbit == 1, clock == 1, chosen(bytes, place + 5, n));
-    Heading::Rows(numbers, lines, place + 5 + n)
 }
 
-// The three flags of sub type 11, each short by one bit where it is, read at once; then the network that the third
-// may say.
-fn combined(n: usize, bytes: &[u8], end: usize, place: usize, h: CommonHead) -> Heading
-    requires { ⌜ (n ≤ 64) × (place ≤ end) × (end < 2 ^ 32) × Small h ⌝ }
-    ensures { λ r. ⌜ r ≡ combinedAt n (now (bytes .entry)) end place h ⌝ }
+// By the three flags before a place, of which the first two say which columns the rows have, and the third whether a
+// network follows.
+fn by_flags(
+    under: Under,
+    bytes: &[u8],
+    end: usize,
+    place: usize,
+    h: CommonHead,
+    flags: u64,
+) -> Heading
+    requires { ⌜ (under .subtype < 16) × (under .n ≤ 64) × (under .layout .shape ≡ 0) × (flags < 8) × Small h × (end ≤ 8 * length (now bytes)) × (place ≤ end) × (end < 2 ^ 32) ⌝ }
+    ensures { λ r. ⌜ ((v : View) → Shows v (under .n) → saidBy v r ≡ later place (run (afterFlags under h flags (skyIn v)) (bitsFrom (now (bytes .entry)) end place))) ⌝ }
+    ensures { λ r. ⌜ FitsHeading r ⌝ }
 {
-    if end - place < 3 {
-        return Heading::Refused(Refusal::Short, 1);
-    }
-    let flags = read_field(bytes, place, 3);
-    let orbit = flags / 4;
-    let clock = flags / 2 % 2;
+    let shape = under.layout.shape + (flags / 2) as usize;
+    let numbers = head(
+        under.subtype,
+        h,
+        (flags / 4) as i32,
+        (flags / 2 % 2) as i32,
+        ABSENT,
+    );
     if flags % 2 != 0 {
-        return selection(n, bytes, end, place + 3, h, orbit, clock);
+        return selection(under.n, bytes, end, place, numbers, shape);
     }
-    let numbers = head(11, h, orbit as i32, clock as i32, ABSENT);
-    let lines = Lines::Combined(orbit == 1, clock == 1, 0xffff_ffff_ffff_ffff);
-    Heading::Rows(numbers, lines, place + 3)
+    let keys = Keys::Satellites(ALL);
+    Heading::Rows(numbers, Body { keys, shape }, place)
+}
+
+// Three flags.
+const FLAGS: Widths = Widths {
+    first: 1,
+    second: 1,
+    third: 1,
+    fourth: 0,
+};
+
+// Flags, and what they say.
+fn flagged(under: Under, bytes: &[u8], end: usize, place: usize, h: CommonHead) -> Heading
+    requires { ⌜ (under .subtype < 16) × (under .n ≤ 64) × (under .layout .shape ≡ 0) × Small h × (end ≤ 8 * length (now bytes)) × (place ≤ end) × (end < 2 ^ 32) ⌝ }
+    ensures { λ r. ⌜ ((v : View) → Shows v (under .n) → saidBy v r ≡ later place (run (Messages.flagged (under .subtype) (shapesFrom (under .layout .shape)) (skyIn v) (commonOf h)) (bitsFrom (now (bytes .entry)) end place))) ⌝ }
+    ensures { λ r. ⌜ FitsHeading r ⌝ }
+{
+    let taken = take_field(bytes, end, place, 3);
+    match taken {
+        Taken::Short(_) => Heading::Refused(Refusal::Short, short_by(FLAGS, end - place)),
+        Taken::Whole(flags) => by_flags(under, bytes, end, place + 3, h, flags),
+    }
 }
 
 // The gate: nothing held, then another issue; then what follows the common head.
-fn gated(
-    held: bool,
-    iod: u8,
-    n: usize,
-    subtype: usize,
-    bytes: &[u8],
-    end: usize,
-    place: usize,
-    h: CommonHead,
-) -> Heading
-    requires { ⌜ (subtype < 16) × (n ≤ 64) × (place ≤ end) × (end < 2 ^ 32) × Small h ⌝ }
-    ensures { λ r. ⌜ r ≡ gatedAt held iod n subtype (now (bytes .entry)) end place h ⌝ }
+fn gated(under: Under, bytes: &[u8], end: usize, place: usize, h: CommonHead) -> Heading
+    requires { ⌜ (under .subtype < 16) × (under .n ≤ 64) × LaidOut (under .layout) × Small h × (end ≤ 8 * length (now bytes)) × (place ≤ end) × (end < 2 ^ 32) ⌝ }
+    ensures { λ r. ⌜ ((v : View) → Shows v (under .n) → saidBy v r ≡ later place (run (gatedBy under (skyIn v) (commonOf h)) (bitsFrom (now (bytes .entry)) end place))) ⌝ }
+    ensures { λ r. ⌜ FitsHeading r ⌝ }
 {
-    if !held {
+    if !under.held {
         return Heading::Refused(Refusal::NoMask, 0);
     }
-    if h.iod != iod as u64 {
+    if h.iod != under.iod as u64 {
         return Heading::Refused(Refusal::OtherIssue, 0);
     }
-    if subtype == 11 {
-        return combined(n, bytes, end, place, h);
+    if under.layout.flagged {
+        return flagged(under, bytes, end, place, h);
     }
-    let numbers = head(subtype, h, ABSENT, ABSENT, ABSENT);
-    Heading::Rows(numbers, lines_alone(subtype), place)
+    let numbers = head(under.subtype, h, ABSENT, ABSENT, ABSENT);
+    let keys = table::over(under.layout.cells, ALL);
+    let shape = under.layout.shape;
+    Heading::Rows(numbers, Body { keys, shape }, place)
 }
 
-// Sub types 2, 3, 4, 5 and 11, where a mask of n satellites is held under an issue, or nothing.
-pub fn masked(
-    held: bool,
-    iod: u8,
-    n: usize,
-    subtype: usize,
-    bytes: &[u8],
-    end: usize,
-    place: usize,
-) -> Heading
-    requires { ⌜ (subtype < 16) × (n ≤ 64) × (place ≤ end) × (end < 2 ^ 32) ⌝ }
-    ensures { λ r. ⌜ r ≡ maskedAt held iod n subtype (now (bytes .entry)) end place ⌝ }
+// A sub type that is read under the mask, behind its number and sub type.
+pub fn masked(under: Under, bytes: &[u8], end: usize, place: usize) -> Heading
+    requires { ⌜ (under .subtype < 16) × (under .n ≤ 64) × LaidOut (under .layout) × (end ≤ 8 * length (now bytes)) × (place ≤ end) × (end < 2 ^ 32) ⌝ }
+    ensures { λ r. ⌜ ((v : View) → Shows v (under .n) → saidBy v r ≡ later place (run (underBy under (skyIn v)) (bitsFrom (now (bytes .entry)) end place))) ⌝ }
+    ensures { λ r. ⌜ FitsHeading r ⌝ }
 {
-    let opened = crate::common(bytes, end, place, 12);
-    match opened {
-        Opened::Common(h) => gated(held, iod, n, subtype, bytes, end, place + 21, h),
-        Opened::Short(missing) => Heading::Refused(Refusal::Short, missing),
+    let common = crate::common(bytes, end, place);
+    match common {
+        CommonTaken::Whole(h) => gated(
+            under,
+            bytes,
+            end,
+            place + crate::HOURLY + crate::AFTER_EPOCH,
+            h,
+        ),
+        CommonTaken::Short(missing) => Heading::Refused(Refusal::Short, missing),
     }
 }
 
-// By how much the first short field of sub type 10 is so.
-fn packet_short(left: usize) -> usize
-    requires { ⌜ left < 6 ⌝ }
-    ensures { λ r. ⌜ r ≡ packetShort left ⌝ }
-{
-    if left < 1 {
-        return 1;
-    }
-    if left < 4 {
-        return 4 - left;
-    }
-    6 - left
-}
+// Indicator, counter and size.
+const PACKET: Widths = Widths {
+    first: 1,
+    second: 3,
+    third: 2,
+    fourth: 0,
+};
 
-// Sub type 10: indicator, counter and size.
+// Sub type 10.
 pub fn packet(bytes: &[u8], end: usize, place: usize) -> Heading
-    requires { ⌜ (place ≤ end) × (end < 2 ^ 32) ⌝ }
-    ensures { λ r. ⌜ r ≡ packetAt (now (bytes .entry)) end place ⌝ }
+    requires { ⌜ (end ≤ 8 * length (now bytes)) × (place ≤ end) × (end < 2 ^ 32) ⌝ }
+    ensures { λ r. ⌜ ((v : View) → saidBy v r ≡ later place (run Messages.packet (bitsFrom (now (bytes .entry)) end place))) ⌝ }
+    ensures { λ r. ⌜ FitsHeading r ⌝ }
 {
-    let left = end - place;
-    if left < 6 {
-        return Heading::Refused(Refusal::Short, packet_short(left));
+    let taken = take_field(bytes, end, place, 6);
+    match taken {
+        Taken::Short(_) => Heading::Refused(Refusal::Short, short_by(PACKET, end - place)),
+        Taken::Whole(n) => {
+            let size = n % 4;
+            let numbers = Head {
+                subtype: 10,
+                epoch: ABSENT,
+                interval: ABSENT,
+                indicator: (n / 32) as i32,
+                iod: ABSENT,
+                a: (n / 4 % 8) as i32,
+                b: size as i32,
+                c: ABSENT,
+            };
+            let keys = Keys::Parts(size as usize + 1);
+            let shape = shapes::PACKET;
+            Heading::Rows(numbers, Body { keys, shape }, place + 6)
+        }
     }
-    let indicator = read_field(bytes, place, 1);
-    let counter = read_field(bytes, place + 1, 3);
-    let size = read_field(bytes, place + 4, 2);
-    let numbers = Head {
-        subtype: 10,
-        epoch: ABSENT,
-        interval: ABSENT,
-        indicator: indicator as i32,
-        iod: ABSENT,
-        a: counter as i32,
-        b: size as i32,
-        c: ABSENT,
-    };
-    Heading::Rows(numbers, Lines::Packet(size as usize + 1), place + 6)
+}
+
+// What is held, for a message of a sub type: a mask of n satellites under an issue, or nothing.
+pub struct Seen {
+    pub held: bool,
+    pub iod: u8,
+    pub n: usize,
+    pub subtype: usize,
+}
+
+// A message of a kind behind its number and sub type. A mask has no body: it is read in its own way.
+pub fn of(kind: Kind, seen: Seen, bytes: &[u8], end: usize, place: usize) -> Heading
+    requires { ⌜ (seen .subtype < 16) × (seen .n ≤ 64) × OfTable kind × (end ≤ 8 * length (now bytes)) × (place ≤ end) × (end < 2 ^ 32) ⌝ }
+    ensures { λ r. ⌜ ((v : View) → Shows v (seen .n) → saidBy v r ≡ later place (run (headingFor kind seen (skyIn v)) (bitsFrom (now (bytes .entry)) end place))) ⌝ }
+    ensures { λ r. ⌜ FitsHeading r ⌝ }
+{
+    match kind {
+        Kind::Other => Heading::Refused(Refusal::SubType, 0),
+        Kind::Mask => Heading::Refused(Refusal::SubType, 0),
+        Kind::Packet => packet(bytes, end, place),
+        Kind::Masked(layout) => {
+            let under = Under {
+                held: seen.held,
+                iod: seen.iod,
+                n: seen.n,
+                subtype: seen.subtype,
+                layout,
+            };
+            masked(under, bytes, end, place)
+        }
+    }
 }

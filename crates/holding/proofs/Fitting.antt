@@ -1,4 +1,4 @@
--- The tests of specs/Testing.antt, one row or slot at a time.
+-- The tests of specs/Testing.antt, one strip or slot at a time.
 -- Assumes nothing.
 use mathlib.Core.Path.{_≡_, refl, ap, _∙_}
 use mathlib.Core.Bool.{Bool, true, false, _&&_, not}
@@ -16,20 +16,20 @@ use Rattle.bits.specs.BitLists.{spell}
 use Rattle.format.proofs.Sames.{and-true}
 use Rattle.format.specs.Assigned.{satellitePlaces, assigned}
 use Rattle.holding.specs.Building.{onesIn}
-use Rattle.holding.specs.Named.{namedIn}
-use Rattle.holding.specs.Testing.{rowFits, rowsFit, masksFit, slotFits, emptyRows, emptySlots, slotsFit}
+use Rattle.format.specs.Messages.{named}
+use Rattle.holding.specs.Testing.{stripFits, stripsFit, masksFit, slotFits, emptyStrips, emptySlots, slotsFit}
 use Rattle.holding.proofs.Counts.{ones-part}
 
-pub empty-row : (rows : List ℕ) (i : ℕ) → i < length rows → emptyRows (drop i rows) ≡ (eqb (getD rows i 0) 0 && emptyRows (drop (suc i) rows))
-unfolding emptyRows
-empty-row rows i inside = ap emptyRows (drop-cons rows i 0 inside)
+pub empty-strip : (strips : List ℕ) (i : ℕ) → i < length strips → emptyStrips (drop i strips) ≡ (eqb (getD strips i 0) 0 && emptyStrips (drop (suc i) strips))
+unfolding emptyStrips
+empty-strip strips i inside = ap emptyStrips (drop-cons strips i 0 inside)
 
-pub row-fit : (flag : Bool) (signals : ℕ) (rows : List ℕ) (i to : ℕ) → i < to → i < length rows
-    → rowsFit flag signals (take (to - i) (drop i rows)) ≡ (rowFits flag signals (getD rows i 0) && rowsFit flag signals (take (to - suc i) (drop (suc i) rows)))
-unfolding rowsFit
-row-fit flag signals rows i to more inside =
+pub strip-fit : (flag : Bool) (signals : ℕ) (strips : List ℕ) (i to : ℕ) → i < to → i < length strips
+    → stripsFit flag signals (take (to - i) (drop i strips)) ≡ (stripFits flag signals (getD strips i 0) && stripsFit flag signals (take (to - suc i) (drop (suc i) strips)))
+unfolding stripsFit
+strip-fit flag signals strips i to more inside =
     let next : to - i ≡ suc (to - suc i) = omega arith in
-    rw (next, drop-cons rows i 0 inside)
+    rw (next, drop-cons strips i 0 inside)
 
 -- ---- slots
 
@@ -61,29 +61,29 @@ few-with n id sats signals e =
 -- ---- one slot after the other
 
 -- a slot that fits leaves room for its satellites
-pub fits-few : (before : List ℕ) (n id sats signals : ℕ) (flag : Bool) (rows : List ℕ) → slotFits before n id sats signals flag rows ≡ true → n + ones sats ≤ 64
+pub fits-few : (before : List ℕ) (n id sats signals : ℕ) (flag : Bool) (strips : List ℕ) → slotFits before n id sats signals flag strips ≡ true → n + ones sats ≤ 64
 unfolding slotFits
-fits-few before n id sats signals flag rows e =
+fits-few before n id sats signals flag strips e =
     let known = and-true (ltb id 5) _ e in
-    let new = and-true (not (namedIn id before)) _ (known .1) in
+    let new = and-true (not (named id before)) _ (known .1) in
     few-with n id sats signals (and-true (masksFit n id sats signals) _ (new .1) .0)
 
--- the next slot, after the cells of the rows passed
-pub next-slot : (nsat ncell count n i : ℕ) (ids sats signals : List ℕ) (flags : List Bool) (rows : List ℕ) → i < count → i < length ids
+-- the next slot, after the cells of the strips passed
+pub next-slot : (nsat ncell count n i : ℕ) (ids sats signals : List ℕ) (flags : List Bool) (strips : List ℕ) → i < count → i < length ids
     → let k = ones (getD sats i 0) in
-    slotsFit nsat ncell (count - i) (take i ids) n (onesIn (take n rows)) (drop i ids) (drop i sats) (drop i signals) (drop i flags) (drop n rows)
-    ≡ (slotFits (take i ids) n (getD ids i 0) (getD sats i 0) (getD signals i 0) (getD flags i false) (drop n rows)
-    && slotsFit nsat ncell (count - suc i) (take (suc i) ids) (n + k) (onesIn (take (n + k) rows)) (drop (suc i) ids) (drop (suc i) sats) (drop (suc i) signals)
-    (drop (suc i) flags) (drop (n + k) rows))
+    slotsFit nsat ncell (count - i) (take i ids) n (onesIn (take n strips)) (drop i ids) (drop i sats) (drop i signals) (drop i flags) (drop n strips)
+    ≡ (slotFits (take i ids) n (getD ids i 0) (getD sats i 0) (getD signals i 0) (getD flags i false) (drop n strips)
+    && slotsFit nsat ncell (count - suc i) (take (suc i) ids) (n + k) (onesIn (take (n + k) strips)) (drop (suc i) ids) (drop (suc i) sats) (drop (suc i) signals)
+    (drop (suc i) flags) (drop (n + k) strips))
 unfolding slotsFit
-next-slot nsat ncell count n i ids sats signals flags rows more inside =
+next-slot nsat ncell count n i ids sats signals flags strips more inside =
     let next : count - i ≡ suc (count - suc i) = omega arith in
-    rw (next, take-suc ids i 0 inside, ones-part rows n (ones (getD sats i 0))) (simp (getD-drop, drop-drop, add-zero, add-one))
+    rw (next, take-suc ids i 0 inside, ones-part strips n (ones (getD sats i 0))) (simp (getD-drop, drop-drop, add-zero, add-one))
 
 -- past the last slot
-pub no-slot : (nsat ncell count i n c : ℕ) (before ids sats signals : List ℕ) (flags : List Bool) (rows : List ℕ) → i ≡ count
-    → slotsFit nsat ncell (count - i) before n c (drop i ids) (drop i sats) (drop i signals) (drop i flags) rows
+pub no-slot : (nsat ncell count i n c : ℕ) (before ids sats signals : List ℕ) (flags : List Bool) (strips : List ℕ) → i ≡ count
+    → slotsFit nsat ncell (count - i) before n c (drop i ids) (drop i sats) (drop i signals) (drop i flags) strips
     ≡ (eqb n nsat && (emptySlots (length ids - count) (drop count ids) (drop count sats) (drop count signals) (drop count flags)
-    && (emptyRows rows && (leb c 256 && eqb c ncell))))
+    && (emptyStrips strips && (leb c 256 && eqb c ncell))))
 unfolding slotsFit
-no-slot nsat ncell count i n c before ids sats signals flags rows end = rw (end, sub-self count, length-drop count ids)
+no-slot nsat ncell count i n c before ids sats signals flags strips end = rw (end, sub-self count, length-drop count ids)

@@ -1,4 +1,4 @@
--- Four rows at a time, as one number: specs/Testing.antt. Assumes nothing.
+-- Four strips at a time, as one number: specs/Testing.antt. Assumes nothing.
 use mathlib.Core.Path.{_≡_, refl, ap, _∙_}
 use mathlib.Core.Bool.{Bool, true, false, cond, _&&_}
 use mathlib.Core.List.{List, [], _∷_}
@@ -16,18 +16,18 @@ use Rattle.holding.proofs.Tests.{same-test}
 
 -- ---- the four
 
--- a row and those behind it
-row-at : (rows : List ℕ) (a b : ℕ) → a + 1 ≡ b → a < length rows → drop a rows ≡ getD rows a 0 ∷ drop b rows
-row-at rows a b e inside = rw (← e, add-one a) (drop-cons rows a 0 inside)
+-- a strip and those behind it
+strip-at : (strips : List ℕ) (a b : ℕ) → a + 1 ≡ b → a < length strips → drop a strips ≡ getD strips a 0 ∷ drop b strips
+strip-at strips a b e inside = rw (← e, add-one a) (drop-cons strips a 0 inside)
 
-pub four-rows : (rows : List ℕ) (i : ℕ) → i + 4 ≤ length rows
-    → take 4 (drop i rows) ≡ getD rows i 0 ∷ getD rows (i + 1) 0 ∷ getD rows (i + 2) 0 ∷ getD rows (i + 3) 0 ∷ []
-four-rows rows i room =
+pub four-strips : (strips : List ℕ) (i : ℕ) → i + 4 ≤ length strips
+    → take 4 (drop i strips) ≡ getD strips i 0 ∷ getD strips (i + 1) 0 ∷ getD strips (i + 2) 0 ∷ getD strips (i + 3) 0 ∷ []
+four-strips strips i room =
     rw (
-      row-at rows i (i + 1) refl (omega arith),
-      row-at rows (i + 1) (i + 2) (omega arith) (omega arith),
-      row-at rows (i + 2) (i + 3) (omega arith) (omega arith),
-      row-at rows (i + 3) (i + 4) (omega arith) (omega arith),
+      strip-at strips i (i + 1) refl (omega arith),
+      strip-at strips (i + 1) (i + 2) (omega arith) (omega arith),
+      strip-at strips (i + 2) (i + 3) (omega arith) (omega arith),
+      strip-at strips (i + 3) (i + 4) (omega arith) (omega arith),
     )
 
 -- ---- tested at once
@@ -39,7 +39,7 @@ eqb-parts x y r t hr ht =
     (λ e. let whole = eqb-true (x * 2 ^ 16 + r) (y * 2 ^ 16 + t) e in true-and (eq-eqb r t (omega arith)) (eq-eqb x y (omega arith)))
     (λ e. let parts = and-true (eqb r t) (eqb x y) e in eq-eqb (x * 2 ^ 16 + r) (y * 2 ^ 16 + t) (omega (arith, eqb-true r t (parts .0), eqb-true x y (parts .1))))
 
--- so are four rows
+-- so are four strips
 pub eqb-four : (a b c d p q r s : ℕ) → a < 2 ^ 16 → b < 2 ^ 16 → c < 2 ^ 16 → p < 2 ^ 16 → q < 2 ^ 16 → r < 2 ^ 16
     → eqb (four a b c d) (four p q r s) ≡ (eqb a p && (eqb b q && (eqb c r && eqb d s)))
 eqb-four a b c d p q r s ha hb hc hp hq hr =
@@ -48,7 +48,7 @@ eqb-four a b c d p q r s ha hb hc hp hq hr =
     (eqb-parts (d * 2 ^ 16 + c) (s * 2 ^ 16 + r) b q hb hq ∙ ap (λ (t : Bool). eqb b q && t) (eqb-parts d s c r hc hr))
 
 module _ (g : ℕ) (small : g < 2 ^ 16) where
-  -- of four rows, the signals that count
+  -- of four strips, the signals that count
   and-four : (a b c d : ℕ) → a < 2 ^ 16 → b < 2 ^ 16 → c < 2 ^ 16
       → bitAnd (four a b c d) (four g g g g) ≡ four (bitAnd a g) (bitAnd b g) (bitAnd c g) (bitAnd d g)
   and-four a b c d ha hb hc =
@@ -56,18 +56,18 @@ module _ (g : ℕ) (small : g < 2 ^ 16) where
       ∙ ap (λ (x : ℕ). x * 2 ^ 16 + bitAnd a g)
       (and-block 16 (d * 2 ^ 16 + c) (g * 2 ^ 16 + g) b g hb small ∙ ap (λ (x : ℕ). x * 2 ^ 16 + bitAnd b g) (and-block 16 d g c g hc small))
 
-  -- four rows as the flag lets them be
+  -- four strips as the flag lets them be
   abbrev held : Bool → ℕ → ℕ
-  held flag row = cond flag (bitAnd row g) g
+  held flag strip = cond flag (bitAnd strip g) g
 
   held-four : (flag : Bool) (a b c d : ℕ) → a < 2 ^ 16 → b < 2 ^ 16 → c < 2 ^ 16
       → cond flag (bitAnd (four a b c d) (four g g g g)) (four g g g g) ≡ four (held flag a) (held flag b) (held flag c) (held flag d)
   held-four true a b c d ha hb hc = and-four a b c d ha hb hc
   held-four false a b c d ha hb hc = refl
 
-  held-lt : (flag : Bool) (row : ℕ) → row < 2 ^ 16 → held flag row < 2 ^ 16
-  held-lt true row h = and-lt 16 row g h small
-  held-lt false row h = small
+  held-lt : (flag : Bool) (strip : ℕ) → strip < 2 ^ 16 → held flag strip < 2 ^ 16
+  held-lt true strip h = and-lt 16 strip g h small
+  held-lt false strip h = small
 
   pub fit-four : (flag : Bool) (a b c d : ℕ) → a < 2 ^ 16 → b < 2 ^ 16 → c < 2 ^ 16
       → eqb (cond flag (bitAnd (four a b c d) (four g g g g)) (four g g g g)) (four a b c d)

@@ -1,15 +1,16 @@
 pub mod Places
 pub mod Spreads
-pub mod Highest
+pub mod Bounds
 pub mod Names
 pub mod PicturedSame
-pub mod PicturedRows
+pub mod PicturedStrips
 pub mod Pictured
 pub mod PicturedCells
 pub mod Counts
 pub mod Built
 pub mod Adding
-pub mod Kths
+pub mod Narrows
+pub mod Sounds
 pub mod Tests
 pub mod Noughts
 pub mod Fours
@@ -20,5 +21,3 @@ pub mod SoundTested
 pub mod OneSlot
 pub mod TestedSound
 pub mod Shapes
-pub mod HeldKths
-pub mod Sizes

@@ -1,15 +1,15 @@
--- One slot of the struct: where it meets the test of specs/Testing.antt, it says a good system, and its rows are that system's.
+-- One slot of the struct: where it meets the test of specs/Testing.antt, it says a good system, and its strips are that system's.
 -- Assumes nothing.
 use mathlib.Core.Path.{_≡_, refl, sym, ap, ap₂, _∙_}
 use mathlib.Core.Bool.{Bool, true, false, cond, not}
 use mathlib.Core.List.{List, [], _∷_, _++_, map, map-append, flatMap}
-use Prim.Native.Nat.{ℕ, zero, suc, _+_, _*_, _^_, _≤_, _<_}
+use Prim.Native.Nat.{ℕ, suc, _+_, _*_, _^_, _≤_, _<_}
 use native.Mathlib.Nat.{suc-inj, suc-mul, mod-eq-of-lt}
 use native.Mathlib.Omega.{arith}
 use lib.Bits.{bitAnd}
 use lib.Count.{ones}
 use lib.Dec.{eqb, leb, ltb}
-use lib.ListN.{length, take, drop, replicate, length-append}
+use lib.ListN.{length, take, replicate, length-append}
 use lib.Seq.{drop-at, length-take-le}
 use borrow.Author.Tests.{eqb-true, leb-true, ltb-true, eq-eqb, le-leb}
 use Rattle.bits.proofs.BitLists.{length-spell, number-spell}
@@ -18,37 +18,20 @@ use Rattle.format.proofs.Sames.{and-true, true-and}
 use Rattle.format.specs.Assigned.{satellitePlaces, known, assigned}
 use Rattle.format.specs.Good.{goodSystem, good}
 use Rattle.format.specs.Masks.{System, placesFrom, pick, cellsOf, satellites, cells}
-use Rattle.format.specs.Messages.{named}
+use Rattle.format.specs.Messages.{named, idsOf}
 use Rattle.holding.specs.Building.{onesIn}
-use Rattle.holding.specs.Kth.{narrow, below}
-use Rattle.holding.specs.Named.{namedIn}
-use Rattle.holding.specs.Pictures.{rowsFrom, rowsOf, systemOf}
+use Rattle.holding.specs.Bounds.{below, narrow}
+use Rattle.format.specs.Messages.{named}
+use Rattle.holding.specs.Pictures.{stripsFrom, stripsOf, systemOf}
 use Rattle.holding.specs.Spread.{spread, within}
-use Rattle.holding.specs.Testing.{rowFits, rowsFit, masksFit, slotFits}
-use Rattle.holding.proofs.Names.{named-ids}
+use Rattle.holding.specs.Testing.{stripFits, stripsFit, masksFit, slotFits}
+use Rattle.holding.proofs.Bounds.{below-take}
 use Rattle.holding.proofs.Places.{ones-places}
 use Rattle.holding.proofs.Spreads.{length-pick, spread-pick, within-and}
-use Rattle.holding.proofs.PicturedRows.{length-satellites}
-use Rattle.holding.proofs.Built.{rows-ones, flatMap-snoc}
+use Rattle.holding.proofs.PicturedStrips.{length-satellites}
+use Rattle.holding.proofs.Built.{strips-ones, flatMap-snoc}
 
--- ---- parts of some rows
-
-module _ (w : ℕ) where
-  narrow-take : (k : ℕ) (rows : List ℕ) → narrow w rows ≡ true → narrow w (take k rows) ≡ true
-  unfolding below
-  narrow-take zero rows e = refl
-  narrow-take (suc k) [] e = refl
-  narrow-take (suc k) (row ∷ rows) e =
-      let parts = and-true (ltb row (2 ^ w)) _ e in
-      true-and (parts .0) (narrow-take k rows (parts .1))
-
-  pub narrow-drop : (k : ℕ) (rows : List ℕ) → narrow w rows ≡ true → narrow w (drop k rows) ≡ true
-  unfolding below
-  narrow-drop zero rows e = e
-  narrow-drop (suc k) [] e = refl
-  narrow-drop (suc k) (row ∷ rows) e = narrow-drop k rows (and-true (ltb row (2 ^ w)) _ e .1)
-
--- ---- the rows of a slot
+-- ---- the strips of a slot
 
 -- a mask is the number of its spelling
 pub number-mask : (w n : ℕ) → n < 2 ^ w → number (spell w n) ≡ n
@@ -62,71 +45,71 @@ spread-more (false ∷ places) bits more k e = ap (λ (l : List Bool). false ∷
 spread-more (true ∷ places) [] more k e = absurd (omega arith)
 spread-more (true ∷ places) (b ∷ bits) more k e = ap (λ (l : List Bool). b ∷ l) (spread-more places bits more (suc k) (suc-inj e))
 
--- the bits that a row has at the places
-abbrev rowBits : List Bool → ℕ → List Bool
-rowBits places row = pick places (spell 16 row)
+-- the bits that a strip has at the places
+abbrev stripBits : List Bool → ℕ → List Bool
+stripBits places strip = pick places (spell 16 strip)
 
-length-rowBits : (places : List Bool) (row : ℕ) → length places ≡ 16 → length (rowBits places row) ≡ length (placesFrom 0 places)
-length-rowBits places row long = length-pick places (spell 16 row) (length-spell 16 row ∙ sym long)
+length-stripBits : (places : List Bool) (strip : ℕ) → length places ≡ 16 → length (stripBits places strip) ≡ length (placesFrom 0 places)
+length-stripBits places strip long = length-pick places (spell 16 strip) (length-spell 16 strip ∙ sym long)
 
-length-rowsBits : (places : List Bool) (rows : List ℕ) → length places ≡ 16
-    → length (flatMap (rowBits places) rows) ≡ length rows * length (placesFrom 0 places)
+length-stripsBits : (places : List Bool) (strips : List ℕ) → length places ≡ 16
+    → length (flatMap (stripBits places) strips) ≡ length strips * length (placesFrom 0 places)
 unfolding flatMap
-length-rowsBits places [] long = omega arith
-length-rowsBits places (row ∷ rows) long =
-    simp length-append (omega (arith, length-rowBits places row long, length-rowsBits places rows long, suc-mul (length rows) (length (placesFrom 0 places))))
+length-stripsBits places [] long = omega arith
+length-stripsBits places (strip ∷ strips) long =
+    simp length-append (omega (arith, length-stripBits places strip long, length-stripsBits places strips long, suc-mul (length strips) (length (placesFrom 0 places))))
 
 module _ (signals : ℕ) (small : signals < 2 ^ 16) where
-  -- with the cell flag: rows that fit are made of the bits that they have at the signals' places
-  rows-from : (rows : List ℕ) → narrow 16 rows ≡ true → rowsFit true signals rows ≡ true
-      → rowsFrom (length rows) (spell 16 signals) (flatMap (rowBits (spell 16 signals)) rows) ≡ rows
-  unfolding below rowsFit rowFits rowsFrom flatMap
-  rows-from [] thin e = refl
-  rows-from (row ∷ rows) thin e =
+  -- with the cell flag: strips that fit are made of the bits that they have at the signals' places
+  strips-from : (strips : List ℕ) → narrow 16 strips ≡ true → stripsFit true signals strips ≡ true
+      → stripsFrom (length strips) (spell 16 signals) (flatMap (stripBits (spell 16 signals)) strips) ≡ strips
+  unfolding below stripsFit stripFits stripsFrom flatMap
+  strips-from [] thin e = refl
+  strips-from (strip ∷ strips) thin e =
       let g = spell 16 signals in
-      let more = flatMap (rowBits g) rows in
-      let rest = and-true (ltb row (2 ^ 16)) _ thin in
-      let fits = and-true (eqb (bitAnd row signals) row) _ e in
-      let low = ltb-true row (2 ^ 16) (rest .0) in
-      let count = length-rowBits g row (length-spell 16 signals) in
-      let inside : within (spell 16 row) g ≡ true = within-and 16 row signals low small ∙ fits .0 in
-      let first : number (spread g (rowBits g row ++ more)) ≡ row =
-      ap number (spread-more g (rowBits g row) more 0 count ∙ spread-pick g (spell 16 row) (length-spell 16 row ∙ sym (length-spell 16 signals)) inside)
-      ∙ number-mask 16 row low in
-      let behind = drop-at (rowBits g row) more (length (placesFrom 0 g)) count in
-      ap₂ _∷_ first (ap (rowsFrom (length rows) g) behind ∙ rows-from rows (rest .1) (fits .1))
+      let more = flatMap (stripBits g) strips in
+      let rest = and-true (ltb strip (2 ^ 16)) _ thin in
+      let fits = and-true (eqb (bitAnd strip signals) strip) _ e in
+      let low = ltb-true strip (2 ^ 16) (rest .0) in
+      let count = length-stripBits g strip (length-spell 16 signals) in
+      let inside : within (spell 16 strip) g ≡ true = within-and 16 strip signals low small ∙ fits .0 in
+      let first : number (spread g (stripBits g strip ++ more)) ≡ strip =
+      ap number (spread-more g (stripBits g strip) more 0 count ∙ spread-pick g (spell 16 strip) (length-spell 16 strip ∙ sym (length-spell 16 signals)) inside)
+      ∙ number-mask 16 strip low in
+      let behind = drop-at (stripBits g strip) more (length (placesFrom 0 g)) count in
+      ap₂ _∷_ first (ap (stripsFrom (length strips) g) behind ∙ strips-from strips (rest .1) (fits .1))
 
-  -- without it each row is the signals
-  rows-all : (rows : List ℕ) → rowsFit false signals rows ≡ true → replicate (length rows) signals ≡ rows
-  unfolding rowsFit rowFits
-  rows-all [] e = refl
-  rows-all (row ∷ rows) e =
-      let fits = and-true (eqb signals row) _ e in
-      ap₂ _∷_ (eqb-true signals row (fits .0)) (rows-all rows (fits .1))
+  -- without it each strip is the signals
+  strips-all : (strips : List ℕ) → stripsFit false signals strips ≡ true → replicate (length strips) signals ≡ strips
+  unfolding stripsFit stripFits
+  strips-all [] e = refl
+  strips-all (strip ∷ strips) e =
+      let fits = and-true (eqb signals strip) _ e in
+      ap₂ _∷_ (eqb-true signals strip (fits .0)) (strips-all strips (fits .1))
 
-  rows-by : (flag : Bool) (rows : List ℕ) → narrow 16 rows ≡ true → rowsFit flag signals rows ≡ true
+  strips-by : (flag : Bool) (strips : List ℕ) → narrow 16 strips ≡ true → stripsFit flag signals strips ≡ true
       → let g = spell 16 signals in
-      cond flag (rowsFrom (length rows) g (cond flag (flatMap (rowBits g) rows) [])) (replicate (length rows) (number g)) ≡ rows
-  rows-by true rows thin e = rows-from rows thin e
-  rows-by false rows thin e = rw (number-mask 16 signals small) (rows-all rows e)
+      cond flag (stripsFrom (length strips) g (cond flag (flatMap (stripBits g) strips) [])) (replicate (length strips) (number g)) ≡ strips
+  strips-by true strips thin e = strips-from strips thin e
+  strips-by false strips thin e = rw (number-mask 16 signals small) (strips-all strips e)
 
--- the rows of the system in a slot are the slot's own
-pub rows-slot : (id sats signals : ℕ) (flag : Bool) (rows : List ℕ) → sats < 2 ^ 40 → signals < 2 ^ 16 → narrow 16 rows ≡ true → ones sats ≤ length rows
-    → rowsFit flag signals (take (ones sats) rows) ≡ true
-    → rowsOf (systemOf id sats signals flag rows) ≡ take (ones sats) rows
-unfolding rowsOf systemOf
-rows-slot id sats signals flag rows low small thin room e =
-    let mine = take (ones sats) rows in
-    let made = rows-by signals small flag mine (narrow-take 16 (ones sats) rows thin) e in
-    rw (← (ones-places 40 sats 0 low)) (rw (length-take-le (ones sats) rows room) at made)
+-- the strips of the system in a slot are the slot's own
+pub strips-slot : (id sats signals : ℕ) (flag : Bool) (strips : List ℕ) → sats < 2 ^ 40 → signals < 2 ^ 16 → narrow 16 strips ≡ true → ones sats ≤ length strips
+    → stripsFit flag signals (take (ones sats) strips) ≡ true
+    → stripsOf (systemOf id sats signals flag strips) ≡ take (ones sats) strips
+unfolding stripsOf systemOf
+strips-slot id sats signals flag strips low small thin room e =
+    let mine = take (ones sats) strips in
+    let made = strips-by signals small flag mine (below-take (2 ^ 16) (ones sats) strips thin) e in
+    rw (← (ones-places 40 sats 0 low)) (rw (length-take-le (ones sats) strips room) at made)
 
 -- ---- one slot
 
--- the cell mask that a slot's rows say has its bits
-cells-width : (flag : Bool) (places : List Bool) (rows : List ℕ) → length places ≡ 16
-    → length (cond flag (flatMap (rowBits places) rows) []) ≡ cond flag (length rows * length (placesFrom 0 places)) 0
-cells-width true places rows long = length-rowsBits places rows long
-cells-width false places rows long = refl
+-- the cell mask that a slot's strips say has its bits
+cells-width : (flag : Bool) (places : List Bool) (strips : List ℕ) → length places ≡ 16
+    → length (cond flag (flatMap (stripBits places) strips) []) ≡ cond flag (length strips * length (placesFrom 0 places)) 0
+cells-width true places strips long = length-stripsBits places strips long
+cells-width false places strips long = refl
 
 -- what the test keeps of the systems before a slot: their IDs, and how many satellites and cells they have
 pub record After (before : List System) (ids : List ℕ) (n c : ℕ) : Type 0 where
@@ -143,24 +126,24 @@ unfolding cells
 cells-snoc before s = rw flatMap-snoc (simp length-append)
 
 -- what a slot that fits says
-pub record Fits (before : List System) (ids : List ℕ) (n c id sats signals : ℕ) (flag : Bool) (rows : List ℕ) : Type 0 where
+pub record Fits (before : List System) (ids : List ℕ) (n c id sats signals : ℕ) (flag : Bool) (strips : List ℕ) : Type 0 where
   pub low : sats < 2 ^ 40
-  pub room : ones sats ≤ length rows
-  pub mine : rowsOf (systemOf id sats signals flag rows) ≡ take (ones sats) rows
-  pub good : goodSystem before (systemOf id sats signals flag rows) ≡ true
-  pub after : After (before ++ (systemOf id sats signals flag rows ∷ [])) (ids ++ (id ∷ [])) (n + ones sats) (c + onesIn (take (ones sats) rows))
+  pub room : ones sats ≤ length strips
+  pub mine : stripsOf (systemOf id sats signals flag strips) ≡ take (ones sats) strips
+  pub good : goodSystem before (systemOf id sats signals flag strips) ≡ true
+  pub after : After (before ++ (systemOf id sats signals flag strips ∷ [])) (ids ++ (id ∷ [])) (n + ones sats) (c + onesIn (take (ones sats) strips))
 
 -- the system in it is good after those before it, and the test keeps what it asks of them with it
-pub fits : (before : List System) (ids : List ℕ) (n c id sats signals : ℕ) (flag : Bool) (rows : List ℕ) → After before ids n c → n + length rows ≡ 64
-    → signals < 2 ^ 16 → narrow 16 rows ≡ true → slotFits ids n id sats signals flag rows ≡ true → c + onesIn (take (ones sats) rows) ≤ 256
-    → Fits before ids n c id sats signals flag rows
+pub fits : (before : List System) (ids : List ℕ) (n c id sats signals : ℕ) (flag : Bool) (strips : List ℕ) → After before ids n c → n + length strips ≡ 64
+    → signals < 2 ^ 16 → narrow 16 strips ≡ true → slotFits ids n id sats signals flag strips ≡ true → c + onesIn (take (ones sats) strips) ≤ 256
+    → Fits before ids n c id sats signals flag strips
 unfolding slotFits masksFit goodSystem known systemOf
-fits before ids n c id sats signals flag rows a whole small thin e limit =
+fits before ids n c id sats signals flag strips a whole small thin e limit =
     let k = ones sats in
-    let own = take k rows in
-    let s = systemOf id sats signals flag rows in
+    let own = take k strips in
+    let s = systemOf id sats signals flag strips in
     let low-id = and-true (ltb id 5) _ e in
-    let fresh = and-true (not (namedIn id ids)) _ (low-id .1) in
+    let fresh = and-true (not (named id ids)) _ (low-id .1) in
     let masks = and-true (masksFit n id sats signals) _ (fresh .1) in
     let wide = and-true (ltb sats (2 ^ 40)) _ (masks .0) in
     let placed = and-true (assigned satellitePlaces id (spell 40 sats)) _ (wide .1) in
@@ -168,15 +151,15 @@ fits before ids n c id sats signals flag rows a whole small thin e limit =
     let low : sats < 2 ^ 40 = ltb-true sats (2 ^ 40) (wide .0) in
     let count : k ≡ length (placesFrom 0 (spell 40 sats)) = ones-places 40 sats 0 low in
     let most : n + k ≤ 64 = leb-true (n + k) 64 (few .0) in
-    let room : k ≤ length rows = omega arith in
-    let mine : rowsOf s ≡ own = rows-slot id sats signals flag rows low small thin room (masks .1) in
+    let room : k ≤ length strips = omega arith in
+    let mine : stripsOf s ≡ own = strips-slot id sats signals flag strips low small thin room (masks .1) in
     let total : c + onesIn own ≡ length (cells (before ++ (s ∷ []))) =
-    ap₂ _+_ (a .held) (ap onesIn (sym mine) ∙ rows-ones s (length-spell 16 signals)) ∙ sym (cells-snoc before s) in
+    ap₂ _+_ (a .held) (ap onesIn (sym mine) ∙ strips-ones s (length-spell 16 signals)) ∙ sym (cells-snoc before s) in
     let known-id : leb id 4 ≡ true = le-leb id 4 (omega (arith, ltb-true id 5 (low-id .0))) in
-    let unnamed : not (named id before) ≡ true = ap not (named-ids id before ∙ ap (namedIn id) (sym (a .same))) ∙ fresh .0 in
+    let unnamed : not (named id (idsOf before)) ≡ true = ap not (ap (named id) (sym (a .same))) ∙ fresh .0 in
     let satellites-few : leb (length (satellites before) + length (placesFrom 0 (spell 40 sats))) 64 ≡ true = le-leb (length (satellites before) + length (placesFrom 0 (spell 40 sats))) 64 (omega (arith, a .sats)) in
     let width : length (s .cells) ≡ cond flag (length (placesFrom 0 (spell 40 sats)) * length (placesFrom 0 (spell 16 signals))) 0 =
-    rw (← count) (rw (length-take-le k rows room) at (cells-width flag (spell 16 signals) own (length-spell 16 signals))) in
+    rw (← count) (rw (length-take-le k strips room) at (cells-width flag (spell 16 signals) own (length-spell 16 signals))) in
     let held : leb (length (cells (before ++ (s ∷ [])))) 256 ≡ true = le-leb (length (cells (before ++ (s ∷ [])))) 256 (omega (arith, total)) in
     record {
       low = low;

@@ -13,59 +13,60 @@ use Rattle.bits.specs.BitLists.{number, spell}
 use Rattle.format.proofs.Sames.{and-true, true-and}
 use Rattle.format.specs.Good.{goodSystem, goodSystems, good}
 use Rattle.format.specs.Masks.{System, Held, nothing, mask, placesFrom, pick}
+use Rattle.format.proofs.MakesBack.{GoodSystem, good-system}
 use Rattle.holding.specs.declared.Holding.{Holding}
-use Rattle.holding.specs.Pictures.{filled, rowsFrom, rowsOf, pictureOf, systemOf, systemsOf, maskOf, sound}
+use Rattle.holding.specs.Pictures.{filled, stripsFrom, stripsOf, pictureOf, systemOf, systemsOf, maskOf, sound}
 use Rattle.holding.proofs.Spreads.{pick-first}
-use Rattle.holding.proofs.PicturedRows.{Sized, sized, satelliteCount, length-rows, spell-bits, spell-row}
+use Rattle.holding.proofs.PicturedStrips.{satelliteCount, length-strips, spell-bits, spell-strip}
 use Rattle.holding.proofs.PicturedSame.{sameHolding-sound, sameHolding-refl}
 
 -- ---- one system
 
--- all rows of a system say its cell mask
-rows-bits : (n : ℕ) (signals bits : List Bool) → length signals ≡ 16 → length bits ≡ n * length (placesFrom 0 signals)
-    → flatMap (λ row. pick signals (spell 16 row)) (rowsFrom n signals bits) ≡ bits
-unfolding flatMap rowsFrom
-rows-bits zero signals [] long e = refl
-rows-bits zero signals (b ∷ bits) long e = absurd (omega arith)
-rows-bits (suc n) signals bits long e =
+-- all strips of a system say its cell mask
+strips-bits : (n : ℕ) (signals bits : List Bool) → length signals ≡ 16 → length bits ≡ n * length (placesFrom 0 signals)
+    → flatMap (λ strip. pick signals (spell 16 strip)) (stripsFrom n signals bits) ≡ bits
+unfolding flatMap stripsFrom
+strips-bits zero signals [] long e = refl
+strips-bits zero signals (b ∷ bits) long e = absurd (omega arith)
+strips-bits (suc n) signals bits long e =
     let w = length (placesFrom 0 signals) in
     let all : length bits ≡ n * w + w = e ∙ suc-mul n w in
-    let row = ap (pick signals) (spell-row signals bits long) ∙ pick-first signals bits 0 (omega arith) in
-    ap₂ _++_ row (rows-bits n signals (drop w bits) long (length-drop w bits ∙ omega arith)) ∙ take-append-drop w bits
+    let strip = ap (pick signals) (spell-strip signals bits long) ∙ pick-first signals bits 0 (omega arith) in
+    ap₂ _++_ strip (strips-bits n signals (drop w bits) long (length-drop w bits ∙ omega arith)) ∙ take-append-drop w bits
 
 -- the same whatever the cell flag: a system without it has no cell mask
-cells-rows : (flag : Bool) (n : ℕ) (signals bits : List Bool) → length signals ≡ 16 → length bits ≡ cond flag (n * length (placesFrom 0 signals)) 0
-    → cond flag (flatMap (λ row. pick signals (spell 16 row)) (cond flag (rowsFrom n signals bits) (replicate n (number signals)))) [] ≡ bits
-cells-rows true n signals bits long e = rows-bits n signals bits long e
-cells-rows false n signals [] long e = refl
-cells-rows false n signals (b ∷ bits) long e = absurd (omega arith)
+cells-strips : (flag : Bool) (n : ℕ) (signals bits : List Bool) → length signals ≡ 16 → length bits ≡ cond flag (n * length (placesFrom 0 signals)) 0
+    → cond flag (flatMap (λ strip. pick signals (spell 16 strip)) (cond flag (stripsFrom n signals bits) (replicate n (number signals)))) [] ≡ bits
+cells-strips true n signals bits long e = strips-bits n signals bits long e
+cells-strips false n signals [] long e = refl
+cells-strips false n signals (b ∷ bits) long e = absurd (omega arith)
 
--- its slot and its rows, whatever stands behind them, say the system
-system-slot : (before : List System) (s : System) (more : List ℕ) → Sized before s
-    → systemOf (s .id) (number (s .satellites)) (number (s .signals)) (s .flag) (rowsOf s ++ more) ≡ s
-unfolding systemOf rowsOf
+-- its slot and its strips, whatever stands behind them, say the system
+system-slot : (before : List System) (s : System) (more : List ℕ) → GoodSystem before s
+    → systemOf (s .id) (number (s .satellites)) (number (s .signals)) (s .flag) (stripsOf s ++ more) ≡ s
+unfolding systemOf stripsOf
 system-slot before s more z =
     let satellites = spell-bits 40 (s .satellites) (z .whole) in
     let signals = spell-bits 16 (s .signals) (z .long) in
-    let cells : systemOf (s .id) (number (s .satellites)) (number (s .signals)) (s .flag) (rowsOf s ++ more) .cells ≡ s .cells =
-    rw (satellites, signals, take-at (rowsOf s) more (satelliteCount s) (length-rows s)) (cells-rows (s .flag) (satelliteCount s) (s .signals) (s .cells) (z .long) (z .width)) in
+    let cells : systemOf (s .id) (number (s .satellites)) (number (s .signals)) (s .flag) (stripsOf s ++ more) .cells ≡ s .cells =
+    rw (satellites, signals, take-at (stripsOf s) more (satelliteCount s) (length-strips s)) (cells-strips (s .flag) (satelliteCount s) (s .signals) (s .cells) (z .long) (z .width)) in
     λ i. record { id = s .id; satellites = satellites i; signals = signals i; flag = s .flag; cells = cells i }
 
 -- ---- all systems
 
--- so do all slots and all rows say the systems, whatever fills the arrays
-systems-slots : (before ss : List System) (ids sats signals : List ℕ) (flags : List Bool) (rows : List ℕ) → goodSystems before ss ≡ true
+-- so do all slots and all strips say the systems, whatever fills the arrays
+systems-slots : (before ss : List System) (ids sats signals : List ℕ) (flags : List Bool) (strips : List ℕ) → goodSystems before ss ≡ true
     → systemsOf (length ss) (map (λ s. s .id) ss ++ ids) (map (λ s. number (s .satellites)) ss ++ sats) (map (λ s. number (s .signals)) ss ++ signals)
-    (map (λ s. s .flag) ss ++ flags) (flatMap rowsOf ss ++ rows)
+    (map (λ s. s .flag) ss ++ flags) (flatMap stripsOf ss ++ strips)
     ≡ ss
 unfolding goodSystems systemsOf flatMap
-systems-slots before [] ids sats signals flags rows e = refl
-systems-slots before (s ∷ ss) ids sats signals flags rows e =
+systems-slots before [] ids sats signals flags strips e = refl
+systems-slots before (s ∷ ss) ids sats signals flags strips e =
     let parts = and-true (goodSystem before s) _ e in
-    let z = sized before s (parts .0) in
-    let more = flatMap rowsOf ss ++ rows in
-    rw (append-assoc (rowsOf s) (flatMap rowsOf ss) rows, spell-bits 40 (s .satellites) (z .whole), drop-at (rowsOf s) more (satelliteCount s) (length-rows s))
-    (ap₂ _∷_ (system-slot before s more z) (systems-slots (before ++ (s ∷ [])) ss ids sats signals flags rows (parts .1)))
+    let z = good-system before s (parts .0) in
+    let more = flatMap stripsOf ss ++ strips in
+    rw (append-assoc (stripsOf s) (flatMap stripsOf ss) strips, spell-bits 40 (s .satellites) (z .whole), drop-at (stripsOf s) more (satelliteCount s) (length-strips s))
+    (ap₂ _∷_ (system-slot before s more z) (systems-slots (before ++ (s ∷ [])) ss ids sats signals flags strips (parts .1)))
 
 -- what a good holding's picture says is that holding
 pub mask-picture : (g : Held) → good g ≡ true → maskOf (pictureOf g) ≡ g

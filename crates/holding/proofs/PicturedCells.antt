@@ -1,4 +1,4 @@
--- The cells of a good mask from its picture: satellite by satellite, the places of its row.
+-- The cells of a good mask from its picture: satellite by satellite, the places of its strip.
 -- Assumes nothing.
 use mathlib.Core.Path.{_≡_, refl, sym, ap, ap₂, _∙_}
 use mathlib.Core.Bool.{Bool, true, false, cond}
@@ -12,10 +12,11 @@ use Rattle.bits.specs.BitLists.{number}
 use Rattle.format.proofs.Sames.{and-true}
 use Rattle.format.specs.Good.{goodSystem, goodSystems, good}
 use Rattle.format.specs.Masks.{System, Mask, mask, Satellite, placesFrom, pick, satellitesOf, pairsOf, cellsOf, satellites, cells}
-use Rattle.holding.specs.Kth.{cellsAt, rowCells}
-use Rattle.holding.specs.Pictures.{rowsFrom, rowsOf}
+use Rattle.format.proofs.MakesBack.{good-system}
+use Rattle.holding.specs.Held.{cellsAt, stripCells}
+use Rattle.holding.specs.Pictures.{stripsFrom, stripsOf}
 use Rattle.holding.proofs.Spreads.{places-spread}
-use Rattle.holding.proofs.PicturedRows.{sized, length-rows, length-satellites, spell-bits, spell-row}
+use Rattle.holding.proofs.PicturedStrips.{length-strips, length-satellites, spell-bits, spell-strip}
 
 -- ---- picking
 
@@ -45,47 +46,47 @@ module _ {A : Type 0} where
 module _ (signals : List Bool) (long : length signals ≡ 16) where
   -- with a cell mask
   picked-cells : (sats : List Satellite) (bits : List Bool)
-      → pick bits (flatMap (λ sat. cellsAt sat (placesFrom 0 signals)) sats) ≡ rowCells sats (rowsFrom (length sats) signals bits)
-  unfolding flatMap rowCells rowsFrom
+      → pick bits (flatMap (λ sat. cellsAt sat (placesFrom 0 signals)) sats) ≡ stripCells sats (stripsFrom (length sats) signals bits)
+  unfolding flatMap stripCells stripsFrom
   picked-cells [] bits = pick-nil bits
   picked-cells (sat ∷ sats) bits =
-      rw (pick-append, length-map, pick-map, spell-row signals bits long, places-spread, picked-cells sats)
+      rw (pick-append, length-map, pick-map, spell-strip signals bits long, places-spread, picked-cells sats)
 
   -- without one
-  all-cells : (sats : List Satellite) → flatMap (λ sat. cellsAt sat (placesFrom 0 signals)) sats ≡ rowCells sats (replicate (length sats) (number signals))
-  unfolding flatMap rowCells
+  all-cells : (sats : List Satellite) → flatMap (λ sat. cellsAt sat (placesFrom 0 signals)) sats ≡ stripCells sats (replicate (length sats) (number signals))
+  unfolding flatMap stripCells
   all-cells [] = refl
   all-cells (sat ∷ sats) = rw (spell-bits 16 signals long, all-cells sats)
 
   cells-by : (flag : Bool) (sats : List Satellite) (bits : List Bool)
       → let pairs = flatMap (λ sat. cellsAt sat (placesFrom 0 signals)) sats in
-      cond flag (pick bits pairs) pairs ≡ rowCells sats (cond flag (rowsFrom (length sats) signals bits) (replicate (length sats) (number signals)))
+      cond flag (pick bits pairs) pairs ≡ stripCells sats (cond flag (stripsFrom (length sats) signals bits) (replicate (length sats) (number signals)))
   cells-by true sats bits = picked-cells sats bits
   cells-by false sats bits = all-cells sats
 
--- the cells of a system with a signal mask of 16 bits are its satellites, each with the places of its row
-pub row-cells : (s : System) → length (s .signals) ≡ 16 → cellsOf s ≡ rowCells (satellitesOf s) (rowsOf s)
-unfolding cellsOf pairsOf rowsOf
-row-cells s long = rw length-satellites at (cells-by (s .signals) long (s .flag) (satellitesOf s) (s .cells))
+-- the cells of a system with a signal mask of 16 bits are its satellites, each with the places of its strip
+pub strip-cells : (s : System) → length (s .signals) ≡ 16 → cellsOf s ≡ stripCells (satellitesOf s) (stripsOf s)
+unfolding cellsOf pairsOf stripsOf
+strip-cells s long = rw length-satellites at (cells-by (s .signals) long (s .flag) (satellitesOf s) (s .cells))
 
 -- ---- all systems
 
-pub rowCells-append : (sats more : List Satellite) (rows others : List ℕ) → length sats ≡ length rows → rowCells (sats ++ more) (rows ++ others) ≡ rowCells sats rows ++ rowCells more others
-unfolding rowCells
-rowCells-append [] more [] others e = refl
-rowCells-append [] more (row ∷ rows) others e = absurd (omega arith)
-rowCells-append (sat ∷ sats) more [] others e = absurd (omega arith)
-rowCells-append (sat ∷ sats) more (row ∷ rows) others e = rw (rowCells-append sats more rows others (suc-inj e), append-assoc)
+pub stripCells-append : (sats more : List Satellite) (strips others : List ℕ) → length sats ≡ length strips → stripCells (sats ++ more) (strips ++ others) ≡ stripCells sats strips ++ stripCells more others
+unfolding stripCells
+stripCells-append [] more [] others e = refl
+stripCells-append [] more (strip ∷ strips) others e = absurd (omega arith)
+stripCells-append (sat ∷ sats) more [] others e = absurd (omega arith)
+stripCells-append (sat ∷ sats) more (strip ∷ strips) others e = rw (stripCells-append sats more strips others (suc-inj e), append-assoc)
 
-cells-after : (before ss : List System) → goodSystems before ss ≡ true → cells ss ≡ rowCells (satellites ss) (flatMap rowsOf ss)
-unfolding goodSystems cells satellites flatMap rowCells
+cells-after : (before ss : List System) → goodSystems before ss ≡ true → cells ss ≡ stripCells (satellites ss) (flatMap stripsOf ss)
+unfolding goodSystems cells satellites flatMap stripCells
 cells-after before [] e = refl
 cells-after before (s ∷ ss) e =
     let parts = and-true (goodSystem before s) _ e in
-    ap₂ _++_ (row-cells s (sized before s (parts .0) .long)) (cells-after (before ++ (s ∷ [])) ss (parts .1))
-    ∙ sym (rowCells-append (satellitesOf s) (satellites ss) (rowsOf s) (flatMap rowsOf ss) (length-satellites s ∙ sym (length-rows s)))
+    ap₂ _++_ (strip-cells s (good-system before s (parts .0) .long)) (cells-after (before ++ (s ∷ [])) ss (parts .1))
+    ∙ sym (stripCells-append (satellitesOf s) (satellites ss) (stripsOf s) (flatMap stripsOf ss) (length-satellites s ∙ sym (length-strips s)))
 
 -- and so are those of a good mask
-pub picture-cells : (m : Mask) → good (mask m) ≡ true → cells (m .systems) ≡ rowCells (satellites (m .systems)) (flatMap rowsOf (m .systems))
+pub picture-cells : (m : Mask) → good (mask m) ≡ true → cells (m .systems) ≡ stripCells (satellites (m .systems)) (flatMap stripsOf (m .systems))
 unfolding good
 picture-cells m e = cells-after [] (m .systems) (and-true (ltb (m .iod) 16) _ e .1)

@@ -25,8 +25,8 @@ sameHolding-sound g h e =
     let satellites = and-true (sameList eqb (g .satellites) (h .satellites)) _ (ids .1) in
     let signals = and-true (sameList eqb (g .signals) (h .signals)) _ (satellites .1) in
     let flags = and-true (sameList Bool·beq (g .flags) (h .flags)) _ (signals .1) in
-    let cells = and-true (sameList eqb (g .cells) (h .cells)) _ (flags .1) in
-    let nsat = and-true (eqb (g .nsat) (h .nsat)) _ (cells .1) in
+    let strips = and-true (sameList eqb (g .strips) (h .strips)) _ (flags .1) in
+    let nsat = and-true (eqb (g .nsat) (h .nsat)) _ (strips .1) in
     λ i. record {
       held = sameBit-sound (g .held) (h .held) (held .0) i;
       iod = eqb-true (g .iod) (h .iod) (iod .0) i;
@@ -35,7 +35,7 @@ sameHolding-sound g h e =
       satellites = sameNumbers-sound (g .satellites) (h .satellites) (satellites .0) i;
       signals = sameNumbers-sound (g .signals) (h .signals) (signals .0) i;
       flags = sameBits-sound (g .flags) (h .flags) (flags .0) i;
-      cells = sameNumbers-sound (g .cells) (h .cells) (cells .0) i;
+      strips = sameNumbers-sound (g .strips) (h .strips) (strips .0) i;
       nsat = eqb-true (g .nsat) (h .nsat) (nsat .0) i;
       ncell = eqb-true (g .ncell) (h .ncell) (nsat .1) i;
     }

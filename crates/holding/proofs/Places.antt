@@ -4,11 +4,11 @@ use mathlib.Core.Path.{_≡_, refl, sym, ap, _∙_}
 use mathlib.Core.Bool.{Bool, true, false}
 use mathlib.Core.List.{List, [], _∷_, _++_, append-nil}
 use Prim.Native.Nat.{ℕ, zero, suc, _+_, _-_, _*_, _%_, _^_, _≤_, _<_}
-use native.Mathlib.Nat.{zero-add, add-zero, add-suc, suc-add, zero-sub, zero-mul, sub-zero, suc-sub-suc, zero-div, div-eq-of-lt, mod-eq-of-lt, le-of-suc-le-suc, pow-suc}
+use native.Mathlib.Nat.{zero-add, add-zero, add-suc, suc-add, zero-sub, zero-mul, sub-zero, suc-sub-suc, zero-div, div-eq-of-lt, mod-eq-of-lt, pow-suc}
 use native.Mathlib.Omega.{arith}
 use lib.Count.{ones, leadingZeros, ones-cat, leading-top}
 use lib.Dec.{eqb}
-use lib.ListN.{length, getD, drop}
+use lib.ListN.{length, drop}
 use lib.Pow.{high, pow-pos}
 use borrow.Author.Tests.{ne-eqb}
 use Rattle.bits.proofs.BitLists.{number-lt, length-spell, number-spell, spell-low, spell-append}
@@ -53,6 +53,10 @@ places-up w z n k small =
     ∙ ap (λ (ps : List ℕ). placesFrom k (spell w n) ++ ps) (no-place z (k + length (spell w n)))
     ∙ append-nil (placesFrom k (spell w n))
 
+-- the same in a word of as many bits, where no bit is moved out
+pub places-shifted : (w z n : ℕ) → n < 2 ^ w → n * 2 ^ z < 2 ^ (w + z) → placesFrom 0 (spell (w + z) (n * 2 ^ z % 2 ^ (w + z))) ≡ placesFrom 0 (spell w n)
+places-shifted w z n small room = rw (mod-eq-of-lt room) (places-up w z n 0 small)
+
 -- p zeros above a number only move its places
 places-down : (p w n k : ℕ) → n < 2 ^ w → placesFrom k (spell (p + w) n) ≡ placesFrom (k + p) (spell w n)
 places-down p w n k small =
@@ -91,14 +95,6 @@ first-place w x k some small = found (leadingZeros (suc w) x) (leading-top (suc 
 pub next-place : (x : ℕ) → 0 < x → x < 2 ^ 64
     → let p = leadingZeros 64 x in (p < 64) × (2 ^ (63 - p) ≤ x) × (placesFrom 0 (spell 64 x) ≡ p ∷ placesFrom 0 (spell 64 (x - 2 ^ (63 - p))))
 next-place x some small = rw zero-add at (first-place 63 x 0 some small)
-
--- no place stands behind the mask's last
-pub places-below : (l : List Bool) (k i : ℕ) → i < length (placesFrom k l) → getD (placesFrom k l) i 0 < k + length l
-unfolding placesFrom
-places-below [] k i h = absurd (omega arith)
-places-below (true ∷ l) k zero h = omega arith
-places-below (true ∷ l) k (suc i) h = omega (arith, places-below l (suc k) i (le-of-suc-le-suc h))
-places-below (false ∷ l) k i h = omega (arith, places-below l (suc k) i h)
 
 -- ---- none beyond the assigned ones
 

@@ -10,12 +10,13 @@ use lib.ListN.{length, length-map}
 use mir.Val.{WTs, ofList}
 use Rattle.format.proofs.Sames.{true-and}
 use Rattle.holding.specs.declared.Holding.{Holding}
-use Rattle.holding.specs.Kth.{narrow, below}
+use Rattle.holding.specs.Bounds.{below, narrow}
 use Rattle.holding.specs.Pictures.{sound}
 use Rattle.holding.specs.Testing.{tested}
 use Rattle.holding.proofs.SoundTested.{sound-tested}
+use Rattle.holding.proofs.Sounds.{Shaped}
 use Rattle.holding.proofs.Tests.{same-test}
-use Rattle.holding.proofs.TestedSound.{Shaped, tested-sound}
+use Rattle.holding.proofs.TestedSound.{tested-sound}
 
 -- the struct's lists stand there as copies of themselves
 pub as-long : {A : Type 0} (xs : List A) (n : ℕ) → length (map (λ x. x) xs) ≡ n → length xs ≡ n

@@ -19,108 +19,85 @@ use Rattle.format.specs.Masks.{System, Held, nothing, mask, placesFrom, satelli
 use Rattle.format.specs.Messages.{named}
 use Rattle.holding.specs.declared.Holding.{Holding}
 use Rattle.holding.specs.Building.{onesIn}
-use Rattle.holding.specs.Named.{namedIn}
-use Rattle.holding.specs.Pictures.{filled, rowsFrom, rowsOf, pictureOf, maskOf, sound}
+use Rattle.format.specs.Messages.{named}
+use Rattle.format.proofs.MakesBack.{GoodSystem, good-system}
+use Rattle.holding.specs.Pictures.{filled, stripsFrom, stripsOf, pictureOf, maskOf, sound}
 use Rattle.holding.specs.Spread.{spread}
-use Rattle.holding.specs.Testing.{rowFits, rowsFit, masksFit, slotFits, emptySlots, emptyRows, slotsFit, tested}
-use Rattle.holding.proofs.Names.{named-ids}
+use Rattle.holding.specs.Testing.{stripFits, stripsFit, masksFit, slotFits, emptySlots, emptyStrips, slotsFit, tested}
 use Rattle.holding.proofs.Places.{ones-number}
 use Rattle.holding.proofs.Spreads.{length-spread, spread-within, within-number}
-use Rattle.holding.proofs.PicturedRows.{satelliteCount, Sized, sized, length-rows, length-satellites, spell-bits}
+use Rattle.holding.proofs.PicturedStrips.{satelliteCount, length-strips, length-satellites, spell-bits}
 use Rattle.holding.proofs.Pictured.{picture-sound}
-use Rattle.holding.proofs.Built.{rows-ones, flatMap-snoc, few-systems}
+use Rattle.holding.proofs.Built.{strips-ones, flatMap-snoc, few-systems}
 
--- ---- rows
+-- ---- strips
 
--- with a cell mask a row has no signal that the system has not
-rows-from : (n : ℕ) (signals bits : List Bool) → rowsFit true (number signals) (rowsFrom n signals bits) ≡ true
-unfolding rowsFit rowFits rowsFrom
-rows-from zero signals bits = refl
-rows-from (suc n) signals bits =
+-- with a cell mask a strip has no signal that the system has not
+strips-from : (n : ℕ) (signals bits : List Bool) → stripsFit true (number signals) (stripsFrom n signals bits) ≡ true
+unfolding stripsFit stripFits stripsFrom
+strips-from zero signals bits = refl
+strips-from (suc n) signals bits =
     true-and (sym (within-number (spread signals bits) signals (length-spread signals bits)) ∙ spread-within signals bits)
-    (rows-from n signals (drop (length (placesFrom 0 signals)) bits))
+    (strips-from n signals (drop (length (placesFrom 0 signals)) bits))
 
 -- without one it has all of them
-rows-all : (n signals : ℕ) → rowsFit false signals (replicate n signals) ≡ true
-unfolding rowsFit rowFits
-rows-all zero signals = refl
-rows-all (suc n) signals = true-and (eqb-refl signals) (rows-all n signals)
+strips-all : (n signals : ℕ) → stripsFit false signals (replicate n signals) ≡ true
+unfolding stripsFit stripFits
+strips-all zero signals = refl
+strips-all (suc n) signals = true-and (eqb-refl signals) (strips-all n signals)
 
-rows-by : (flag : Bool) (n : ℕ) (signals bits : List Bool)
-    → rowsFit flag (number signals) (cond flag (rowsFrom n signals bits) (replicate n (number signals))) ≡ true
-rows-by true n signals bits = rows-from n signals bits
-rows-by false n signals bits = rows-all n (number signals)
+strips-by : (flag : Bool) (n : ℕ) (signals bits : List Bool)
+    → stripsFit flag (number signals) (cond flag (stripsFrom n signals bits) (replicate n (number signals))) ≡ true
+strips-by true n signals bits = strips-from n signals bits
+strips-by false n signals bits = strips-all n (number signals)
 
--- the rows of a system fit its flag and its signals
-rows-fit : (s : System) → rowsFit (s .flag) (number (s .signals)) (rowsOf s) ≡ true
-unfolding rowsOf
-rows-fit s = rows-by (s .flag) (satelliteCount s) (s .signals) (s .cells)
+-- the strips of a system fit its flag and its signals
+strips-fit : (s : System) → stripsFit (s .flag) (number (s .signals)) (stripsOf s) ≡ true
+unfolding stripsOf
+strips-fit s = strips-by (s .flag) (satelliteCount s) (s .signals) (s .cells)
 
 -- ---- one slot
 
--- what a good system's test says beside its sizes
-record Placed (before : List System) (s : System) : Type 0 where
-  pub id : ltb (s .id) 5 ≡ true
-  pub fresh : not (namedIn (s .id) (map (λ s. s .id) before)) ≡ true
-  pub satellites : assigned satellitePlaces (s .id) (s .satellites) ≡ true
-  pub signals : assigned signalPlaces (s .id) (s .signals) ≡ true
-
-placed : (before : List System) (s : System) → goodSystem before s ≡ true → Placed before s
-unfolding goodSystem known
-placed before s e =
-    let id = and-true (known (s .id)) _ e in
-    let fresh = and-true (not (named (s .id) before)) _ (id .1) in
-    let whole = and-true (eqb (length (s .satellites)) 40) _ (fresh .1) in
-    let given = and-true (assigned satellitePlaces (s .id) (s .satellites)) _ (whole .1) in
-    let few = and-true (leb (length (satellites before) + satelliteCount s) 64) _ (given .1) in
-    let long = and-true (eqb (length (s .signals)) 16) _ (few .1) in
-    record {
-      id = lt-ltb (s .id) 5 (omega (arith, leb-true (s .id) 4 (id .0)));
-      fresh = rw named-ids at (fresh .0);
-      satellites = given .0;
-      signals = and-true (assigned signalPlaces (s .id) (s .signals)) _ (long .1) .0;
-    }
-
 -- its masks fit
-masks-fit : (before : List System) (s : System) → Sized before s → Placed before s
+masks-fit : (before : List System) (s : System) → GoodSystem before s
     → masksFit (length (satellites before)) (s .id) (number (s .satellites)) (number (s .signals)) ≡ true
 unfolding masksFit
-masks-fit before s z p =
+masks-fit before s z =
     let small : number (s .satellites) < 2 ^ 40 = rw (z .whole) at (number-lt (s .satellites)) in
     rw (spell-bits 40 (s .satellites) (z .whole), spell-bits 16 (s .signals) (z .long), ones-number (s .satellites) 0)
-    (true-and (lt-ltb _ _ small) (true-and (p .satellites) (true-and (le-leb _ _ (z .few)) (p .signals))))
+    (true-and (lt-ltb _ _ small) (true-and (z .placed) (true-and (le-leb _ _ (z .few)) (z .given))))
 
 -- the cells with one more system's
 cells-more : (before : List System) (s : System) → goodSystem before s ≡ true
-    → length (cells before) + onesIn (rowsOf s) ≡ length (cells (before ++ (s ∷ [])))
+    → length (cells before) + onesIn (stripsOf s) ≡ length (cells (before ++ (s ∷ [])))
 unfolding cells
-cells-more before s e = rw flatMap-snoc (simp length-append (rw (rows-ones s (sized before s e .long))))
+cells-more before s e = rw flatMap-snoc (simp length-append (rw (strips-ones s (good-system before s e .long))))
 
--- a system's satellite mask has a one for each of its rows
-ones-rows : (s : System) → length (rowsOf s) ≡ ones (number (s .satellites))
-ones-rows s = length-rows s ∙ sym (ones-number (s .satellites) 0)
+-- a system's satellite mask has a one for each of its strips
+ones-strips : (s : System) → length (stripsOf s) ≡ ones (number (s .satellites))
+ones-strips s = length-strips s ∙ sym (ones-number (s .satellites) 0)
 
--- a good system fits its slot, whatever stands behind its rows
+-- a good system fits its slot, whatever stands behind its strips
 slot-fits : (before : List System) (s : System) (more : List ℕ) → goodSystem before s ≡ true
-    → slotFits (map (λ s. s .id) before) (length (satellites before)) (s .id) (number (s .satellites)) (number (s .signals)) (s .flag) (rowsOf s ++ more) ≡ true
-unfolding slotFits
+    → slotFits (map (λ s. s .id) before) (length (satellites before)) (s .id) (number (s .satellites)) (number (s .signals)) (s .flag) (stripsOf s ++ more) ≡ true
+unfolding slotFits known
 slot-fits before s more e =
-    let z = sized before s e in
-    let p = placed before s e in
-    rw (take-at (rowsOf s) more _ (ones-rows s)) (true-and (p .id) (true-and (p .fresh) (true-and (masks-fit before s z p) (rows-fit s))))
+    let z = good-system before s e in
+    let low : ltb (s .id) 5 ≡ true = lt-ltb (s .id) 5 (omega (arith, leb-true (s .id) 4 (z .known-id))) in
+    rw (take-at (stripsOf s) more _ (ones-strips s)) (true-and low (true-and (z .fresh) (true-and (masks-fit before s z) (strips-fit s))))
 
 -- ---- all slots
 
--- zeros are slots and rows that are not used
+-- zeros are slots and strips that are not used
 empty-slots : (j : ℕ) → emptySlots j (replicate j 0) (replicate j 0) (replicate j 0) (replicate j false) ≡ true
 unfolding emptySlots
 empty-slots zero = refl
 empty-slots (suc j) = empty-slots j
 
-empty-rows : (r : ℕ) → emptyRows (replicate r 0) ≡ true
-unfolding emptyRows
-empty-rows zero = refl
-empty-rows (suc r) = empty-rows r
+empty-strips : (r : ℕ) → emptyStrips (replicate r 0) ≡ true
+unfolding emptyStrips
+empty-strips zero = refl
+empty-strips (suc r) = empty-strips r
 
 -- the satellites with one more system's
 satellites-more : (before : List System) (s : System) → length (satellites before) + ones (number (s .satellites)) ≡ length (satellites (before ++ (s ∷ [])))
@@ -131,20 +108,20 @@ satellites-more before s = rw flatMap-snoc (simp length-append (rw (length-satel
 slots-fit : (before ss : List System) (j r : ℕ) → length (cells before) ≤ 256 → goodSystems before ss ≡ true
     → slotsFit (length (satellites (before ++ ss))) (length (cells (before ++ ss))) (length ss) (map (λ s. s .id) before) (length (satellites before))
     (length (cells before)) (map (λ s. s .id) ss ++ replicate j 0) (map (λ s. number (s .satellites)) ss ++ replicate j 0)
-    (map (λ s. number (s .signals)) ss ++ replicate j 0) (map (λ s. s .flag) ss ++ replicate j false) (flatMap rowsOf ss ++ replicate r 0)
+    (map (λ s. number (s .signals)) ss ++ replicate j 0) (map (λ s. s .flag) ss ++ replicate j false) (flatMap stripsOf ss ++ replicate r 0)
     ≡ true
 unfolding goodSystems slotsFit flatMap
 slots-fit before [] j r few e =
     rw (append-nil, length-replicate, eqb-refl (length (satellites before)), eqb-refl (length (cells before)), le-leb (length (cells before)) 256 few)
-    (true-and (empty-slots j) (true-and (empty-rows r) refl))
+    (true-and (empty-slots j) (true-and (empty-strips r) refl))
 slots-fit before (s ∷ ss) j r few e =
     let parts = and-true (goodSystem before s) _ e in
-    let more = flatMap rowsOf ss ++ replicate r 0 in
-    let rest = slots-fit (before ++ (s ∷ [])) ss j r (sized before s (parts .0) .held) (parts .1) in
+    let more = flatMap stripsOf ss ++ replicate r 0 in
+    let rest = slots-fit (before ++ (s ∷ [])) ss j r (good-system before s (parts .0) .held) (parts .1) in
     rw (
-      append-assoc (rowsOf s) (flatMap rowsOf ss) (replicate r 0),
-      take-at (rowsOf s) more _ (ones-rows s),
-      drop-at (rowsOf s) more _ (ones-rows s),
+      append-assoc (stripsOf s) (flatMap stripsOf ss) (replicate r 0),
+      take-at (stripsOf s) more _ (ones-strips s),
+      drop-at (stripsOf s) more _ (ones-strips s),
       satellites-more before s,
       cells-more before s (parts .0),
     )
@@ -154,16 +131,16 @@ slots-fit before (s ∷ ss) j r few e =
 filled-fit : (ss : List System) → goodSystems [] ss ≡ true
     → slotsFit (length (satellites ss)) (length (cells ss)) (length ss) [] 0 0 (filled 5 0 (map (λ s. s .id) ss))
     (filled 5 0 (map (λ s. number (s .satellites)) ss)) (filled 5 0 (map (λ s. number (s .signals)) ss)) (filled 5 false (map (λ s. s .flag) ss))
-    (filled 64 0 (flatMap rowsOf ss))
+    (filled 64 0 (flatMap stripsOf ss))
     ≡ true
 unfolding filled satellites cells flatMap
-filled-fit ss e = simp length-map (slots-fit [] ss (5 - length ss) (64 - length (flatMap rowsOf ss)) (omega arith) e)
+filled-fit ss e = simp length-map (slots-fit [] ss (5 - length ss) (64 - length (flatMap stripsOf ss)) (omega arith) e)
 
 -- ---- the whole test
 
 -- the test of the code holds of the picture of a good holding
 pub picture-tested : (g : Held) → good g ≡ true → tested (pictureOf g) ≡ true
-unfolding good tested pictureOf slotsFit emptySlots emptyRows
+unfolding good tested pictureOf slotsFit emptySlots emptyStrips
 picture-tested nothing e = refl
 picture-tested (mask m) e =
     let parts = and-true (ltb (m .iod) 16) _ e in

@@ -32,12 +32,12 @@ length-spread (true ∷ places) [] = ap suc (length-spread places [])
 length-spread (true ∷ places) (b ∷ bits) = ap suc (length-spread places bits)
 
 -- one bit for each place set
-pub length-pick : (places row : List Bool) → length row ≡ length places → length (pick places row) ≡ length (placesFrom 0 places)
+pub length-pick : (places strip : List Bool) → length strip ≡ length places → length (pick places strip) ≡ length (placesFrom 0 places)
 unfolding pick placesFrom
-length-pick [] row e = refl
+length-pick [] strip e = refl
 length-pick (p ∷ places) [] e = absurd (omega arith)
-length-pick (true ∷ places) (b ∷ row) e = ap suc (length-pick places row (suc-inj e) ∙ length-places places 0 1)
-length-pick (false ∷ places) (b ∷ row) e = length-pick places row (suc-inj e) ∙ length-places places 0 1
+length-pick (true ∷ places) (b ∷ strip) e = ap suc (length-pick places strip (suc-inj e) ∙ length-places places 0 1)
+length-pick (false ∷ places) (b ∷ strip) e = length-pick places strip (suc-inj e) ∙ length-places places 0 1
 
 -- ---- spread and pick
 
@@ -49,16 +49,16 @@ pick-first (false ∷ places) bits k h = pick-first places bits (suc k) h
 pick-first (true ∷ places) [] k h = absurd (omega arith)
 pick-first (true ∷ places) (b ∷ bits) k h = ap (λ (l : List Bool). b ∷ l) (pick-first places bits (suc k) (le-of-suc-le-suc h))
 
--- a row with no bit elsewhere is its picked bits, spread
-pub spread-pick : (places row : List Bool) → length row ≡ length places → within row places ≡ true → spread places (pick places row) ≡ row
+-- a strip with no bit elsewhere is its picked bits, spread
+pub spread-pick : (places strip : List Bool) → length strip ≡ length places → within strip places ≡ true → spread places (pick places strip) ≡ strip
 unfolding pick spread within
 spread-pick [] [] e h = refl
-spread-pick [] (b ∷ row) e h = absurd (omega arith)
+spread-pick [] (b ∷ strip) e h = absurd (omega arith)
 spread-pick (p ∷ places) [] e h = absurd (omega arith)
-spread-pick (true ∷ places) (true ∷ row) e h = ap (λ (l : List Bool). true ∷ l) (spread-pick places row (suc-inj e) h)
-spread-pick (true ∷ places) (false ∷ row) e h = ap (λ (l : List Bool). false ∷ l) (spread-pick places row (suc-inj e) h)
-spread-pick (false ∷ places) (true ∷ row) e h = let z : _≡_ {A = ℕ} 0 1 = cc in absurd (omega arith)
-spread-pick (false ∷ places) (false ∷ row) e h = ap (λ (l : List Bool). false ∷ l) (spread-pick places row (suc-inj e) h)
+spread-pick (true ∷ places) (true ∷ strip) e h = ap (λ (l : List Bool). true ∷ l) (spread-pick places strip (suc-inj e) h)
+spread-pick (true ∷ places) (false ∷ strip) e h = ap (λ (l : List Bool). false ∷ l) (spread-pick places strip (suc-inj e) h)
+spread-pick (false ∷ places) (true ∷ strip) e h = let z : _≡_ {A = ℕ} 0 1 = cc in absurd (omega arith)
+spread-pick (false ∷ places) (false ∷ strip) e h = ap (λ (l : List Bool). false ∷ l) (spread-pick places strip (suc-inj e) h)
 
 -- the places of what was spread are those that the bits select
 pub places-spread : (places bits : List Bool) (k : ℕ) → placesFrom k (spread places bits) ≡ pick bits (placesFrom k places)

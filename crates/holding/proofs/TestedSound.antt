@@ -18,14 +18,15 @@ use Rattle.format.specs.Masks.{System, Mask, nothing, mask, placesFrom, satelli
 use Rattle.format.specs.Messages.{named}
 use Rattle.holding.specs.declared.Holding.{Holding}
 use Rattle.holding.specs.Building.{onesIn}
-use Rattle.holding.specs.Kth.{narrow}
-use Rattle.holding.specs.Pictures.{filled, rowsOf, pictureOf, systemOf, systemsOf, maskOf, sameHolding, sound}
-use Rattle.holding.specs.Testing.{slotFits, emptySlots, emptyRows, slotsFit, tested}
+use Rattle.holding.specs.Bounds.{narrow}
+use Rattle.holding.specs.Pictures.{filled, stripsOf, pictureOf, systemOf, systemsOf, maskOf, sameHolding, sound}
+use Rattle.holding.specs.Testing.{slotFits, emptySlots, emptyStrips, slotsFit, tested}
 use Rattle.holding.proofs.Places.{ones-places}
-use Rattle.holding.proofs.PicturedRows.{length-satellites}
+use Rattle.holding.proofs.PicturedStrips.{length-satellites}
 use Rattle.holding.proofs.PicturedSame.{sameHolding-refl}
-use Rattle.holding.proofs.Highest.{below-at}
-use Rattle.holding.proofs.OneSlot.{number-mask, narrow-drop, After, satellites-snoc, cells-snoc, fits}
+use Rattle.holding.proofs.Bounds.{below-at, below-drop}
+use Rattle.holding.proofs.OneSlot.{number-mask, After, satellites-snoc, cells-snoc, fits}
+use Rattle.holding.proofs.Sounds.{Shaped}
 
 -- ---- filled lists
 
@@ -53,14 +54,14 @@ unfolding filled
 filled-nothing d [] e = refl
 filled-nothing d (x ∷ all) e = absurd (omega arith)
 
--- rows that are not used
-empty-rows : (rows : List ℕ) → emptyRows rows ≡ true → filled (length rows) 0 [] ≡ rows
-unfolding emptyRows filled
-empty-rows [] e = refl
-empty-rows (row ∷ rows) e =
-    let parts = and-true (eqb row 0) _ e in
-    let more : replicate (length rows) 0 ≡ rows = rw sub-zero at (empty-rows rows (parts .1)) in
-    rw sub-zero (ap₂ _∷_ (sym (eqb-true row 0 (parts .0))) more)
+-- strips that are not used
+empty-strips : (strips : List ℕ) → emptyStrips strips ≡ true → filled (length strips) 0 [] ≡ strips
+unfolding emptyStrips filled
+empty-strips [] e = refl
+empty-strips (strip ∷ strips) e =
+    let parts = and-true (eqb strip 0) _ e in
+    let more : replicate (length strips) 0 ≡ strips = rw sub-zero at (empty-strips strips (parts .1)) in
+    rw sub-zero (ap₂ _∷_ (sym (eqb-true strip 0 (parts .0))) more)
 
 -- ---- all slots
 
@@ -115,11 +116,11 @@ empty-slots (suc n) ids sats signals flags l e =
     }
 
 -- one more slot in front
-more-slots : (n : ℕ) (ss : List System) (ids sats signals : List ℕ) (flags : List Bool) (rows : List ℕ) → Long (suc n) ids sats signals flags
+more-slots : (n : ℕ) (ss : List System) (ids sats signals : List ℕ) (flags : List Bool) (strips : List ℕ) → Long (suc n) ids sats signals flags
     → getD sats 0 0 < 2 ^ 40 → getD signals 0 0 < 2 ^ 16 → Slots n ss (drop 1 ids) (drop 1 sats) (drop 1 signals) (drop 1 flags)
-    → Slots (suc n) (systemOf (getD ids 0 0) (getD sats 0 0) (getD signals 0 0) (getD flags 0 false) rows ∷ ss) ids sats signals flags
+    → Slots (suc n) (systemOf (getD ids 0 0) (getD sats 0 0) (getD signals 0 0) (getD flags 0 false) strips ∷ ss) ids sats signals flags
 unfolding systemOf
-more-slots n ss ids sats signals flags rows l low small more =
+more-slots n ss ids sats signals flags strips l low small more =
     record {
       ids = filled-cons 0 n _ ids (l .ids) (more .ids);
       sats = rw (number-mask 40 (getD sats 0 0) low) (filled-cons 0 n _ sats (l .sats) (more .sats));
@@ -127,92 +128,82 @@ more-slots n ss ids sats signals flags rows l low small more =
       flags = filled-cons false n _ flags (l .flags) (more .flags);
     }
 
--- slots that fit say good systems, and are their slots and rows
+-- slots that fit say good systems, and are their slots and strips
 record Says (before ss : List System) (a c n : ℕ) (is ts gs : List ℕ) (fs : List Bool) (rs : List ℕ) : Type 0 where
   good : goodSystems before ss ≡ true
   slots : Slots n ss is ts gs fs
-  rows : filled (length rs) 0 (flatMap rowsOf ss) ≡ rs
+  strips : filled (length rs) 0 (flatMap stripsOf ss) ≡ rs
   nsat : length (satellites before) + length (satellites ss) ≡ a
   ncell : length (cells before) + length (cells ss) ≡ c
 
 -- as many systems as slots that are used
-length-systems : (m : ℕ) (ids sats signals : List ℕ) (flags : List Bool) (rows : List ℕ) → length (systemsOf m ids sats signals flags rows) ≡ m
+length-systems : (m : ℕ) (ids sats signals : List ℕ) (flags : List Bool) (strips : List ℕ) → length (systemsOf m ids sats signals flags strips) ≡ m
 unfolding systemsOf
-length-systems zero ids sats signals flags rows = refl
-length-systems (suc m) ids sats signals flags rows = ap suc (length-systems m _ _ _ _ _)
+length-systems zero ids sats signals flags strips = refl
+length-systems (suc m) ids sats signals flags strips = ap suc (length-systems m _ _ _ _ _)
 
 -- no more than 256 cells come before slots that fit
-few-cells : (nsat ncell m : ℕ) (named : List ℕ) (a c : ℕ) (ids sats signals : List ℕ) (flags : List Bool) (rows : List ℕ)
-    → slotsFit nsat ncell m named a c ids sats signals flags rows ≡ true → c ≤ 256
+few-cells : (nsat ncell m : ℕ) (named : List ℕ) (a c : ℕ) (ids sats signals : List ℕ) (flags : List Bool) (strips : List ℕ)
+    → slotsFit nsat ncell m named a c ids sats signals flags strips ≡ true → c ≤ 256
 unfolding slotsFit
-few-cells nsat ncell zero named a c ids sats signals flags rows e =
+few-cells nsat ncell zero named a c ids sats signals flags strips e =
     let slots = and-true (eqb a nsat) _ e in
     let empty = and-true (emptySlots (length ids) ids sats signals flags) _ (slots .1) in
-    let limit = and-true (emptyRows rows) _ (empty .1) in
+    let limit = and-true (emptyStrips strips) _ (empty .1) in
     leb-true c 256 (and-true (leb c 256) _ (limit .1) .0)
-few-cells nsat ncell (suc m) named a c ids sats signals flags rows e =
-    let parts = and-true (slotFits named a (getD ids 0 0) (getD sats 0 0) (getD signals 0 0) (getD flags 0 false) rows) _ e in
+few-cells nsat ncell (suc m) named a c ids sats signals flags strips e =
+    let parts = and-true (slotFits named a (getD ids 0 0) (getD sats 0 0) (getD signals 0 0) (getD flags 0 false) strips) _ e in
     omega (arith, few-cells nsat ncell m _ _ _ _ _ _ _ _ (parts .1))
 
 -- by induction on the slots that are used, the systems before them growing
-says : (nsat ncell m n : ℕ) (before : List System) (named : List ℕ) (a c : ℕ) (ids sats signals : List ℕ) (flags : List Bool) (rows : List ℕ)
-    → m ≤ n → Long n ids sats signals flags → After before named a c → a + length rows ≡ 64 → narrow 16 signals ≡ true → narrow 16 rows ≡ true
-    → slotsFit nsat ncell m named a c ids sats signals flags rows ≡ true
-    → Says before (systemsOf m ids sats signals flags rows) nsat ncell n ids sats signals flags rows
+says : (nsat ncell m n : ℕ) (before : List System) (named : List ℕ) (a c : ℕ) (ids sats signals : List ℕ) (flags : List Bool) (strips : List ℕ)
+    → m ≤ n → Long n ids sats signals flags → After before named a c → a + length strips ≡ 64 → narrow 16 signals ≡ true → narrow 16 strips ≡ true
+    → slotsFit nsat ncell m named a c ids sats signals flags strips ≡ true
+    → Says before (systemsOf m ids sats signals flags strips) nsat ncell n ids sats signals flags strips
 unfolding slotsFit systemsOf goodSystems flatMap satellites cells
-says nsat ncell zero n before named a c ids sats signals flags rows room l after whole small thin e =
+says nsat ncell zero n before named a c ids sats signals flags strips room l after whole small thin e =
     let nsats = and-true (eqb a nsat) _ e in
     let empty = and-true (emptySlots (length ids) ids sats signals flags) _ (nsats .1) in
-    let unused = and-true (emptyRows rows) _ (empty .1) in
+    let unused = and-true (emptyStrips strips) _ (empty .1) in
     let ncells = and-true (leb c 256) _ (unused .1) in
     record {
       good = refl;
       slots = empty-slots n ids sats signals flags l (rw (l .ids) at (empty .0));
-      rows = empty-rows rows (unused .0);
+      strips = empty-strips strips (unused .0);
       nsat = omega (arith, eqb-true a nsat (nsats .0), after .sats);
       ncell = omega (arith, eqb-true c ncell (ncells .1), after .held);
     }
-says nsat ncell (suc m) zero before named a c ids sats signals flags rows room l after whole small thin e = absurd (omega arith)
-says nsat ncell (suc m) (suc n) before named a c ids sats signals flags rows room l after whole small thin e =
+says nsat ncell (suc m) zero before named a c ids sats signals flags strips room l after whole small thin e = absurd (omega arith)
+says nsat ncell (suc m) (suc n) before named a c ids sats signals flags strips room l after whole small thin e =
     let id = getD ids 0 0 in
     let sat = getD sats 0 0 in
     let signal = getD signals 0 0 in
     let flag = getD flags 0 false in
     let k = ones sat in
-    let s = systemOf id sat signal flag rows in
-    let parts = and-true (slotFits named a id sat signal flag rows) _ e in
+    let s = systemOf id sat signal flag strips in
+    let parts = and-true (slotFits named a id sat signal flag strips) _ e in
     let limit = few-cells nsat ncell m _ _ _ _ _ _ _ _ (parts .1) in
     let fine : signal < 2 ^ 16 = below-at (2 ^ 16) signals small 0 (omega (arith, l .signals)) in
-    let f = fits before named a c id sat signal flag rows after whole fine thin (parts .0) limit in
+    let f = fits before named a c id sat signal flag strips after whole fine thin (parts .0) limit in
     let count : k ≡ length (placesFrom 0 (spell 40 sat)) = ones-places 40 sat 0 (f .low) in
-    let left : length (drop k rows) ≡ length rows - k = length-drop k rows in
-    let more = says nsat ncell m n (before ++ (s ∷ [])) (named ++ (id ∷ [])) (a + k) (c + onesIn (take k rows)) (drop 1 ids) (drop 1 sats) (drop 1 signals) (drop 1 flags) (drop k rows)
-    (le-of-suc-le-suc room) (long-tail n ids sats signals flags l) (f .after) (omega (arith, f .room)) (narrow-drop 16 1 signals small) (narrow-drop 16 k rows thin) (parts .1) in
-    let ss = systemsOf m (drop 1 ids) (drop 1 sats) (drop 1 signals) (drop 1 flags) (drop k rows) in
-    let behind : filled (length rows - k) 0 (flatMap rowsOf ss) ≡ drop k rows = rw left at (more .rows) in
+    let left : length (drop k strips) ≡ length strips - k = length-drop k strips in
+    let more = says nsat ncell m n (before ++ (s ∷ [])) (named ++ (id ∷ [])) (a + k) (c + onesIn (take k strips)) (drop 1 ids) (drop 1 sats) (drop 1 signals) (drop 1 flags) (drop k strips)
+    (le-of-suc-le-suc room) (long-tail n ids sats signals flags l) (f .after) (omega (arith, f .room)) (below-drop (2 ^ 16) 1 signals small) (below-drop (2 ^ 16) k strips thin) (parts .1) in
+    let ss = systemsOf m (drop 1 ids) (drop 1 sats) (drop 1 signals) (drop 1 flags) (drop k strips) in
+    let behind : filled (length strips - k) 0 (flatMap stripsOf ss) ≡ drop k strips = rw left at (more .strips) in
     rw (← count) (record {
       good = true-and (f .good) (more .good);
-      slots = more-slots n ss ids sats signals flags rows l (f .low) fine (more .slots);
-      rows = rw (f .mine) (filled-append (length rows) k (flatMap rowsOf ss) rows refl (f .room) behind);
+      slots = more-slots n ss ids sats signals flags strips l (f .low) fine (more .slots);
+      strips = rw (f .mine) (filled-append (length strips) k (flatMap stripsOf ss) strips refl (f .room) behind);
       nsat = simp length-append (omega (arith, more .nsat, satellites-snoc before s, length-satellites s));
       ncell = simp length-append (omega (arith, more .ncell, cells-snoc before s));
     })
 
 -- ---- the whole struct
 
--- the lengths and widths that the struct's types give
-pub record Shaped (h : Holding) : Type 0 where
-  pub ids : length (h .ids) ≡ 5
-  pub satellites : length (h .satellites) ≡ 5
-  pub signals : length (h .signals) ≡ 5
-  pub flags : length (h .flags) ≡ 5
-  pub cells : length (h .cells) ≡ 64
-  pub signals-narrow : narrow 16 (h .signals) ≡ true
-  pub rows-narrow : narrow 16 (h .cells) ≡ true
-
 -- the systems that its slots say
 abbrev saidBy : Holding → List System
-saidBy h = systemsOf (h .count) (h .ids) (h .satellites) (h .signals) (h .flags) (h .cells)
+saidBy h = systemsOf (h .count) (h .ids) (h .satellites) (h .signals) (h .flags) (h .strips)
 
 module _ (h : Holding) (shaped : Shaped h) (e : tested h ≡ true) where
   -- what the test asks of the issue and the count
@@ -221,13 +212,13 @@ module _ (h : Holding) (shaped : Shaped h) (e : tested h ≡ true) where
   opening = and-true (cond (h .held) (ltb (h .iod) 16) (eqb (h .iod) 0 && eqb (h .count) 0)) _ e .0
 
   -- its slots say good systems
-  all-said : Says [] (saidBy h) (h .nsat) (h .ncell) 5 (h .ids) (h .satellites) (h .signals) (h .flags) (h .cells)
+  all-said : Says [] (saidBy h) (h .nsat) (h .ncell) 5 (h .ids) (h .satellites) (h .signals) (h .flags) (h .strips)
   unfolding tested satellites cells flatMap
   all-said =
       let parts = and-true (leb (h .count) 5) _ (and-true (cond (h .held) (ltb (h .iod) 16) (eqb (h .iod) 0 && eqb (h .count) 0)) _ e .1) in
       let long : Long 5 (h .ids) (h .satellites) (h .signals) (h .flags) = record { ids = shaped .ids; sats = shaped .satellites; signals = shaped .signals; flags = shaped .flags } in
-      says (h .nsat) (h .ncell) (h .count) 5 [] [] 0 0 (h .ids) (h .satellites) (h .signals) (h .flags) (h .cells) (leb-true (h .count) 5 (parts .0)) long
-      (record { same = refl; sats = refl; held = refl }) (omega (arith, shaped .cells)) (shaped .signals-narrow) (shaped .rows-narrow) (parts .1)
+      says (h .nsat) (h .ncell) (h .count) 5 [] [] 0 0 (h .ids) (h .satellites) (h .signals) (h .flags) (h .strips) (leb-true (h .count) 5 (parts .0)) long
+      (record { same = refl; sats = refl; held = refl }) (omega (arith, shaped .strips)) (shaped .signals-narrow) (shaped .strips-narrow) (parts .1)
 
   -- one that holds a mask says a good one and is its picture
   mask-held : h .held ≡ true → (good (maskOf h) ≡ true) × (pictureOf (maskOf h) ≡ h)
@@ -237,18 +228,18 @@ module _ (h : Holding) (shaped : Shaped h) (e : tested h ≡ true) where
       let m : Mask = record { iod = h .iod; systems = saidBy h } in
       let what : maskOf h ≡ mask m = ap (λ (b : Bool). cond b (mask m) nothing) held in
       let low : ltb (h .iod) 16 ≡ true = rw held at opening in
-      let rows : filled 64 0 (flatMap rowsOf (saidBy h)) ≡ h .cells = rw (shaped .cells) at (s .rows) in
+      let strips : filled 64 0 (flatMap stripsOf (saidBy h)) ≡ h .strips = rw (shaped .strips) at (s .strips) in
       let nsat : length (satellites (saidBy h)) ≡ h .nsat = omega (arith, s .nsat) in
       let ncell : length (cells (saidBy h)) ≡ h .ncell = omega (arith, s .ncell) in
       let picture : pictureOf (mask m) ≡ h = λ i. record {
         held = sym held i;
         iod = h .iod;
-        count = length-systems (h .count) (h .ids) (h .satellites) (h .signals) (h .flags) (h .cells) i;
+        count = length-systems (h .count) (h .ids) (h .satellites) (h .signals) (h .flags) (h .strips) i;
         ids = s .slots .ids i;
         satellites = s .slots .sats i;
         signals = s .slots .signals i;
         flags = s .slots .flags i;
-        cells = rows i;
+        strips = strips i;
         nsat = nsat i;
         ncell = ncell i;
       } in
@@ -263,8 +254,8 @@ module _ (h : Holding) (shaped : Shaped h) (e : tested h ≡ true) where
       let zeros : (eqb (h .iod) 0 && eqb (h .count) 0) ≡ true = rw free at opening in
       let iod = eqb-true (h .iod) 0 (and-true (eqb (h .iod) 0) _ zeros .0) in
       let count = eqb-true (h .count) 0 (and-true (eqb (h .iod) 0) _ zeros .1) in
-      let s : Says [] [] (h .nsat) (h .ncell) 5 (h .ids) (h .satellites) (h .signals) (h .flags) (h .cells) = rw count at all-said in
-      let rows : filled 64 0 [] ≡ h .cells = rw (shaped .cells) at (s .rows) in
+      let s : Says [] [] (h .nsat) (h .ncell) 5 (h .ids) (h .satellites) (h .signals) (h .flags) (h .strips) = rw count at all-said in
+      let strips : filled 64 0 [] ≡ h .strips = rw (shaped .strips) at (s .strips) in
       let picture : pictureOf nothing ≡ h = λ i. record {
         held = sym free i;
         iod = sym iod i;
@@ -273,7 +264,7 @@ module _ (h : Holding) (shaped : Shaped h) (e : tested h ≡ true) where
         satellites = s .slots .sats i;
         signals = s .slots .signals i;
         flags = s .slots .flags i;
-        cells = rows i;
+        strips = strips i;
         nsat = s .nsat i;
         ncell = s .ncell i;
       } in

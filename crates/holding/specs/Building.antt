@@ -1,4 +1,4 @@
--- A holding built up: a mask of no systems under an issue, a row for each satellite of the next system, the system's slot.
+-- A holding built up: a mask of no systems under an issue, a strip for each satellite of the next system, the system's slot.
 use mathlib.Core.Bool.{Bool}
 use mathlib.Core.List.{List, [], _∷_, _++_, flatMap}
 use Prim.Native.Nat.{ℕ, _+_}
@@ -6,13 +6,13 @@ use lib.Count.{ones}
 use lib.ListN.{length, set}
 use Rattle.format.specs.Masks.{Mask, mask}
 use Rattle.holding.specs.declared.Holding.{Holding}
-use Rattle.holding.specs.Pictures.{filled, rowsOf, pictureOf}
+use Rattle.holding.specs.Pictures.{filled, stripsOf, pictureOf}
 
 -- ---- steps on the struct
 
--- with other rows, and counts of satellites and cells
+-- with other strips, and counts of satellites and cells
 abbrev pub withCells : Holding → List ℕ → ℕ → ℕ → Holding
-withCells h cells nsat ncell =
+withCells h strips nsat ncell =
     record {
       held = h .held;
       iod = h .iod;
@@ -21,17 +21,17 @@ withCells h cells nsat ncell =
       satellites = h .satellites;
       signals = h .signals;
       flags = h .flags;
-      cells = cells;
+      strips = strips;
       nsat = nsat;
       ncell = ncell;
     }
 
-unfoldable pub withRow : Holding → ℕ → Holding
-withRow h row = withCells h (set (h .cells) (h .nsat) row) (h .nsat + 1) (h .ncell + ones row)
+unfoldable pub withStrip : Holding → ℕ → Holding
+withStrip h strip = withCells h (set (h .strips) (h .nsat) strip) (h .nsat + 1) (h .ncell + ones strip)
 
-unfoldable pub withRows : Holding → List ℕ → Holding
-withRows h [] = h
-withRows h (row ∷ rows) = withRows (withRow h row) rows
+unfoldable pub withStrips : Holding → List ℕ → Holding
+withStrips h [] = h
+withStrips h (strip ∷ strips) = withStrips (withStrip h strip) strips
 
 unfoldable pub withSystem : Holding → ℕ → ℕ → ℕ → Bool → Holding
 withSystem h id sats signals flag =
@@ -43,7 +43,7 @@ withSystem h id sats signals flag =
       satellites = set (h .satellites) (h .count) sats;
       signals = set (h .signals) (h .count) signals;
       flags = set (h .flags) (h .count) flag;
-      cells = h .cells;
+      strips = h .strips;
       nsat = h .nsat;
       ncell = h .ncell;
     }
@@ -52,10 +52,10 @@ withSystem h id sats signals flag =
 
 unfoldable pub onesIn : List ℕ → ℕ
 onesIn [] = 0
-onesIn (row ∷ rows) = ones row + onesIn rows
+onesIn (strip ∷ strips) = ones strip + onesIn strips
 
--- the picture of a mask with rows of the next system after its own
+-- the picture of a mask with strips of the next system after its own
 unfoldable pub begun : Mask → List ℕ → Holding
-begun m rows =
+begun m strips =
     let h = pictureOf (mask m) in
-    withCells h (filled 64 0 (flatMap rowsOf (m .systems) ++ rows)) (h .nsat + length rows) (h .ncell + onesIn rows)
+    withCells h (filled 64 0 (flatMap stripsOf (m .systems) ++ strips)) (h .nsat + length strips) (h .ncell + onesIn strips)

@@ -1,6 +1,6 @@
 pub mod Spread
 pub mod Pictures
 pub mod Building
-pub mod Named
-pub mod Kth
+pub mod Bounds
+pub mod Held
 pub mod Testing

@@ -5,11 +5,12 @@ ghost use Prim.Native.Nat.{suc, _^_, _≤_, _<_};
 ghost use lib.ListN.{drop};
 ghost use Rattle.bits.specs.BitLists.{spell};
 ghost use Rattle.format.specs.Assigned.{satellitePlaces, signalPlaces, blank, assigned};
+use crate::Holding;
 
 // The highest assigned place: GPS, GLONASS, Galileo, BeiDou, QZSS.
-const SATELLITE_PLACES: [usize; 5] = [39, 23, 36, 39, 9];
+const SATELLITE_PLACES: [usize; Holding::SYSTEMS] = [39, 23, 36, 39, 9];
 
-const SIGNAL_PLACES: [usize; 5] = [13, 12, 14, 8, 9];
+const SIGNAL_PLACES: [usize; Holding::SYSTEMS] = [13, 12, 14, 8, 9];
 
 // Whether no bit of a mask of w bits is set past a place.
 fn ends_by(mask: u64, w: usize, highest: usize) -> bool

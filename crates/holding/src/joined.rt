@@ -1,8 +1,8 @@
-// Rows joined to one number, to be tested or counted at once.
+// Strips joined to one number, to be tested or counted at once.
 ghost use mathlib.Core.Path.{_≡_};
 ghost use Rattle.holding.specs.Testing.{four};
 
-// Four rows, the first one lowest: LLVM makes it one load where they are neighbours.
+// Four strips, the first one lowest: LLVM makes it one load where they are neighbours.
 pub fn joined(a: u16, b: u16, c: u16, d: u16) -> u64
     ensures { λ r. ⌜ r ≡ four a b c d ⌝ }
 {

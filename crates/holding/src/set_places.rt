@@ -2,9 +2,6 @@
 ghost use mathlib.Core.Path.{_≡_};
 ghost use Prim.Native.Nat.{_-_, _<_, _^_};
 ghost use lib.Count.{ones, leadingZeros};
-ghost use lib.ListN.{getD};
-ghost use Rattle.bits.specs.BitLists.{spell};
-ghost use Rattle.format.specs.Masks.{placesFrom};
 
 // How many there are.
 pub fn count(mask: u64) -> usize
@@ -29,18 +26,4 @@ pub fn rest(mask: u64) -> u64
 {
     let place = first(mask);
     mask - (0x8000_0000_0000_0000u64 >> place)
-}
-
-// The k-th place that is set, from the highest bit on.
-pub fn nth(mask: u64, k: usize) -> usize
-    requires { ⌜ k < ones mask ⌝ }
-    ensures { λ r. ⌜ r ≡ getD (placesFrom 0 (spell 64 mask)) k 0 ⌝ }
-{
-    let mut left = mask;
-    let mut i = 0;
-    while i < k {
-        left = rest(left);
-        i += 1;
-    }
-    first(left)
 }

@@ -1,4 +1,4 @@
-// The test of a lent holding, slot by slot and row by row (specs/Testing.antt).
+// The test of a lent holding, slot by slot and strip by strip (specs/Testing.antt).
 ghost use mathlib.Core.Path.{_≡_};
 ghost use mathlib.Core.Bool.{true, cond, not, _&&_};
 ghost use mathlib.Core.List.{[]};
@@ -6,14 +6,14 @@ ghost use Prim.Native.Nat.{_-_, _≤_, _<_};
 ghost use lib.Dec.{eqb, leb, ltb};
 ghost use lib.ListN.{length, getD, take, drop};
 ghost use Rattle.holding.specs.Building.{onesIn};
-ghost use Rattle.holding.specs.Testing.{masksFit, slotFits, emptySlots, emptyRows, slotsFit};
+ghost use Rattle.holding.specs.Testing.{masksFit, slotFits, emptySlots, emptyStrips, slotsFit};
 use crate::Holding;
 use crate::assigned;
 use crate::cells_in;
 use crate::named;
-use crate::rows_empty;
-use crate::rows_fit;
 use crate::set_places;
+use crate::strips_empty;
+use crate::strips_fit;
 
 // Whether the issue is one: of 4 bits where a mask is held, and none, without a system, where nothing is.
 pub fn issue_fits(held: bool, iod: u8, count: usize) -> bool
@@ -76,7 +76,7 @@ fn slots_empty(ids: &[u8], satellites: &[u64], signals: &[u16], flags: &[bool], 
     true
 }
 
-// Whether a slot fits after n satellites, its rows being those from the n-th on.
+// Whether a slot fits after n satellites, its strips being those from the n-th on.
 fn slot_fits(
     ids: &[u8],
     i: usize,
@@ -84,13 +84,13 @@ fn slot_fits(
     satellites: u64,
     signals: u16,
     flag: bool,
-    rows: &[u16],
+    strips: &[u16],
 ) -> bool
-    requires { ⌜ (i < length (now ids)) × (n ≤ 64) × (length (now rows) ≡ 64) ⌝ }
-    ensures { λ r. ⌜ r ≡ slotFits (take i (now (ids .entry))) n (getD (now (ids .entry)) i 0) satellites signals flag (drop n (now (rows .entry))) ⌝ }
+    requires { ⌜ (i < length (now ids)) × (n ≤ 64) × (length (now strips) ≡ 64) ⌝ }
+    ensures { λ r. ⌜ r ≡ slotFits (take i (now (ids .entry))) n (getD (now (ids .entry)) i 0) satellites signals flag (drop n (now (strips .entry))) ⌝ }
 {
     let id = ids[i];
-    if id >= 5 {
+    if id as usize >= Holding::SYSTEMS {
         return false;
     }
     if named::named_in(ids, i, id) {
@@ -100,15 +100,15 @@ fn slot_fits(
         return false;
     }
     let to = n + set_places::count(satellites);
-    rows_fit::rows_fit(rows, n, to, signals, flag)
+    strips_fit::strips_fit(strips, n, to, signals, flag)
 }
 
-// Whether the cells of n satellites, behind whose rows none is used, are that many and no more than 256.
-fn cells_fit(rows: &[u16], n: usize, ncell: usize) -> bool
-    requires { ⌜ (length (now rows) ≡ 64) × (n ≤ 64) × (emptyRows (drop n (now rows)) ≡ true) ⌝ }
-    ensures { λ r. ⌜ r ≡ (leb (onesIn (take n (now (rows .entry)))) 256 && eqb (onesIn (take n (now (rows .entry)))) ncell) ⌝ }
+// Whether the cells of n satellites, behind whose strips none is used, are that many and no more than 256.
+fn cells_fit(strips: &[u16], n: usize, ncell: usize) -> bool
+    requires { ⌜ (length (now strips) ≡ 64) × (n ≤ 64) × (emptyStrips (drop n (now strips)) ≡ true) ⌝ }
+    ensures { λ r. ⌜ r ≡ (leb (onesIn (take n (now (strips .entry)))) 256 && eqb (onesIn (take n (now (strips .entry)))) ncell) ⌝ }
 {
-    let cells = cells_in::cells_in(rows, n);
+    let cells = cells_in::cells_in(strips, n);
     if cells > Holding::CELLS {
         return false;
     }
@@ -122,18 +122,18 @@ pub fn slots_fit(
     satellites: &[u64],
     signals: &[u16],
     flags: &[bool],
-    rows: &[u16],
+    strips: &[u16],
     count: usize,
     nsat: usize,
     ncell: usize,
 ) -> bool
-    requires { ⌜ (length (now ids) ≡ 5) × (length (now satellites) ≡ 5) × (length (now signals) ≡ 5) × (length (now flags) ≡ 5) × (length (now rows) ≡ 64) × (count ≤ 5) ⌝ }
-    ensures { λ r. ⌜ r ≡ slotsFit nsat ncell count [] 0 0 (now (ids .entry)) (now (satellites .entry)) (now (signals .entry)) (now (flags .entry)) (now (rows .entry)) ⌝ }
+    requires { ⌜ (length (now ids) ≡ 5) × (length (now satellites) ≡ 5) × (length (now signals) ≡ 5) × (length (now flags) ≡ 5) × (length (now strips) ≡ 64) × (count ≤ 5) ⌝ }
+    ensures { λ r. ⌜ r ≡ slotsFit nsat ncell count [] 0 0 (now (ids .entry)) (now (satellites .entry)) (now (signals .entry)) (now (flags .entry)) (now (strips .entry)) ⌝ }
 {
     let mut i = 0;
     let mut n = 0;
     while i < count {
-        if !slot_fits(ids, i, n, satellites[i], signals[i], flags[i], rows) {
+        if !slot_fits(ids, i, n, satellites[i], signals[i], flags[i], strips) {
             return false;
         }
         n += set_places::count(satellites[i]);
@@ -145,8 +145,8 @@ pub fn slots_fit(
     if !slots_empty(ids, satellites, signals, flags, count) {
         return false;
     }
-    if !rows_empty::rows_empty(rows, n) {
+    if !strips_empty::strips_empty(strips, n) {
         return false;
     }
-    cells_fit(rows, n, ncell)
+    cells_fit(strips, n, ncell)
 }

@@ -1,33 +1,57 @@
 -- What is known of a walk under a holding lent as bytes. Assumes nothing.
-use mathlib.Core.Path.{_≡_, refl, ap, _∙_}
-use mathlib.Core.Bool.{Bool, true, false}
+use mathlib.Core.Path.{_≡_, refl, sym, ap, subst, _∙_}
+use mathlib.Core.Bool.{Bool, true, false, cond}
 use mathlib.Core.List.{List}
 use Prim.Native.Nat.{ℕ, zero, suc, _≤_}
 use native.Mathlib.Omega.{arith}
 use lib.IntN.{ℤ}
 use lib.ListN.{length}
+use borrow.Author.Tests.{ne-eqb}
 use denote.Enum.Declared.{tagOf}
+use Rattle.bits.proofs.Windows.{Bytes}
 use Rattle.format.specs.declared.Answer.{Answer}
 use Rattle.format.specs.declared.Answer.the-variants as Answers
-use Rattle.format.specs.Reading.{heldAfter}
-use Rattle.format.specs.Walking.{Walk, walk, messages}
+use Rattle.format.specs.Good.{isHolding}
+use Rattle.format.specs.Masks.{Lent, stray, lent}
+use Rattle.format.specs.Reading.{Outcome, accepted, idle, refused, reading, lentAfter, rowsAfter}
+use Rattle.format.specs.Table.{table}
+use Rattle.format.specs.Walking.{Walk, hand, goOn, walkOn, walk, messages}
 use Rattle.format.proofs.Answer.{the-type}
-use Rattle.format.proofs.Walks.{walk-good, walk-unsound}
+use Rattle.format.proofs.Walks.{walk-step, stop-ends, walk-good, walk-stray}
+use Rattle.format.proofs.Stops.{Stopped, stop-holds}
 use Rattle.holding.specs.declared.Holding.{Holding}
-use Rattle.holding.specs.Pictures.{pictureOf, maskOf, sound}
-use Rattle.holding.proofs.Pictured.{picture-sound, sound-picture}
-use Rattle.host.specs.Handing.{messageNumber, answerNumber, walkedTo, leftBytes, walkBytes}
-use Rattle.host.proofs.Outcomes.{bytes-pass}
-use Rattle.passing.specs.Passing.{holdingIn}
-use Rattle.walk.specs.declared.Walked as Code
-use Rattle.walk.specs.Walks.{walkAt, holdingAfter, walkedOf}
+use Rattle.holding.specs.Pictures.{sound}
+use Rattle.holding.proofs.Pictured.{sound-picture}
+use Rattle.host.specs.Handing.{messageNumber, answerNumber, walkedTo, bytesAfter, leftBytes, walkBytes}
+use Rattle.host.proofs.Outcomes.{bytes-pass, bytes-stay, after-sound, after-bytes}
+use Rattle.passing.specs.Passing.{size, holdingIn, bytesOf}
+use Rattle.reader.specs.Readings.{lentBy, structOf}
+use Rattle.reader.proofs.Lents.{is-holding}
+use Rattle.walk.specs.declared.Halt.{Halt}
+use Rattle.walk.specs.Walks.{walkAt, walkedOf}
 
 -- a message's number, by its tag
 pub message-number : (a : Answer) → tagOf the-type a ≡ 0 → messageNumber ≡ answerNumber a
 unfolding answerNumber
 message-number (Answers.Message h next rows) e = refl
 message-number Answers.Idle e = absurd (omega arith)
-message-number (Answers.Refused r) e = absurd (omega arith)
+message-number (Answers.Refused r missing) e = absurd (omega arith)
+
+-- ---- where no message was accepted, what was lent stays
+
+none-kept : (holding : Lent) (bs : List ℕ) (end : ℕ) (rows : List ℤ) → messages (walk holding bs end rows) ≡ 0 → lentAfter (walk holding bs end rows .stop) ≡ holding
+unfolding messages goOn hand
+none-kept holding bs end rows none = go (reading holding bs end 0 rows) refl
+  where
+    stops : (o : Outcome) → reading holding bs end 0 rows ≡ o → Stopped o → lentAfter (walk holding bs end rows .stop) ≡ holding
+    stops o e stopped = ap (λ (w : Walk). lentAfter (w .stop)) (stop-ends table holding bs end 0 rows o e stopped) ∙ ap lentAfter (sym e) ∙ stop-holds holding bs end 0 rows (subst Stopped (sym e) stopped)
+
+    go : (o : Outcome) → reading holding bs end 0 rows ≡ o → lentAfter (walk holding bs end rows .stop) ≡ holding
+    go (accepted m next) e =
+        let some = sym none ∙ ap messages (walk-step table holding bs end 0 rows ∙ ap (λ (o : Outcome). goOn o 0 rows (λ n to. walkOn table (lent (n .after)) bs end to (rowsAfter (accepted n to) rows))) e) in
+        absurd (omega arith)
+    go (idle l) e = stops (idle l) e tt
+    go (refused r missing l) e = stops (refused r missing l) e tt
 
 module _ (hb bs : List ℕ) (end : ℕ) (rows : List ℤ) where
   abbrev h : Holding
@@ -36,46 +60,43 @@ module _ (hb bs : List ℕ) (end : ℕ) (rows : List ℤ) where
   abbrev w : Walk
   w = walkAt h bs end rows
 
-  -- where a message was accepted, the bytes were a holding's
+  abbrev after : Lent
+  after = lentAfter (w .stop)
+
+  -- where a message was accepted, the bytes were a holding's, and are one's after it
   some-sound : ¬ (messages w ≡ 0) → sound h ≡ true
-  unfolding walkAt
+  unfolding walkAt lentBy
   some-sound some = go (sound h) refl
     where
       go : (b : Bool) → sound h ≡ b → b ≡ true
       go true e = refl
-      go false e = absurd (some (ap (λ (b : Bool). messages (walk b (maskOf h) bs end rows)) e ∙ walk-unsound (maskOf h) bs end rows))
+      go false e = absurd (some (rw e (walk-stray bs end rows)))
 
-  after : sound h ≡ true → holdingAfter h w ≡ pictureOf (heldAfter (w .stop))
-  unfolding holdingAfter
-  after e = rw e refl
-
-  known : ¬ (messages w ≡ 0) → (194 ≤ length hb) × (sound (holdingAfter h w) ≡ true)
+  some-good : ¬ (messages w ≡ 0) → isHolding after ≡ true
   unfolding walkAt
-  known some =
-      let fine = some-sound some in
-      (bytes-pass hb fine, rw (after fine) (sound-picture (heldAfter (w .stop)) (walk-good (sound h) (maskOf h) bs end rows (picture-sound h fine .0))))
+  some-good some = walk-good (lentBy h) bs end rows (is-holding h ∙ some-sound some)
 
-  left-so : leftBytes (messages w) (holdingAfter h w) hb ≡ walkBytes w hb
-  unfolding walkBytes leftBytes
-  left-so = go (messages w) refl
+  left-so : Bytes hb → leftBytes (messages w) (structOf h after) hb ≡ walkBytes w hb
+  unfolding leftBytes walkAt
+  left-so small = go (messages w) refl
     where
-      go : (n : ℕ) → messages w ≡ n → leftBytes n (holdingAfter h w) hb ≡ leftBytes n (pictureOf (heldAfter (w .stop))) hb
-      go zero e = refl
-      go (suc n) e = ap (λ (g : Holding). leftBytes (suc n) g hb) (after (some-sound (λ none. omega arith)))
+      go : (n : ℕ) → messages w ≡ n → leftBytes n (structOf h after) hb ≡ walkBytes w hb
+      go zero none = bytes-stay hb small ∙ ap (λ (l : Lent). bytesAfter l hb) (sym (none-kept (lentBy h) bs end rows none))
+      go (suc n) e = rw (ne-eqb (suc n) 0 (λ z. omega arith)) (after-bytes h after hb (some-good (λ none. omega arith)))
 
   -- ---- of what the walk answered
 
-  module _ (d : Code.Walked) (said : d ≡ walkedOf h w) where
-    pub leave-known : ¬ (d .messages ≡ 0) → (194 ≤ length hb) × (sound (d .holding) ≡ true)
+  module _ (d : Halt) (said : d ≡ walkedOf h w) where
+    pub leave-known : ¬ (d .tally .messages ≡ 0) → (size ≤ length hb) × (sound (d .holding) ≡ true)
     unfolding walkedOf
     leave-known some =
-        let it = known (λ none. some (ap (λ (x : Code.Walked). x .messages) said ∙ none)) in
-        (it .0, ap (λ (x : Code.Walked). sound (x .holding)) said ∙ it .1)
+        let ours : ¬ (messages w ≡ 0) = λ none. some (ap (λ (x : Halt). x .tally .messages) said ∙ none) in
+        (bytes-pass hb (some-sound ours), ap (λ (x : Halt). sound (x .holding)) said ∙ after-sound h after (some-good ours))
 
-    pub left : leftBytes (d .messages) (d .holding) hb ≡ walkBytes w hb
+    pub left : Bytes hb → leftBytes (d .tally .messages) (d .holding) hb ≡ walkBytes w hb
     unfolding walkedOf
-    left = ap (λ (x : Code.Walked). leftBytes (x .messages) (x .holding) hb) said ∙ left-so
+    left small = ap (λ (x : Halt). leftBytes (x .tally .messages) (x .holding) hb) said ∙ left-so small
 
-    pub walked-to : record { answer = answerNumber (d .stop); place = d .place; messages = d .messages; rows = d .rows } ≡ walkedTo w
+    pub walked-to : record { answer = answerNumber (d .stop); place = d .tally .place; messages = d .tally .messages; rows = d .tally .rows } ≡ walkedTo w
     unfolding walkedOf walkedTo
-    walked-to = ap (λ (x : Code.Walked). record { answer = answerNumber (x .stop); place = x .place; messages = x .messages; rows = x .rows }) said
+    walked-to = ap (λ (x : Halt). record { answer = answerNumber (x .stop); place = x .tally .place; messages = x .tally .messages; rows = x .tally .rows }) said

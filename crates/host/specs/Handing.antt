@@ -3,17 +3,16 @@ use mathlib.Core.Bool.{cond}
 use mathlib.Core.List.{List}
 use Prim.Native.Nat.{ℕ}
 use lib.Dec.{eqb, leb}
-use lib.IntN.{ℤ, pos}
+use lib.IntN.{ℤ}
 use lib.ListN.{length}
 use Rattle.bits.specs.Parts.{startOf, countOf}
 use Rattle.format.specs.declared.Answer.{Answer}
 use Rattle.format.specs.declared.Answer.the-variants as Answers
 use Rattle.format.specs.declared.Head.{Head}
 use Rattle.format.specs.Answers.{numberOf, idleNumber}
-use Rattle.format.specs.Masks.{nothing}
-use Rattle.format.specs.Reading.{Outcome, accepted, idle, refused, answerOf, heldAfter, over}
+use Rattle.format.specs.Masks.{nothing, Lent, stray, lent}
+use Rattle.format.specs.Reading.{Outcome, lentAfter, answerOf, over}
 use Rattle.format.specs.Rows.{absent}
-use Rattle.format.specs.Same.{sameℤ}
 use Rattle.format.specs.Walking.{Walk, messages, rowCount}
 use Rattle.holding.specs.declared.Holding.{Holding}
 use Rattle.holding.specs.Pictures.{pictureOf}
@@ -34,27 +33,22 @@ messageNumber = 255
 unfoldable pub stopped : ℕ → ℕ → Handed
 stopped number start = record { answer = number; place = start; rows = 0; offset = 0; count = 0; head = noHead }
 
-unfoldable pub handed : ℕ → Outcome → Handed
-handed start (accepted m next) =
-    record {
-      answer = messageNumber;
-      place = next;
-      rows = length (m .content .rows);
-      offset = startOf start next;
-      count = countOf start next;
-      head = m .content .head;
-    }
-handed start (idle held) = stopped idleNumber start
-handed start (refused r missing held) = stopped (numberOf r) start
+unfoldable pub handedBy : ℕ → Answer → Handed
+handedBy start (Answers.Message head next rows) =
+    record { answer = messageNumber; place = next; rows = rows; offset = startOf start next; count = countOf start next; head = head }
+handedBy start Answers.Idle = stopped idleNumber start
+handedBy start (Answers.Refused r missing) = stopped (numberOf r) start
 
--- the holding's bytes after a message of a sub type: a mask message's mask, else as they were
-unfoldable pub keptBytes : ℤ → Holding → List ℕ → List ℕ
-keptBytes subType after bs = cond (sameℤ subType (pos 1)) (over (bytesOf after) bs) bs
+abbrev pub handed : ℕ → Outcome → Handed
+handed start o = handedBy start (answerOf o)
 
-unfoldable pub holdingBytes : Outcome → List ℕ → List ℕ
-holdingBytes (accepted m next) bs = keptBytes (m .content .head .subtype) (pictureOf (m .after)) bs
-holdingBytes (idle held) bs = bs
-holdingBytes (refused r missing held) bs = bs
+-- the bytes that say what is lent after it; those that say no holding stay as they were
+unfoldable pub bytesAfter : Lent → List ℕ → List ℕ
+bytesAfter stray bs = bs
+bytesAfter (lent held) bs = over (bytesOf (pictureOf held)) bs
+
+abbrev pub holdingBytes : Outcome → List ℕ → List ℕ
+holdingBytes o bs = bytesAfter (lentAfter o) bs
 
 -- reading under a holding lent as bytes
 unfoldable pub hostOutcome : List ℕ → List ℕ → ℕ → ℕ → List ℤ → Outcome
@@ -66,7 +60,7 @@ hostOutcome holding bytes end start rows = outcomeAt (holdingIn holding) bytes e
 unfoldable pub answerNumber : Answer → ℕ
 answerNumber (Answers.Message h next rows) = messageNumber
 answerNumber Answers.Idle = idleNumber
-answerNumber (Answers.Refused r) = numberOf r
+answerNumber (Answers.Refused r missing) = numberOf r
 
 -- walking under a holding lent as bytes
 unfoldable pub hostWalk : List ℕ → List ℕ → ℕ → List ℤ → Walk
@@ -75,12 +69,12 @@ hostWalk holding bytes end rows = walkAt (holdingIn holding) bytes end rows
 unfoldable pub walkedTo : Walk → Walked
 walkedTo w = record { answer = answerNumber (answerOf (w .stop)); place = w .place; messages = messages w; rows = rowCount (w .handed) }
 
--- the holding's bytes after so many messages: as they were where none was accepted
+-- what is written after so many messages: nothing where none was accepted
 unfoldable pub leftBytes : ℕ → Holding → List ℕ → List ℕ
 leftBytes n after bs = cond (eqb n 0) bs (over (bytesOf after) bs)
 
-unfoldable pub walkBytes : Walk → List ℕ → List ℕ
-walkBytes w bs = leftBytes (messages w) (pictureOf (heldAfter (w .stop))) bs
+abbrev pub walkBytes : Walk → List ℕ → List ℕ
+walkBytes w bs = holdingBytes (w .stop) bs
 
 -- ---- the start
 

@@ -1,17 +1,26 @@
 // For a host written in C (docs/HOST.md, include/hundurzek.h): numbers and lent slices, and nothing of its own.
 ghost use mathlib.Core.Path.{_≡_};
 ghost use mathlib.Core.Bool.{true};
-ghost use Prim.Native.Nat.{_≤_};
+ghost use Prim.Native.Nat.{_*_, _≤_};
 ghost use lib.ListN.{length};
 ghost use Rattle.bits.specs.Parts.{startOf, countOf};
 ghost use Rattle.format.specs.Answers.{numberOf};
-ghost use Rattle.format.specs.Reading.{rowsAfter};
-ghost use Rattle.holding.specs.Pictures.{sound};
-ghost use Rattle.host.specs.Handing.{messageNumber, keptBytes, stopped, handed, holdingBytes, hostOutcome, answerNumber, hostWalk, walkedTo, leftBytes, walkBytes, emptied, emptiedNumber};
+ghost use Rattle.format.specs.Good.{isHolding};
+ghost use Rattle.format.specs.Messages.{maskMessage};
+ghost use Rattle.format.specs.Programs.{run};
+ghost use Rattle.format.specs.Reading.{bitsFrom, lentAfter, answerOf, over, rowsAfter};
+ghost use Rattle.heads.specs.Sorting.{adoptedBy};
+ghost use Rattle.holding.specs.Pictures.{maskOf, sound};
+ghost use Rattle.passing.specs.Passing.{size, bytesOf};
+ghost use Rattle.host.specs.Handing.{messageNumber, stopped, handed, handedBy, bytesAfter, holdingBytes, hostOutcome, answerNumber, hostWalk, walkedTo, leftBytes, walkBytes, emptied, emptiedNumber};
+use format::ABSENT;
 use format::Answer;
 use format::Head;
 use format::Refusal;
+use heads::OPENING;
 use holding::Holding;
+use reader::message::Found;
+use reader::message::adopted;
 
 // What a reading hands out: the answer's number, the place after the message or the start asked for, the row
 // count, where the raw part begins and how many bytes it has, the head.
@@ -33,9 +42,6 @@ pub struct Walked {
     pub messages: usize,
     pub rows: usize,
 }
-
-// What isn't there.
-const ABSENT: i32 = -32768;
 
 // The answer to a message.
 const MESSAGE: u64 = 255;
@@ -67,7 +73,7 @@ fn answer_number(answer: Answer) -> u64
     match answer {
         Answer::Message(_, _, _) => MESSAGE,
         Answer::Idle => 0,
-        Answer::Refused(r) => number(r),
+        Answer::Refused(r, _) => number(r),
     }
 }
 
@@ -125,15 +131,30 @@ fn message(head: Head, start: usize, next: usize, rows: usize) -> Handed
     }
 }
 
-// What is held after a message: only a mask message changes it.
-fn keep(holding: &mut [u8], subtype: i32, after: Holding)
-    requires { ⌜ (194 ≤ length (now holding)) × (sound after ≡ true) ⌝ }
-    ensures { λ _. ⌜ now (holding .exit) ≡ keptBytes subtype after (now (holding .entry)) ⌝ }
+// What an answer to reading at a start hands out.
+fn hand(answer: Answer, start: usize) -> Handed
+    ensures { λ r. ⌜ r ≡ handedBy start answer ⌝ }
 {
-    if subtype != 1 {
-        return;
+    match answer {
+        Answer::Idle => stop(0, start),
+        Answer::Refused(r, _) => stop(number(r), start),
+        Answer::Message(head, next, n) => message(head, start, next, n),
     }
-    passing::give::holding_over(holding, after);
+}
+
+// Adopts the mask message behind its number and sub type: where it is accepted, the holding's bytes are the mask's.
+fn adopt(holding: &mut [u8], held: Holding, bytes: &[u8], end: usize, place: usize) -> Answer
+    requires { ⌜ (end ≤ 8 * length (now bytes)) × (end ≤ 50850) × (place ≤ end) × (sound held ≡ true) × (size ≤ length (now holding)) × (over (bytesOf held) (now holding) ≡ now holding) × (isHolding (lentAfter (adoptedBy (maskOf held) place (run maskMessage (bitsFrom (now bytes) end place)))) ≡ true) ⌝ }
+    ensures { λ r. ⌜ r ≡ answerOf (adoptedBy (maskOf held) place (run maskMessage (bitsFrom (now (bytes .entry)) end place))) ⌝ }
+    ensures { λ _. ⌜ now (holding .exit) ≡ bytesAfter (lentAfter (adoptedBy (maskOf held) place (run maskMessage (bitsFrom (now (bytes .entry)) end place)))) (now (holding .entry)) ⌝ }
+{
+    let reading = adopted(held, bytes, end, place);
+    let answer = reading.answer;
+    let after = reading.holding;
+    if let Answer::Message(_, _, _) = answer {
+        passing::give::holding_over(holding, after);
+    }
+    answer
 }
 
 // Makes the empty holding.
@@ -142,7 +163,7 @@ pub extern "C" fn hundurzek_empty(holding: &mut [u8]) -> u64
     ensures { λ r. ⌜ r ≡ emptiedNumber (now (holding .entry)) ⌝ }
     ensures { λ _. ⌜ now (holding .exit) ≡ emptied (now (holding .entry)) ⌝ }
 {
-    if holding.len() < 194 {
+    if holding.len() < passing::SIZE {
         return 1;
     }
     passing::give::holding_over(holding, Holding::empty());
@@ -163,22 +184,16 @@ pub extern "C" fn hundurzek_read(
     ensures { λ _. ⌜ now (rows .exit) ≡ rowsAfter (hostOutcome (now (holding .entry)) (now (bytes .entry)) end start (now (rows .entry))) (now (rows .entry)) ⌝ }
 {
     let held = passing::take::holding_in(holding);
-    let reading = reader::read(held, bytes, end, start, rows);
-    let answer = reading.answer;
-    let after = reading.holding;
-    match answer {
-        Answer::Idle => stop(0, start),
-        Answer::Refused(r) => stop(number(r), start),
-        Answer::Message(head, next, n) => {
-            keep(holding, head.subtype, after);
-            message(head, start, next, n)
-        }
+    let found = reader::seek(held, bytes, end, start, rows);
+    match found {
+        Found::Answered(answer) => hand(answer, start),
+        Found::Mask => hand(adopt(holding, held, bytes, end, start + OPENING), start),
     }
 }
 
 // What is held after so many messages: where none was accepted it is as it was.
 fn leave(holding: &mut [u8], messages: usize, after: Holding)
-    requires { ⌜ (¬ (messages ≡ 0) → (194 ≤ length (now holding)) × (sound after ≡ true)) ⌝ }
+    requires { ⌜ (¬ (messages ≡ 0) → (size ≤ length (now holding)) × (sound after ≡ true)) ⌝ }
     ensures { λ _. ⌜ now (holding .exit) ≡ leftBytes messages after (now (holding .entry)) ⌝ }
 {
     if messages == 0 {
@@ -200,14 +215,15 @@ pub extern "C" fn hundurzek_walk(
     ensures { λ _. ⌜ now (rows .exit) ≡ hostWalk (now (holding .entry)) (now (bytes .entry)) end (now (rows .entry)) .rows ⌝ }
 {
     let held = passing::take::holding_in(holding);
-    let walked = walk::walk(held, bytes, end, rows);
-    let answer = walked.stop;
-    let after = walked.holding;
-    leave(holding, walked.messages, after);
+    let halt = walk::walk(held, bytes, end, rows);
+    let stop = halt.stop;
+    let tally = halt.tally;
+    let after = halt.holding;
+    leave(holding, tally.messages, after);
     Walked {
-        answer: answer_number(answer),
-        place: walked.place,
-        messages: walked.messages,
-        rows: walked.rows,
+        answer: answer_number(stop),
+        place: tally.place,
+        messages: tally.messages,
+        rows: tally.rows,
     }
 }

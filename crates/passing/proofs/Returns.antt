@@ -2,34 +2,29 @@
 -- Assumes nothing.
 use mathlib.Core.Path.{_≡_, refl, sym, ap, ap₂, _∙_}
 use mathlib.Core.Bool.{Bool, true, false, cond}
-use mathlib.Core.List.{List, [], _∷_, _++_, append-assoc, map, flatMap}
+use mathlib.Core.List.{List, [], _∷_, _++_, append-assoc, map}
 use Prim.Native.Nat.{ℕ, zero, suc, _+_, _-_, _*_, _/_, _%_, _^_, _≤_, _<_}
 use native.Mathlib.Nat.{add-mul-mod-self-left, mod-add-div, mod-lt, mod-eq-of-lt, mul-assoc, one-le-pow, pow-succ'}
 use native.Mathlib.Omega.{arith}
-use borrow.Author.Tests.{ltb-true, lt-ltb, le-leb, leb-true}
+use borrow.Author.Tests.{ltb-true, le-leb, leb-true}
 use lib.Dec.{leb, ltb}
 use lib.ListN.{length, getD, take, drop, length-append, length-drop, length-map, take-append-drop}
 use lib.Seq.{take-add, take-at, drop-at, drop-drop, getD-drop}
-use Rattle.bits.specs.BitLists.{digit, number}
-use Rattle.bits.proofs.BitLists.{number-lt}
+use Rattle.bits.specs.BitLists.{digit}
 use Rattle.bits.proofs.Windows.{Bytes}
-use Rattle.format.specs.Good.{goodSystem, goodSystems, good}
-use Rattle.format.specs.Masks.{System, Held, nothing, mask}
+use Rattle.format.specs.Good.{good}
 use Rattle.format.specs.Reading.{over}
 use Rattle.format.proofs.Sames.{and-true, true-and}
 use Rattle.holding.specs.declared.Holding.{Holding}
 use Rattle.holding.specs.Building.{withSystem}
-use Rattle.holding.specs.Kth.{below, narrow}
-use Rattle.holding.specs.Pictures.{filled, rowsOf, pictureOf, maskOf, sameHolding, sound}
-use Rattle.holding.proofs.HeldKths.{held-masks}
-use Rattle.holding.proofs.Kths.{narrow-filled, narrow-rows}
-use Rattle.holding.proofs.Pictured.{picture-sound}
-use Rattle.holding.proofs.PicturedRows.{sized}
+use Rattle.holding.specs.Bounds.{below}
+use Rattle.holding.specs.Pictures.{pictureOf, maskOf, sameHolding, sound}
+use Rattle.holding.proofs.Bounds.{below-wider}
+use Rattle.holding.proofs.Sounds.{Shaped, sounds}
 use Rattle.passing.specs.Bytes.{little, littles, parts, partsOf}
-use Rattle.passing.specs.Passing.{truths, truth, passes, said, stray, holdingIn, bytesOf}
+use Rattle.passing.specs.Passing.{size, truths, truth, passes, said, stray, holdingIn, bytesOf}
 use Rattle.passing.proofs.Parts.{length-parts, length-partsOf}
-use Rattle.passing.proofs.Segments.{startOf, systemsIn, rowsIn, start-length, systems-length, rows-length, three-segments}
-use Rattle.holding.proofs.Sizes.{Sizes, sound-sizes}
+use Rattle.passing.proofs.Segments.{startOf, systemsIn, stripsIn, start-length, systems-length, strips-length, three-segments}
 
 -- ---- numbers to bytes and back
 
@@ -84,58 +79,18 @@ unfolding truths
 digits-pass [] = refl
 digits-pass (f ∷ fs) = true-and (digit-truth f) (digits-pass fs)
 
--- ---- the bounds of a sound holding's numbers
-
--- what is below a bound is below a larger one
-below-wider : (a b : ℕ) → a ≤ b → (ns : List ℕ) → below a ns ≡ true → below b ns ≡ true
-unfolding below
-below-wider a b le [] e = refl
-below-wider a b le (n ∷ ns) e =
-    let fit = and-true (ltb n a) _ e in
-    let small : n < b = omega (arith, ltb-true n a (fit .0)) in
-    true-and (lt-ltb n b small) (below-wider a b le ns (fit .1))
-
--- the signal masks of good systems have 16 bits
-narrow-signals : (before ss : List System) → goodSystems before ss ≡ true → narrow 16 (map (λ s. number (s .signals)) ss) ≡ true
-unfolding goodSystems below
-narrow-signals before [] e = refl
-narrow-signals before (s ∷ ss) e =
-    let parts = and-true (goodSystem before s) _ e in
-    let small : number (s .signals) < 2 ^ 16 = rw (sized before s (parts .0) .long) at (number-lt (s .signals)) in
-    true-and (lt-ltb _ _ small) (narrow-signals (before ++ (s ∷ [])) ss (parts .1))
-
--- so have those of a good holding's picture, and its rows
-picture-narrow : (g : Held) → good g ≡ true → (narrow 16 (pictureOf g .signals) ≡ true) × (narrow 16 (pictureOf g .cells) ≡ true)
-unfolding good pictureOf filled below
-picture-narrow nothing e = (refl, refl)
-picture-narrow (mask m) e =
-    let systems = and-true (ltb (m .iod) 16) _ e .1 in
-    let signals = map (λ s. number (s .signals)) (m .systems) in
-    let rows = flatMap rowsOf (m .systems) in
-    (narrow-filled 16 signals (5 - length signals) (narrow-signals [] (m .systems) systems), narrow-filled 16 rows (64 - length rows) (narrow-rows m e))
-
--- and those of a sound holding
-sound-narrow : (h : Holding) → sound h ≡ true → (narrow 16 (h .signals) ≡ true) × (narrow 16 (h .cells) ≡ true)
-sound-narrow h e =
-    let says = picture-sound h e in
-    rw (says .1) at (picture-narrow (maskOf h) (says .0))
-
--- its satellite masks have room in eight bytes
-sound-masks : (h : Holding) → sound h ≡ true → below (256 ^ 8) (h .satellites) ≡ true
-sound-masks h e = below-wider (2 ^ 40) (256 ^ 8) (omega arith) (h .satellites) (held-masks h e .1)
-
 -- ---- from a holding to bytes and back
 
 -- what stands behind a part of some bytes
 behind : (i a : ℕ) (l x y : List ℕ) → drop i l ≡ x ++ y → length x ≡ a → drop (i + a) l ≡ y
 behind i a l x y e long = sym (drop-drop a i l) ∙ ap (drop a) e ∙ drop-at x y a long
 
--- what stands in the bytes from the rows on, from the satellite masks on, and so to the front
-abbrev fromRows : Holding → List ℕ → List ℕ
-fromRows h more = rowsIn h ++ more
+-- what stands in the bytes from the strips on, from the satellite masks on, and so to the front
+abbrev fromStrips : Holding → List ℕ → List ℕ
+fromStrips h more = stripsIn h ++ more
 
 abbrev fromSatellites : Holding → List ℕ → List ℕ
-fromSatellites h more = partsOf 8 (h .satellites) ++ fromRows h more
+fromSatellites h more = partsOf 8 (h .satellites) ++ fromStrips h more
 
 abbrev fromSignals : Holding → List ℕ → List ℕ
 fromSignals h more = partsOf 2 (h .signals) ++ fromSatellites h more
@@ -147,15 +102,15 @@ abbrev fromIds : Holding → List ℕ → List ℕ
 fromIds h more = h .ids ++ fromFlags h more
 
 -- a holding has 194 bytes
-bytes-length : (h : Holding) → Sizes h → length (bytesOf h) ≡ 194
+bytes-length : (h : Holding) → Shaped h → length (bytesOf h) ≡ size
 bytes-length h sizes =
     rw (
       ← (three-segments h),
-      length-append (startOf h) (systemsIn h ++ rowsIn h),
-      length-append (systemsIn h) (rowsIn h),
+      length-append (startOf h) (systemsIn h ++ stripsIn h),
+      length-append (systemsIn h) (stripsIn h),
       start-length h,
       systems-length h sizes,
-      rows-length h sizes,
+      strips-length h sizes,
     )
 
 -- the first four bytes: whether a mask is held, its issue, how many systems and satellites there are
@@ -174,12 +129,12 @@ at-cells : (h : Holding) (more : List ℕ) → drop 4 (bytesOf h ++ more) ≡ pa
 unfolding bytesOf
 at-cells h more = simp append-assoc
 
--- then all that stands by system, and the rows
+-- then all that stands by system, and the strips
 at-ids : (h : Holding) (more : List ℕ) → drop 6 (bytesOf h ++ more) ≡ fromIds h more
 unfolding bytesOf parts
 at-ids h more = simp append-assoc
 
-module _ (h : Holding) (sizes : Sizes h) (more : List ℕ) where
+module _ (h : Holding) (sizes : Shaped h) (more : List ℕ) where
   flag-bytes : length (map digit (h .flags)) ≡ 5
   flag-bytes = length-map (h .flags) digit ∙ sizes .flags
 
@@ -195,9 +150,9 @@ module _ (h : Holding) (sizes : Sizes h) (more : List ℕ) where
       behind 16 10 (bytesOf h ++ more) (partsOf 2 (h .signals)) (fromSatellites h more) at-signals
       (omega (arith, length-partsOf 2 (h .signals), sizes .signals))
 
-  at-rows : drop 66 (bytesOf h ++ more) ≡ fromRows h more
-  at-rows =
-      behind 26 40 (bytesOf h ++ more) (partsOf 8 (h .satellites)) (fromRows h more) at-satellites
+  at-strips : drop 66 (bytesOf h ++ more) ≡ fromStrips h more
+  at-strips =
+      behind 26 40 (bytesOf h ++ more) (partsOf 8 (h .satellites)) (fromStrips h more) at-satellites
       (omega (arith, length-partsOf 8 (h .satellites), sizes .satellites))
 
   -- the flags among the bytes
@@ -208,27 +163,28 @@ module _ (h : Holding) (sizes : Sizes h) (more : List ℕ) where
   bytes-pass : passes (bytesOf h ++ more) ≡ true
   unfolding passes
   bytes-pass =
-      let long : 194 ≤ length (bytesOf h ++ more) = simp length-append (omega (arith, bytes-length h sizes)) in
-      rw (le-leb 194 (length (bytesOf h ++ more)) long, firsts h more .held, flags-in) (true-and (digit-truth (h .held)) (digits-pass (h .flags)))
+      let long : size ≤ length (bytesOf h ++ more) = simp length-append (omega (arith, bytes-length h sizes)) in
+      rw (le-leb size (length (bytesOf h ++ more)) long, firsts h more .held, flags-in) (true-and (digit-truth (h .held)) (digits-pass (h .flags)))
 
 -- the bytes of a sound holding say it, whatever stands behind them
 bytes-say : (h : Holding) → sound h ≡ true → (more : List ℕ) → said (bytesOf h ++ more) ≡ h
 unfolding said
 bytes-say h e more =
-    let sizes = sound-sizes h e in
+    let s = sounds h e in
+    let sizes = s .shaped in
     let bs = bytesOf h ++ more in
     let first = firsts h more in
-    let narrow = sound-narrow h e in
-    let few : h .ncell < 256 ^ 2 = omega (arith, sizes .ncell) in
+    let few : h .ncell < 256 ^ 2 = omega (arith, s .few-cells) in
+    let masks = below-wider (2 ^ 40) (256 ^ 8) (omega arith) (h .satellites) (s .satellites-narrow) in
     λ i. record {
       held = (ap truth (first .held) ∙ truth-digit (h .held)) i;
       iod = first .iod i;
       count = first .count i;
       ids = (ap (take 5) (at-ids h more) ∙ take-at (h .ids) (fromFlags h more) 5 (sizes .ids)) i;
-      satellites = littles-there 8 5 (h .satellites) (fromRows h more) (drop 26 bs) (at-satellites h sizes more) (sizes .satellites) (sound-masks h e) i;
-      signals = littles-there 2 5 (h .signals) (fromSatellites h more) (drop 16 bs) (at-signals h sizes more) (sizes .signals) (narrow .0) i;
+      satellites = littles-there 8 5 (h .satellites) (fromStrips h more) (drop 26 bs) (at-satellites h sizes more) (sizes .satellites) masks i;
+      signals = littles-there 2 5 (h .signals) (fromSatellites h more) (drop 16 bs) (at-signals h sizes more) (sizes .signals) (sizes .signals-narrow) i;
       flags = (ap (map truth) (flags-in h sizes more) ∙ truths-digits (h .flags)) i;
-      cells = littles-there 2 64 (h .cells) more (drop 66 bs) (at-rows h sizes more) (sizes .cells) (narrow .1) i;
+      strips = littles-there 2 64 (h .strips) more (drop 66 bs) (at-strips h sizes more) (sizes .strips) (sizes .strips-narrow) i;
       nsat = first .nsat i;
       ncell = (ap (little 2) (at-cells h more) ∙ little-parts 2 (h .ncell) (fromIds h more) ∙ mod-eq-of-lt few) i;
     }
@@ -238,7 +194,7 @@ pub holding-returns : (h : Holding) → sound h ≡ true → (bs : List ℕ) →
 unfolding over holdingIn
 holding-returns h e bs =
     let more = drop (length (bytesOf h)) bs in
-    rw (bytes-pass h (sound-sizes h e) more) (bytes-say h e more)
+    rw (bytes-pass h (sounds h e .shaped) more) (bytes-say h e more)
 
 -- ---- from bytes to a holding and back
 
@@ -297,14 +253,14 @@ four-first (a ∷ b ∷ c ∷ d ∷ bs) room = refl
 
 -- what the test of lent bytes says of them
 record Passed (bs : List ℕ) : Type 0 where
-  long : 194 ≤ length bs
+  long : size ≤ length bs
   held : getD bs 0 0 ≤ 1
   flags : truths (take 5 (drop 11 bs)) ≡ true
 
 passed : (bs : List ℕ) → passes bs ≡ true → Passed bs
 unfolding passes
 passed bs e =
-    let long = and-true (leb 194 (length bs)) _ e in
+    let long = and-true (leb size (length bs)) _ e in
     let held = and-true (leb (getD bs 0 0) 1) _ (long .1) in
     record { long = leb-true _ _ (long .0); held = leb-true _ _ (held .0); flags = held .1 }
 
@@ -317,12 +273,12 @@ module _ (bs : List ℕ) (small : Bytes bs) (p : Passed bs) where
       rw (digit-back (getD bs 0 0) (p .held), cells) (ap (take 6) (four-first bs (omega (arith, p .long))))
 
   -- n numbers of k bytes each, as they were
-  numbers-said : (k n i : ℕ) → i + k * n ≤ 194 → partsOf k (littles k n (drop i bs)) ≡ take (k * n) (drop i bs)
+  numbers-said : (k n i : ℕ) → i + k * n ≤ size → partsOf k (littles k n (drop i bs)) ≡ take (k * n) (drop i bs)
   numbers-said k n i inside = parts-littles k n (drop i bs) (bytes-drop i bs small) (rw length-drop (omega (arith, p .long)))
 
   -- all behind the first six
   rest-said : let h = said bs in
-      h .ids ++ (map digit (h .flags) ++ (partsOf 2 (h .signals) ++ (partsOf 8 (h .satellites) ++ partsOf 2 (h .cells)))) ≡ take 188 (drop 6 bs)
+      h .ids ++ (map digit (h .flags) ++ (partsOf 2 (h .signals) ++ (partsOf 8 (h .satellites) ++ partsOf 2 (h .strips)))) ≡ take 188 (drop 6 bs)
   unfolding said
   rest-said =
       rw (
@@ -337,7 +293,7 @@ module _ (bs : List ℕ) (small : Bytes bs) (p : Passed bs) where
       )
 
   -- all 194
-  bytes-said : bytesOf (said bs) ≡ take 194 bs
+  bytes-said : bytesOf (said bs) ≡ take size bs
   unfolding bytesOf
   bytes-said = ap₂ _++_ start-said rest-said ∙ sym (take-add 6 188 bs)
 
@@ -360,5 +316,5 @@ pub bytes-return : (bs : List ℕ) → Bytes bs → sound (holdingIn bs) ≡ tru
 unfolding over holdingIn
 bytes-return bs small e =
     let passing = sound-passes bs e in
-    let sizes = bytes-length (said bs) (sound-sizes (said bs) (rw passing at e)) in
-    rw (passing, sizes, bytes-said bs small (passed bs passing)) (take-append-drop 194 bs)
+    let sizes = bytes-length (said bs) (sounds (said bs) (rw passing at e) .shaped) in
+    rw (passing, sizes, bytes-said bs small (passed bs passing)) (take-append-drop size bs)

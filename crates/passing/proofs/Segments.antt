@@ -1,4 +1,4 @@
--- The bytes of a holding in three segments: the start, what stands by system, the rows. Assumes nothing.
+-- The bytes of a holding in three segments: the start, what stands by system, the strips. Assumes nothing.
 use mathlib.Core.Path.{_≡_, refl}
 use mathlib.Core.List.{List, _∷_, _++_, map, append-assoc}
 use Prim.Native.Nat.{ℕ}
@@ -9,7 +9,7 @@ use Rattle.holding.specs.declared.Holding.{Holding}
 use Rattle.passing.specs.Bytes.{parts, partsOf}
 use Rattle.passing.specs.Passing.{bytesOf}
 use Rattle.passing.proofs.Parts.{length-partsOf}
-use Rattle.holding.proofs.Sizes.{Sizes}
+use Rattle.holding.proofs.Sounds.{Shaped}
 
 abbrev pub startOf : Holding → List ℕ
 startOf h = digit (h .held) ∷ h .iod ∷ h .count ∷ h .nsat ∷ parts 2 (h .ncell)
@@ -17,22 +17,22 @@ startOf h = digit (h .held) ∷ h .iod ∷ h .count ∷ h .nsat ∷ parts 2 (h .
 abbrev pub systemsIn : Holding → List ℕ
 systemsIn h = h .ids ++ (map digit (h .flags) ++ (partsOf 2 (h .signals) ++ partsOf 8 (h .satellites)))
 
-abbrev pub rowsIn : Holding → List ℕ
-rowsIn h = partsOf 2 (h .cells)
+abbrev pub stripsIn : Holding → List ℕ
+stripsIn h = partsOf 2 (h .strips)
 
 pub start-length : (h : Holding) → length (startOf h) ≡ 6
 unfolding parts
 start-length h = refl
 
-pub systems-length : (h : Holding) → Sizes h → length (systemsIn h) ≡ 60
+pub systems-length : (h : Holding) → Shaped h → length (systemsIn h) ≡ 60
 systems-length h sizes =
     let signals = length-partsOf 2 (h .signals) in
     let satellites = length-partsOf 8 (h .satellites) in
     simp (length-append, length-map) (omega (arith, signals, satellites, sizes .ids, sizes .flags, sizes .signals, sizes .satellites))
 
-pub rows-length : (h : Holding) → Sizes h → length (rowsIn h) ≡ 128
-rows-length h sizes = omega (arith, length-partsOf 2 (h .cells), sizes .cells)
+pub strips-length : (h : Holding) → Shaped h → length (stripsIn h) ≡ 128
+strips-length h sizes = omega (arith, length-partsOf 2 (h .strips), sizes .strips)
 
-pub three-segments : (h : Holding) → startOf h ++ (systemsIn h ++ rowsIn h) ≡ bytesOf h
+pub three-segments : (h : Holding) → startOf h ++ (systemsIn h ++ stripsIn h) ≡ bytesOf h
 unfolding bytesOf
 three-segments h = rw (append-assoc, append-assoc, append-assoc)

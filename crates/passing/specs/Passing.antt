@@ -38,7 +38,7 @@ said bs =
       satellites = littles 8 5 (drop 26 bs);
       signals = littles 2 5 (drop 16 bs);
       flags = map truth (take 5 (drop 11 bs));
-      cells = littles 2 64 (drop 66 bs);
+      strips = littles 2 64 (drop 66 bs);
       nsat = getD bs 3 0;
       ncell = little 2 (drop 4 bs);
     }
@@ -56,4 +56,4 @@ holdingIn bs = cond (passes bs) (said bs) stray
 unfoldable pub bytesOf : Holding → List ℕ
 bytesOf h =
     (digit (h .held) ∷ h .iod ∷ h .count ∷ h .nsat ∷ parts 2 (h .ncell))
-    ++ (h .ids ++ (map digit (h .flags) ++ (partsOf 2 (h .signals) ++ (partsOf 8 (h .satellites) ++ partsOf 2 (h .cells)))))
+    ++ (h .ids ++ (map digit (h .flags) ++ (partsOf 2 (h .signals) ++ (partsOf 8 (h .satellites) ++ partsOf 2 (h .strips)))))

@@ -8,7 +8,8 @@ ghost use Rattle.bits.specs.BitLists.{digit};
 ghost use Rattle.format.specs.Reading.{over};
 ghost use Rattle.holding.specs.Pictures.{sound};
 ghost use Rattle.passing.specs.Bytes.{parts, partsOf};
-ghost use Rattle.passing.specs.Passing.{bytesOf};
+ghost use Rattle.passing.specs.Passing.{size, bytesOf};
+use crate::SIZE;
 use holding::Holding;
 
 // Two bytes, and eight, the least first.
@@ -119,17 +120,17 @@ fn systems(part: &mut [u8], all: &[u8], marks: &[bool], signals: &[u16], satelli
     masks(&mut part[10..60], signals, satellites);
 }
 
-// A holding over the first 194 bytes.
+// A holding over the first bytes.
 pub fn holding_over(bytes: &mut [u8], h: Holding)
-    requires { ⌜ (194 ≤ length (now bytes)) × (sound h ≡ true) ⌝ }
+    requires { ⌜ (size ≤ length (now bytes)) × (sound h ≡ true) ⌝ }
     ensures { λ _. ⌜ now (bytes .exit) ≡ over (bytesOf h) (now (bytes .entry)) ⌝ }
 {
     let all = h.ids;
     let marks = h.flags;
     let signals = h.signals;
     let satellites = h.satellites;
-    let rows = h.cells;
+    let strips = h.strips;
     start(&mut bytes[0..6], h.held, h.iod, h.count, h.nsat, h.ncell);
     systems(&mut bytes[6..66], &all, &marks, &signals, &satellites);
-    words(&mut bytes[66..194], &rows);
+    words(&mut bytes[66..SIZE], &strips);
 }

@@ -4,7 +4,8 @@ ghost use mathlib.Core.List.{map};
 ghost use Prim.Native.Nat.{_+_, _*_, _≤_};
 ghost use lib.ListN.{length, take, drop};
 ghost use Rattle.passing.specs.Bytes.{little, littles};
-ghost use Rattle.passing.specs.Passing.{truths, truth, said, stray, holdingIn};
+ghost use Rattle.passing.specs.Passing.{size, truths, truth, said, stray, holdingIn};
+use crate::SIZE;
 use bits::window::join;
 use holding::Holding;
 
@@ -32,18 +33,18 @@ fn long(bytes: &[u8], i: usize) -> u64
     )
 }
 
-// The rows of 64 satellites from byte 66 on.
-fn rows(bytes: &[u8]) -> [u16; 64]
-    requires { ⌜ 194 ≤ length (now bytes) ⌝ }
+// The strips of 64 satellites from byte 66 on.
+fn strips(bytes: &[u8]) -> [u16; Holding::SATELLITES]
+    requires { ⌜ size ≤ length (now bytes) ⌝ }
     ensures { λ r. ⌜ r ≡ littles 2 64 (drop 66 (now (bytes .entry))) ⌝ }
 {
-    let mut cells = [0u16; 64];
+    let mut strips = [0u16; Holding::SATELLITES];
     let mut i = 0;
-    while i < 64 {
-        cells[i] = word(bytes, 66 + 2 * i);
+    while i < Holding::SATELLITES {
+        strips[i] = word(bytes, 66 + 2 * i);
         i += 1;
     }
-    cells
+    strips
 }
 
 // A value of the struct that is no holding: a system where no mask is held.
@@ -55,7 +56,7 @@ fn stray() -> Holding
 
 // Whether the bytes that stand for a truth are 0 or 1.
 fn truths(bytes: &[u8]) -> bool
-    requires { ⌜ 194 ≤ length (now bytes) ⌝ }
+    requires { ⌜ size ≤ length (now bytes) ⌝ }
     ensures { λ r. ⌜ r ≡ truths (take 5 (drop 11 (now (bytes .entry)))) ⌝ }
 {
     if bytes[11] > 1 {
@@ -74,15 +75,15 @@ fn truths(bytes: &[u8]) -> bool
 }
 
 // By system: IDs, flags, signal masks and satellite masks.
-fn ids(bytes: &[u8]) -> [u8; 5]
-    requires { ⌜ 194 ≤ length (now bytes) ⌝ }
+fn ids(bytes: &[u8]) -> [u8; Holding::SYSTEMS]
+    requires { ⌜ size ≤ length (now bytes) ⌝ }
     ensures { λ r. ⌜ r ≡ take 5 (drop 6 (now (bytes .entry))) ⌝ }
 {
     [bytes[6], bytes[7], bytes[8], bytes[9], bytes[10]]
 }
 
-fn flags(bytes: &[u8]) -> [bool; 5]
-    requires { ⌜ 194 ≤ length (now bytes) ⌝ }
+fn flags(bytes: &[u8]) -> [bool; Holding::SYSTEMS]
+    requires { ⌜ size ≤ length (now bytes) ⌝ }
     ensures { λ r. ⌜ r ≡ map truth (take 5 (drop 11 (now (bytes .entry)))) ⌝ }
 {
     [
@@ -94,8 +95,8 @@ fn flags(bytes: &[u8]) -> [bool; 5]
     ]
 }
 
-fn signals(bytes: &[u8]) -> [u16; 5]
-    requires { ⌜ 194 ≤ length (now bytes) ⌝ }
+fn signals(bytes: &[u8]) -> [u16; Holding::SYSTEMS]
+    requires { ⌜ size ≤ length (now bytes) ⌝ }
     ensures { λ r. ⌜ r ≡ littles 2 5 (drop 16 (now (bytes .entry))) ⌝ }
 {
     [
@@ -107,8 +108,8 @@ fn signals(bytes: &[u8]) -> [u16; 5]
     ]
 }
 
-fn satellites(bytes: &[u8]) -> [u64; 5]
-    requires { ⌜ 194 ≤ length (now bytes) ⌝ }
+fn satellites(bytes: &[u8]) -> [u64; Holding::SYSTEMS]
+    requires { ⌜ size ≤ length (now bytes) ⌝ }
     ensures { λ r. ⌜ r ≡ littles 8 5 (drop 26 (now (bytes .entry))) ⌝ }
 {
     [
@@ -120,9 +121,9 @@ fn satellites(bytes: &[u8]) -> [u64; 5]
     ]
 }
 
-// What 194 bytes say.
+// What so many bytes say.
 fn said(bytes: &[u8]) -> Holding
-    requires { ⌜ 194 ≤ length (now bytes) ⌝ }
+    requires { ⌜ size ≤ length (now bytes) ⌝ }
     ensures { λ r. ⌜ r ≡ said (now (bytes .entry)) ⌝ }
 {
     Holding {
@@ -133,7 +134,7 @@ fn said(bytes: &[u8]) -> Holding
         satellites: satellites(bytes),
         signals: signals(bytes),
         flags: flags(bytes),
-        cells: rows(bytes),
+        strips: strips(bytes),
         nsat: bytes[3] as usize,
         ncell: word(bytes, 4) as usize,
     }
@@ -143,7 +144,7 @@ fn said(bytes: &[u8]) -> Holding
 pub fn holding_in(bytes: &[u8]) -> Holding
     ensures { λ r. ⌜ r ≡ holdingIn (now (bytes .entry)) ⌝ }
 {
-    if bytes.len() < 194 {
+    if bytes.len() < SIZE {
         return stray();
     }
     if bytes[0] > 1 {

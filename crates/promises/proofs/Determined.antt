@@ -37,6 +37,11 @@ pub read-determined : Determined reader.read.Kinds.ps reader.read.Kinds.r reader
 unfolding Determined DeterminedBy
 read-determined κs args x y v w p q = (alike (p .0) (q .0), λ i. (tt, (tt, (tt, (tt, (alike (p .1) (q .1) i, tt))))))
 
+-- the same where a mask is left to be adopted: what is found, and the row buffer
+pub seek-determined : Determined reader.seek.Kinds.ps reader.seek.Kinds.r reader.seek.Reads.Learnt
+unfolding Determined DeterminedBy
+seek-determined κs args x y v w p q = (alike (p .0) (q .0), λ i. (tt, (tt, (tt, (tt, (alike (p .1) (q .1) i, tt))))))
+
 -- "the message's raw bytes as a part of the caller's own stretch"
 pub raw-determined : DeterminedBy reader.raw.raw.Kinds.ps reader.raw.raw.Kinds.r (λ κs x y. SamePart x y) reader.raw.raw.Reads.Learnt
 unfolding DeterminedBy SamePart

@@ -2,7 +2,7 @@
 -- Assumes nothing.
 use mathlib.Core.Path.{_≡_, refl, ap}
 use mathlib.Core.Bool.{Bool, true, false, cond}
-use mathlib.Core.List.{List, [], _∷_, _++_, map, flatMap, flatten}
+use mathlib.Core.List.{List, [], _∷_, _++_, flatMap, flatten}
 use Prim.Native.Nat.{ℕ, _+_, _/_}
 use native.Mathlib.Nat.{le-refl}
 use native.Mathlib.Omega.{arith}
@@ -14,7 +14,7 @@ use Rattle.format.specs.Answers.{Said, stop, saidAt, numberOf}
 use Rattle.format.specs.Assigned as Assigned
 use Rattle.format.specs.Good as Good
 use Rattle.format.specs.Masks as Masks
-use Rattle.format.specs.Masks.{Mask, Held, nothing, mask}
+use Rattle.format.specs.Masks.{Held, nothing}
 use Rattle.format.specs.Messages as Messages
 use Rattle.format.specs.Messages.{Content}
 use Rattle.format.specs.Programs as Programs
@@ -24,11 +24,13 @@ use Rattle.format.specs.Rows as Rows
 use Rattle.format.specs.Rows.{absent}
 use Rattle.format.specs.Table as Table
 use Rattle.format.specs.Table.{table}
+use Rattle.format.specs.Tests as Tests
 use Rattle.format.specs.Walking as Walking
 use Rattle.format.specs.Walking.{Walk}
 use Rattle.promises.specs.LateJoiners as Late
 use Rattle.promises.specs.LateJoiners.{Turn, first, second, firstAfter, secondAfter, Throughout, Unrefused, RoomEnough, SameIssueSameMask, ShowsTheTruth}
 use Rattle.promises.proofs.LateJoiners.{late-joiners}
+use Rattle.promises.proofs.TwoTables.{level}
 
 -- ---- stretches, field by field
 
@@ -56,24 +58,15 @@ one-and-two = 0xC000000000
 unfoldable pub bytesOf : List Bool → List ℕ
 bytesOf l = bytes ((length l + 7) / 8) (l ++ replicate 7 true)
 
--- a stretch that the second gets, or misses
-record Sent : Type 0 where
-  gets : Bool
-  over : List Bool
+-- a stretch that the second gets, or misses, with room enough for both
+turn : Bool → List Bool → Turn
+turn gets l =
+    let room : List ℤ = replicate rowRoom (pos 0) in
+    record { bytes = bytesOf l; end = length l; rows = room; gets = gets; others = room }
 
-turn : Sent → Turn
-turn x =
-    let l : List Bool = x .over in
-    record {
-      bytes = bytesOf l;
-      end = length l;
-      rows = replicate rowRoom (pos 0);
-      gets = x .gets;
-      others = replicate rowRoom (pos 0);
-    }
-
-turns : List Sent → List Turn
-turns xs = map turn xs
+enough : (gets : Bool) (l : List Bool) (f s : Held) → RoomEnough f s (turn gets l)
+unfolding RoomEnough turn
+enough gets l f s _ = rw length-replicate (le-refl rowRoom)
 
 -- ---- what a walk says: how it stops, then each message's sub type and issue, and its rows
 
@@ -106,30 +99,23 @@ saidMask issue = pos 1 ∷ pos issue ∷ []
 saidClocks : ℕ → ℕ → List (List ℤ)
 saidClocks issue satellite = (pos 3 ∷ pos issue ∷ []) ∷ row 1 (pos 5) ∷ row satellite (negℤ (pos 16384)) ∷ []
 
--- every stretch is lent room enough
-room-enough : (xs : List Sent) (f s : Held) → Throughout table table RoomEnough f s (turns xs)
-unfolding Throughout RoomEnough turns turn
-room-enough [] f s = tt
-room-enough (x ∷ xs) f s = ((λ _. rw length-replicate (le-refl rowRoom)), room-enough xs _ _)
+-- the k-th number of the rows that are handed out
+unfoldable pub numberAt : ℕ → List Content → ℤ
+numberAt k cs = getD (flatten (flatMap (λ c. c .rows) cs)) k absent
 
 -- what the runs compute with
 unfoldable pub computing : Unit {0}
-unfolding opening maskOf clocks one-and-three one-and-two bytesOf turn turns said report reports _at_says_ row saidMask saidClocks spell bits bytes number signed flatMap flatten saidAt numberOf answerOf Late.received Late.first Late.second Late.firstAfter Late.secondAfter Late.Throughout Late.IsIdle Late.Unrefused Late.SameIssueSameMask Late.ShowsTheTruth Late.OpeningPart Walking.walkBy Walking.walkFrom Walking.goOn Walking.hand Reading.readingBy Reading.placed Reading.readFrom Reading.bitsFrom Reading.endedAt Reading.rowsAfter Reading.over Reading.heldAfter Programs.run Programs._>>=_ Programs._>>_ Programs.later Programs.unlessShort Programs.numbered Programs.taking Programs.require Table.messageBy Table.table Table.kinds Table.alone Table.byKind Table.gate Table.clockLines Messages.common Messages.headOf Messages.rowsAlone Messages.body Messages.satelliteLines Messages.clockShape Messages.maskMessage Messages.systems Messages.system Messages.named Assigned.known Assigned.blank Assigned.assigned Assigned.satellitePlaces Assigned.signalPlaces Masks.placesFrom Masks.satellitesOf Masks.pairsOf Masks.cellsOf Masks.satellites Masks.cells Rows.widthOf Rows.valueOf Rows.shapeWidth Rows.valuesOf Rows.bodyWidth Rows.rowsOf Good.good Good.goodSystems Good.goodSystem
+unfolding opening maskOf clocks one-and-three one-and-two bytesOf turn said report reports _at_says_ row saidMask saidClocks numberAt spell bits bytes number signed flatMap flatten saidAt numberOf answerOf Late.received Late.first Late.second Late.firstAfter Late.secondAfter Late.Throughout Late.IsIdle Late.Unrefused Late.SameIssueSameMask Late.ShowsTheTruth Late.OpeningPart Walking.walkOn Walking.walkFrom Walking.goOn Walking.hand Reading.readingBy Reading.placed Reading.readFrom Reading.bitsFrom Reading.endedAt Reading.rowsAfter Reading.over Reading.lentAfter Reading.lentTests Tests.verdict Masks.heldIn Masks.skyOf Good.isHolding Late.heldAfter Programs.run Programs._>>=_ Programs._>>_ Programs.later Programs.unlessShort Programs.numbered Programs.taking Programs.require Table.messageBy Table.table Table.kinds Table.alone Table.byKind Table.gate Table.underMask Table.keeping Table.opening Messages.bodied Messages.overSatellites Messages.common Messages.headOf Messages.rowsAlone Messages.body Messages.satelliteLines Messages.clockShape Messages.maskMessage Messages.systems Messages.system Messages.systemId Messages.systemMasks Messages.systemWith Messages.systemCells Messages.named Assigned.known Assigned.blank Assigned.assigned Assigned.satellitePlaces Assigned.signalPlaces Masks.placesFrom Masks.satellitesOf Masks.pairsOf Masks.cellsOf Masks.satellites Masks.cells Rows.widthOf Rows.valueOf Rows.shapeWidth Rows.valuesOf Rows.bodyWidth Rows.rowsOf Good.good Good.goodSystems Good.goodSystem
 computing = tt
 
 -- ---- a late joiner: it misses the mask, refuses the clocks under it by name, and shows all from the next mask on
 
-joins : List Sent
-joins =
-    record { gets = false; over = maskOf 3 one-and-three ++ clocks 3 }
-    ∷ record { gets = true; over = clocks 3 }
-    ∷ record { gets = true; over = maskOf 4 one-and-two ++ clocks 4 }
-    ∷ record { gets = true; over = clocks 4 }
-    ∷ []
+joins : List Turn
+joins = turn false (maskOf 3 one-and-three ++ clocks 3) ∷ turn true (clocks 3) ∷ turn true (maskOf 4 one-and-two ++ clocks 4) ∷ turn true (clocks 4) ∷ []
 
 -- what both hand out in each stretch, and how each stops
 joins-report :
-    reports nothing nothing (turns joins)
+    reports nothing nothing joins
     ≡ ((0 at 177 says (saidMask 3 ∷ saidClocks 3 3)) ∷ [])
     ∷ ((0 at 67 says saidClocks 3 3) ∷ (6 at 0 says []) ∷ [])
     ∷ ((0 at 177 says (saidMask 4 ∷ saidClocks 4 2)) ∷ (0 at 177 says (saidMask 4 ∷ saidClocks 4 2)) ∷ [])
@@ -139,40 +125,28 @@ unfolding computing joins
 joins-report = refl
 
 -- none refused
-joins-unrefused : Throughout table table (Unrefused table) nothing nothing (turns joins)
+joins-unrefused : Throughout table table (Unrefused table) nothing nothing joins
 unfolding computing joins
 joins-unrefused = (tt, (tt, (tt, (tt, tt))))
 
--- one holding is of one mask
-one-mask : (held : Held) (m n : Mask) → held ≡ mask m → held ≡ mask n → m ≡ n
-one-mask held m n first second = cc
-
--- and none is of nothing
-no-mask-held : (m n : Mask) → nothing ≡ mask n → m ≡ n
-no-mask-held m n e = absurd (let z : _≡_ {A = ℕ} 0 1 = cc in omega arith)
-
 -- masks of one issue are equal: the second holds none before it reads the one that both then hold
-joins-equal : Throughout table table SameIssueSameMask nothing nothing (turns joins)
+joins-equal : Throughout table table SameIssueSameMask nothing nothing joins
 unfolding computing joins
-joins-equal =
-    ((λ _ m n _ e _. no-mask-held m n e), ((λ _ m n _ e _. no-mask-held m n e), ((λ _ m n _ e _. no-mask-held m n e), ((λ _ m n e g _. one-mask _ m n e g), tt))))
+joins-equal = ((λ _ m n _ e _. cc), ((λ _ m n _ e _. cc), ((λ _ m n _ e _. cc), ((λ _. level _ .equal), tt))))
 
 -- so the demand speaks of this run
-joins-truth : Throughout table table (ShowsTheTruth table) nothing nothing (turns joins)
-joins-truth = late-joiners (turns joins) joins-unrefused (room-enough joins nothing nothing) joins-equal
+joins-truth : Throughout table table (ShowsTheTruth table) nothing nothing joins
+unfolding Throughout joins
+joins-truth = late-joiners joins joins-unrefused (enough _ _ _ _, (enough _ _ _ _, (enough _ _ _ _, (enough _ _ _ _, tt)))) joins-equal
 
 -- ---- two masks of one issue: the second misses the later one, and shows a neighbour's clock
 
-clashes : List Sent
-clashes =
-    record { gets = true; over = maskOf 3 one-and-three }
-    ∷ record { gets = false; over = maskOf 3 one-and-two }
-    ∷ record { gets = true; over = clocks 3 }
-    ∷ []
+clashes : List Turn
+clashes = turn true (maskOf 3 one-and-three) ∷ turn false (maskOf 3 one-and-two) ∷ turn true (clocks 3) ∷ []
 
 -- both read the last stretch to its end, to different satellites
 clashes-report :
-    reports nothing nothing (turns clashes)
+    reports nothing nothing clashes
     ≡ ((0 at 110 says (saidMask 3 ∷ [])) ∷ (0 at 110 says (saidMask 3 ∷ [])) ∷ [])
     ∷ ((0 at 110 says (saidMask 3 ∷ [])) ∷ [])
     ∷ ((0 at 67 says saidClocks 3 2) ∷ (0 at 67 says saidClocks 3 3) ∷ [])
@@ -181,24 +155,19 @@ unfolding computing clashes
 clashes-report = refl
 
 -- none refused
-clashes-unrefused : Throughout table table (Unrefused table) nothing nothing (turns clashes)
+clashes-unrefused : Throughout table table (Unrefused table) nothing nothing clashes
 unfolding computing clashes
 clashes-unrefused = (tt, (tt, (tt, tt)))
 
--- the satellite of the first message's second row
-secondSatellite : List Content → ℤ
-secondSatellite [] = absent
-secondSatellite (c ∷ cs) = getD (flatten (c .rows)) 9 absent
-
--- a neighbour is another satellite
-two-not-three : pos 2 ≡ pos 3 → ⊥
-two-not-three e = let z : _≡_ {A = ℕ} 2 3 = cc in omega arith
-
 -- what it hands out is no opening part of the first receiver's messages
-clashes-untrue : Throughout table table (ShowsTheTruth table) nothing nothing (turns clashes) → ⊥
-unfolding computing clashes secondSatellite
-clashes-untrue truth = two-not-three (ap secondSatellite (truth .1 .1 .0 refl .opening .1))
+clashes-untrue : Throughout table table (ShowsTheTruth table) nothing nothing clashes → ⊥
+unfolding computing clashes
+clashes-untrue truth =
+    let other : pos 2 ≡ pos 3 = ap (numberAt 9) (truth .1 .1 .0 refl .opening .1) in
+    let z : _≡_ {A = ℕ} 2 3 = cc in
+    omega arith
 
 -- so it is supposed that masks of one issue are equal, and of this run it is not so
-clashes-unequal : Throughout table table SameIssueSameMask nothing nothing (turns clashes) → ⊥
-clashes-unequal equal = clashes-untrue (late-joiners (turns clashes) clashes-unrefused (room-enough clashes nothing nothing) equal)
+clashes-unequal : Throughout table table SameIssueSameMask nothing nothing clashes → ⊥
+unfolding Throughout clashes
+clashes-unequal equal = clashes-untrue (late-joiners clashes clashes-unrefused (enough _ _ _ _, (enough _ _ _ _, (enough _ _ _ _, tt))) equal)

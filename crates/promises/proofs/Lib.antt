@@ -1,6 +1,6 @@
+pub mod Follows
 pub mod TwoTables
 pub mod TwoReadings
-pub mod Behind
 pub mod TwoWalks
 pub mod LateJoiners
 pub mod LateRuns

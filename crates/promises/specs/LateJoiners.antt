@@ -9,12 +9,11 @@ use lib.IntN.{ℤ}
 use lib.ListN.{length}
 use Rattle.format.specs.declared.Refusal.{Refusal}
 use Rattle.format.specs.declared.Refusal.the-variants.{NoMask, OtherIssue}
-use Rattle.format.specs.Good.{good}
-use Rattle.format.specs.Masks.{Mask, Held, mask}
+use Rattle.format.specs.Masks.{Mask, Held, mask, Lent, lent, heldIn}
 use Rattle.format.specs.Messages.{Content}
-use Rattle.format.specs.Reading.{rowRoom, Outcome, accepted, idle, refused, bitsFrom, subTypeIn, heldAfter}
+use Rattle.format.specs.Reading.{rowRoom, Outcome, accepted, idle, refused, bitsFrom, subTypeIn, lentAfter}
 use Rattle.format.specs.Table.{Kind}
-use Rattle.format.specs.Walking.{Walk, walkBy}
+use Rattle.format.specs.Walking.{Walk, walkOn}
 
 -- "One receiver starts without a mask and reads a run of stretches. A second starts the same way and gets some of those stretches, whole and in order":
 -- a stretch of the run, the row buffer that the first lends for it, whether the second gets it, and the row buffer that the second then lends
@@ -27,13 +26,17 @@ pub record Turn : Type 0 where
 
 -- what a receiver makes of a stretch is the walk under what it holds
 unfoldable pub received : (ℕ → Kind) → Held → List ℕ → ℕ → List ℤ → Walk
-received t held bytes end rows = walkBy t (good held) held bytes end rows
+received t held bytes end rows = walkOn t (lent held) bytes end 0 rows
 
 unfoldable pub first : (ℕ → Kind) → Held → Turn → Walk
 first t held x = received t held (x .bytes) (x .end) (x .rows)
 
 unfoldable pub second : (ℕ → Kind) → Held → Turn → Walk
 second t held x = received t held (x .bytes) (x .end) (x .others)
+
+-- what is held after a stop
+unfoldable pub heldAfter : Outcome → Held
+heldAfter o = heldIn (lentAfter o)
 
 -- what they hold after a turn: a stretch that the second doesn't get leaves it as it was
 unfoldable pub firstAfter : (ℕ → Kind) → Held → Turn → Held
@@ -51,8 +54,8 @@ Throughout t u P f s (x ∷ xs) = P f s x × Throughout t u P (firstAfter t f x)
 
 unfoldable pub IsIdle : Outcome → Type 0
 IsIdle (accepted m next) = ⊥
-IsIdle (idle held) = Unit {0}
-IsIdle (refused r missing held) = ⊥
+IsIdle (idle holding) = Unit {0}
+IsIdle (refused r missing holding) = ⊥
 
 -- "none refused": the first reads every stretch to its end
 unfoldable pub Unrefused : (ℕ → Kind) → Held → Held → Turn → Type 0
@@ -78,7 +81,7 @@ AtTheEnd a b = IsIdle (b .stop) × (b .place ≡ a .place)
 
 -- "or with": a refusal of some
 unfoldable pub StoppedWith : (Refusal → Type 0) → Outcome → Type 0
-StoppedWith Named o = (r : Refusal) × (missing : ℕ) × (held : Held) × (o ≡ refused r missing held) × Named r
+StoppedWith Named o = (r : Refusal) × (missing : ℕ) × (holding : Lent) × (o ≡ refused r missing holding) × Named r
 
 -- "no mask" or "other issue"
 pub data OfTheMask : Refusal → Type 0 where
@@ -100,11 +103,11 @@ pub record Truth (f s : Held) (x : Turn) (a b : Walk) : Type 0 where
 unfoldable pub ShowsTheTruth : (ℕ → Kind) → Held → Held → Turn → Type 0
 ShowsTheTruth t f s x = x .gets ≡ true → Truth f s x (first t f x) (second t s x)
 
--- The same where the second's table refuses more than the first's: it may stop with that, too.
-pub record TruthBut (More : Refusal → Type 0) (f s : Held) (x : Turn) (a b : Walk) : Type 0 where
+-- The same where the second's table refuses more than the first's: it may stop with that, too. Where it is sure to hand out all of them is left open.
+pub record TruthBut (More : Refusal → Type 0) (sure : Type 0) (a b : Walk) : Type 0 where
   pub opening : OpeningPart (b .handed) (a .handed)
   pub stopping : AtTheEnd a b ⊎ (StoppedWith OfTheMask (b .stop) ⊎ StoppedWith More (b .stop))
-  pub all : OpensWithMask x ⊎ (f ≡ s) → (b .handed ≡ a .handed) ⊎ StoppedWith More (b .stop)
+  pub all : sure → (b .handed ≡ a .handed) ⊎ StoppedWith More (b .stop)
 
 unfoldable pub ShowsTheTruthBut : (Refusal → Type 0) → (ℕ → Kind) → (ℕ → Kind) → Held → Held → Turn → Type 0
-ShowsTheTruthBut More t u f s x = x .gets ≡ true → TruthBut More f s x (first t f x) (second u s x)
+ShowsTheTruthBut More t u f s x = x .gets ≡ true → TruthBut More (OpensWithMask x ⊎ (f ≡ s)) (first t f x) (second u s x)

@@ -8,45 +8,42 @@ use lib.ListN.{length}
 use Rattle.format.specs.declared.Answer.the-variants as Answers
 use Rattle.format.specs.declared.Head.{Head}
 use Rattle.format.specs.declared.Refusal.the-variants.{Short}
-use Rattle.format.specs.Masks.{Held}
-use Rattle.format.specs.Reading.{accepted, refused, answerOf}
+use Rattle.format.specs.Masks.{Held, lent}
+use Rattle.format.specs.Programs.{Ended, well, badly}
+use Rattle.format.specs.Reading.{Outcome, accepted, refused, answerOf}
 use Rattle.format.specs.Rows.{Line, shapeWidth, bodyWidth}
 use Rattle.format.specs.Table.{Message}
-use Rattle.heads.specs.declared.heading.Heading.the-variants.{Rows}
-use Rattle.heads.specs.declared.lines.Lines.{Lines}
-use Rattle.heads.specs.Headings.{bodied, headedBy}
-use Rattle.heads.specs.Lines.{linesOf}
+use Rattle.heads.specs.Sorting.{bodiedBy, headedAt}
 use Rattle.rows.specs.At.{rowsAt}
 use Rattle.rows.proofs.RowsAt.{rows-at}
 
 -- a row for each line
-count-at : (lines : List Line) (bs : List ℕ) (at : ℕ) → length (rowsAt lines bs at) ≡ length lines
+pub count-at : (lines : List Line) (bs : List ℕ) (at : ℕ) → length (rowsAt lines bs at) ≡ length lines
 unfolding rowsAt
 count-at [] bs at = refl
 count-at (n ∷ ns) bs at = ap suc (count-at ns bs (at + shapeWidth (n .shape)))
 
 -- the message that it makes
-abbrev pub bodyOf : Held → List ℕ → Head → Lines → ℕ → Message
-bodyOf held bs head lines at = record { content = record { head = head; rows = rowsAt (linesOf held lines) bs at }; after = held }
+abbrev pub bodyOf : Held → List ℕ → Head → List Line → ℕ → Message
+bodyOf held bs head ls at = record { content = record { head = head; rows = rowsAt ls bs at }; after = held }
 
-module _ (held : Held) (bs : List ℕ) (end : ℕ) (head : Head) (lines : Lines) (at : ℕ) where
-  abbrev ls : List Line
-  ls = linesOf held lines
+module _ (held : Held) (bs : List ℕ) (end : ℕ) (head : Head) (ls : List Line) (at : ℕ) where
+  abbrev headed : Outcome
+  headed = headedAt held bs end (well (record { head = head; lines = ls }) at)
 
-  pub headed-there : at + bodyWidth ls ≤ end → end ≤ 8 * length bs
-      → headedBy held bs end (Rows head lines at) ≡ accepted (bodyOf held bs head lines at) (at + bodyWidth ls)
-  unfolding headedBy bodied
+  pub headed-there : at + bodyWidth ls ≤ end → end ≤ 8 * length bs → headed ≡ accepted (bodyOf held bs head ls at) (at + bodyWidth ls)
+  unfolding headedAt bodiedBy
   headed-there room inside =
       let none : bodyWidth ls - (end - at) ≡ 0 = omega arith in
       rw (none, rows-at ls bs end at room inside)
 
   -- its answer, of its extent in bits and rows
-  pub body-said : (bits rows : ℕ) → bits ≡ bodyWidth ls → rows ≡ length ls → Answers.Message head (at + bits) rows ≡ answerOf (accepted (bodyOf held bs head lines at) (at + bodyWidth ls))
+  pub body-said : (bits rows : ℕ) → bits ≡ bodyWidth ls → rows ≡ length ls → Answers.Message head (at + bits) rows ≡ answerOf (accepted (bodyOf held bs head ls at) (at + bodyWidth ls))
   unfolding answerOf
-  body-said bits rows e f = rw (e, f, count-at ls bs at) refl
+  body-said bits rows e f = rw (e, f, count-at ls bs at)
 
-  pub headed-short : end - at < bodyWidth ls → headedBy held bs end (Rows head lines at) ≡ refused Short (bodyWidth ls - (end - at)) held
-  unfolding headedBy bodied
+  pub headed-short : end - at < bodyWidth ls → headed ≡ refused Short (bodyWidth ls - (end - at)) (lent held)
+  unfolding headedAt bodiedBy
   headed-short over =
       let some : 0 < bodyWidth ls - (end - at) = omega arith in
       rw (← (suc-pred-eq-of-pos some))

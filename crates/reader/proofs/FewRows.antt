@@ -1,85 +1,158 @@
 -- A message has at most 256 rows. Assumes nothing.
-use mathlib.Core.Path.{_≡_, refl, subst}
+use mathlib.Core.Path.{_≡_, refl, sym, ap, _∙_, subst}
 use mathlib.Core.Bool.{Bool, true, false, cond}
-use mathlib.Core.List.{List}
-use Prim.Native.Nat.{ℕ, zero, suc, _+_, _*_, _≤_}
+use mathlib.Core.List.{List, [], _∷_, _++_}
+use mathlib.Core.Logic.{_⊎_, inl, inr}
+use Prim.Native.Nat.{ℕ, zero, suc, _+_, _-_, _*_, _^_, _≤_, _<_}
 use native.Mathlib.Omega.{arith}
 use lib.Dec.{eqb}
-use lib.ListN.{length}
-use Rattle.body.proofs.Held.{says}
-use Rattle.body.proofs.HeldLines.{few-lines}
-use Rattle.format.specs.Masks.{Held}
-use Rattle.format.specs.Messages.{Adopted}
-use Rattle.format.specs.Programs.{Ended, well, badly}
-use Rattle.format.specs.Reading.{Outcome, accepted, idle, refused}
-use Rattle.format.specs.Table.{Message}
+use Rattle.bits.specs.Places as Places
+use lib.ListN.{length, length-map}
+use Rattle.format.specs.Masks.{Held, Sky, Satellite, pick, lent}
+use Rattle.format.specs.Messages as Messages
+use Rattle.format.specs.Messages.{Heading, Common, common, Selected, selection, satelliteLines, cellLines, packetLines, packet, overSatellites, overCells, rowsAlone, flagged}
+use Rattle.format.specs.Programs.{Program, done, refuse, _>>=_, _>>_, require, Ended, well, badly, later, run, field}
+use Rattle.format.specs.Reading.{Outcome, accepted, idle, refused, bitsFrom}
+use Rattle.format.specs.Table.{Message, opening}
 use Rattle.format.proofs.Bodies.{rows-count}
-use Rattle.format.proofs.Stops.{Stopped}
-use Rattle.heads.specs.declared.heading.Heading.{Heading}
-use Rattle.heads.specs.declared.heading.Heading.the-variants.{Rows, Refused}
-use Rattle.heads.specs.declared.Opening.{Opening}
-use Rattle.heads.specs.declared.Opening.the-variants.{SubType}
-use Rattle.heads.specs.declared.Opening.the-variants as Openings
-use Rattle.heads.specs.Headings.{isMasked, bodied, headedBy, Begins}
-use Rattle.heads.specs.Openings.{openingAt}
-use Rattle.heads.specs.Sorting.{adoptedBy, sortedAt}
-use Rattle.heads.proofs.Begun.{packet-begins, masked-begins}
-use Rattle.heads.proofs.Sorted.{sub-type-told}
+use Rattle.format.proofs.Steps.{Gives, gives-done, gives-refuse, gives-require, gives-taking, gives-numbered, gives-bind, gives-itself}
+use Rattle.heads.specs.declared.heading.Seen.{Seen}
+use Rattle.heads.proofs.Opened.{read-unopened}
+use Rattle.heads.specs.Headings.{gateBy, gatedBy, underBy}
+use Rattle.heads.specs.Sorting.{OfTable, headingFor, underWith, bodiedBy, headedAt, adoptedBy}
 use Rattle.holding.specs.declared.Holding.{Holding}
-use Rattle.holding.specs.Kth.{satellitesHeld, cellsHeld}
+use Rattle.holding.specs.Held.{skyIn, viewOf, satellitesHeld, cellsHeld}
 use Rattle.holding.specs.Pictures.{maskOf, sound}
+use Rattle.holding.proofs.Sounds.{sounds, few-held}
 use Rattle.reader.specs.Readings.{readAt}
-use Rattle.reader.proofs.Findings.{read-opened, read-unopened}
+use Rattle.reader.proofs.Findings.{sky-seen, sorted-headed, sorted-adopted, read-sorted, read-stopped}
+use Rattle.table.specs.declared.Kind.{Kind}
+use Rattle.table.specs.declared.Kind.the-variants as Kinds
+use Rattle.table.specs.declared.Layout.{Layout}
+use Rattle.rows.specs.Table.{shapeAt}
+use Rattle.table.specs.Kinds.{kindFor, overBy, programBy}
+use Rattle.table.specs.Shapes.{shapesFrom}
 
--- of a reading that made a message
-abbrev Few : Outcome → Type 0
-Few (accepted m next) = length (m .content .rows) ≤ 256
-Few (idle held) = Unit {0}
-Few (refused r missing held) = Unit {0}
+-- ---- lines
 
-few-cond : (test : Bool) (x y : Outcome) → Few x → Few y → Few (cond test x y)
-few-cond true x y fx fy = fx
-few-cond false x y fx fy = fy
+pick-few : {A : Type 0} (bits : List Bool) (xs : List A) → length (pick bits xs) ≤ length xs
+unfolding pick
+pick-few [] xs = omega arith
+pick-few (b ∷ bs) [] = omega arith
+pick-few (true ∷ bs) (x ∷ xs) = omega (arith, pick-few bs xs)
+pick-few (false ∷ bs) (x ∷ xs) = omega (arith, pick-few bs xs)
 
-few-bodied : (held : Held) (m : Message) (next missing : ℕ) → length (m .content .rows) ≤ 256 → Few (bodied held m next missing)
-unfolding bodied
+packet-few : (k n : ℕ) → length (packetLines k n) ≡ n
+unfolding packetLines
+packet-few k zero = refl
+packet-few k (suc n) = ap suc (packet-few (suc k) n)
+
+-- ---- what is said before the body
+
+abbrev Few : Program Heading → Type 0
+Few p = Gives p (λ d _. length (d .lines) ≤ 256)
+
+packet-says : Few packet
+unfolding packet
+packet-says =
+    gives-numbered _ _ λ indicator _.
+    gives-numbered _ _ λ counter _.
+    gives-numbered _ _ λ size small.
+    gives-done (omega (arith, packet-few 1 (suc size)))
+
+module _ (sky : Sky) (sats : length (sky .satellites) ≤ 64) (cells : length (sky .cells) ≤ 256) where
+  over-few : (l : Layout) → length (overBy l sky) ≤ 256
+  unfolding overBy overSatellites overCells satelliteLines cellLines
+  over-few l = go (l .cells)
+    where
+      go : (b : Bool) → length (cond b (overCells (shapeAt (l .shape))) (overSatellites (shapeAt (l .shape))) sky) ≤ 256
+      go true = rw length-map (omega arith)
+      go false = rw length-map (omega arith)
+
+  selected : (flag : ℕ) → Gives (selection (sky .satellites) flag) (λ s _. length (s .chosen) ≤ 64)
+  unfolding selection
+  selected zero = gives-done (omega arith)
+  selected (suc flag) =
+      gives-numbered _ _ λ network _.
+      gives-require _ _ _ λ some.
+      gives-taking _ _ λ bits _.
+      gives-done (omega (arith, pick-few bits (sky .satellites)))
+
+  program-says : (n : ℕ) (l : Layout) (h : Common) → Few (programBy n l sky h)
+  unfolding programBy rowsAlone flagged satelliteLines
+  program-says n l h = go (l .flagged)
+    where
+      go : (b : Bool) → Few (cond b (flagged n (shapesFrom (l .shape))) (rowsAlone n (overBy l)) sky h)
+      go true =
+          gives-numbered _ _ λ a _.
+          gives-numbered _ _ λ b _.
+          gives-numbered _ _ λ flag _.
+          gives-bind (selected flag) λ s _ few.
+          gives-done (rw length-map (omega arith))
+      go false = gives-done (over-few l)
+
+  gated : (held : Bool) (iod issue : ℕ) (p : Program Heading) → Few p → Few (gateBy held iod issue >> p)
+  unfolding gateBy _>>_ _>>=_
+  gated true iod issue p few = gives-require _ _ _ (λ _. few)
+  gated false iod issue p few = gives-refuse _
+
+  pub heading-says : (k : Kind) (s : Seen) → Few (headingFor k s sky)
+  unfolding headingFor underBy gatedBy
+  heading-says Kinds.Other s = gives-refuse _
+  heading-says Kinds.Mask s = gives-refuse _
+  heading-says Kinds.Packet s = packet-says
+  heading-says (Kinds.Masked l) s = gives-bind (gives-itself (common 12)) λ h _ _. gated (s .held) (s .iod) (h .iod) _ (program-says (s .subtype) l h)
+
+-- ---- of a reading that made a message
+
+abbrev FewRows : Outcome → Type 0
+FewRows (accepted m next) = length (m .content .rows) ≤ 256
+FewRows (idle holding) = Unit {0}
+FewRows (refused r missing holding) = Unit {0}
+
+few-bodied : (held : Held) (m : Message) (next missing : ℕ) → length (m .content .rows) ≤ 256 → FewRows (bodiedBy held m next missing)
+unfolding bodiedBy
 few-bodied held m next zero few = few
 few-bodied held m next (suc missing) few = tt
 
-module _ (held : Held) (sats : length (satellitesHeld held) ≤ 64) (cells : length (cellsHeld held) ≤ 256) (bs : List ℕ) (end : ℕ) where
-  -- by what it says before its body
-  few-headed : (d : Heading) → Begins end d → Few (headedBy held bs end d)
-  unfolding headedBy Begins
-  few-headed (Rows head lines at) begins =
-      few-bodied held _ _ _ (rw rows-count (few-lines held lines sats cells (begins .1)))
-  few-headed (Refused r missing) begins = tt
+few-headed : (held : Held) (bs : List ℕ) (end place : ℕ) (p : Program Heading) → Few p → FewRows (headedAt held bs end (later place (run p (bitsFrom bs end place))))
+unfolding headedAt later
+few-headed held bs end place p few = go (run p (bitsFrom bs end place)) refl
+  where
+    go : (e : Ended Heading) → run p (bitsFrom bs end place) ≡ e → FewRows (headedAt held bs end (later place e))
+    go (well d taken) ran = few-bodied held _ _ _ (rw rows-count (few .gives (bitsFrom bs end place) d taken ran))
+    go (badly r missing) ran = tt
 
-  few-adopted : (place : ℕ) (e : Ended Adopted) → Few (adoptedBy held place e)
-  unfolding adoptedBy
-  few-adopted place (well d taken) = omega arith
-  few-adopted place (badly r missing) = tt
+few-adopted : (held : Held) (place : ℕ) (e : Ended Messages.Adopted) → FewRows (adoptedBy held place e)
+unfolding adoptedBy
+few-adopted held place (well d taken) = omega arith
+few-adopted held place (badly r missing) = tt
 
-  -- by its sub type
-  few-sorted : (place n : ℕ) → place ≤ end → Few (sortedAt held bs end place n)
-  unfolding sortedAt
-  few-sorted place n room =
-      few-cond (eqb n 1) _ _ (few-adopted place _)
-      (few-cond (eqb n 10) _ _ (few-headed _ (packet-begins bs end place room))
-      (few-cond (isMasked n) _ _ (few-headed _ (masked-begins bs end _ _ _ n place room)) tt))
+-- a mask or another kind
+mask-or : (k : Kind) → (k ≡ Kinds.Mask) ⊎ (k ≡ Kinds.Mask → ⊥)
+mask-or Kinds.Other = inr (λ e. let z : _≡_ {A = ℕ} 0 1 = cc in omega arith)
+mask-or Kinds.Mask = inl refl
+mask-or Kinds.Packet = inr (λ e. let z : _≡_ {A = ℕ} 0 1 = cc in omega arith)
+mask-or (Kinds.Masked l) = inr (λ e. let z : _≡_ {A = ℕ} 0 1 = cc in omega arith)
 
-few-stop : (o : Outcome) → Stopped o → Few o
-few-stop (accepted m next) stopped = absurd stopped
-few-stop (idle held) stopped = tt
-few-stop (refused r missing held) stopped = tt
+module _ (h : Holding) (fine : sound h ≡ true) (bs : List ℕ) (end start : ℕ) (inside : end ≤ 8 * length bs) (there : start ≤ end) where
+  few-sky : (length (skyIn (viewOf h) .satellites) ≤ 64) × (length (skyIn (viewOf h) .cells) ≤ 256)
+  few-sky = rw (sky-seen h fine bs end inside) (few-held (sounds h fine))
 
-module _ (h : Holding) (fine : sound h ≡ true) (bs : List ℕ) (end start : ℕ) (lent : end ≤ 8 * length bs) (there : start ≤ end) where
-  -- by what opens it
-  few-read : (o : Opening) → openingAt bs end start ≡ o → Few (readAt h bs end start)
-  few-read (SubType n) e =
-      let told = says h fine in
-      rw (read-opened h fine bs end start lent there n e)
-      (few-sorted (maskOf h) (told .few-satellites) (told .few-cells) bs end (start + 16) n (sub-type-told bs end start n there e .0))
-  few-read (Openings.Refused r missing) e = few-stop (readAt h bs end start) (read-unopened h fine bs end start lent there r missing e .1)
+  few-kind : (n taken : ℕ) → run opening (bitsFrom bs end start) ≡ well n taken → (kindFor n ≡ Kinds.Mask) ⊎ (kindFor n ≡ Kinds.Mask → ⊥) → FewRows (readAt h bs end start)
+  few-kind n taken ran (inl masked) =
+      subst FewRows (sym (read-sorted h fine bs end inside start there n taken ran ∙ sorted-adopted h fine bs end inside (start + 16) n masked)) (few-adopted (maskOf h) (start + 16) _)
+  few-kind n taken ran (inr other) =
+      subst FewRows (sym (read-sorted h fine bs end inside start there n taken ran ∙ sorted-headed h fine bs end inside (start + 16) n other))
+      (few-headed (maskOf h) bs end (start + 16) _ (heading-says (skyIn (viewOf h)) (few-sky .0) (few-sky .1) (kindFor n) _))
+
+  few-read : (e : Ended ℕ) → run opening (bitsFrom bs end start) ≡ e → FewRows (readAt h bs end start)
+  few-read (well n taken) ran = few-kind n taken ran (mask-or (kindFor n))
+  few-read (badly r missing) ran = subst FewRows (sym (read-unopened bs end inside start there (maskOf h) r missing ran)) (go (eqb (Places.field bs start (end - start)) 0))
+    where
+      go : (b : Bool) → FewRows (cond b (idle (lent (maskOf h))) (refused r missing (lent (maskOf h))))
+      go true = tt
+      go false = tt
 
   pub few-rows : (m : Message) (next : ℕ) → readAt h bs end start ≡ accepted m next → length (m .content .rows) ≤ 256
-  few-rows m next e = subst Few e (few-read (openingAt bs end start) refl)
+  few-rows m next e = subst FewRows e (few-read (run opening (bitsFrom bs end start)) refl)

@@ -1,103 +1,185 @@
 -- What is found at a place of a stretch, all that is lent being good. Assumes nothing.
-use mathlib.Core.Path.{_≡_, refl, sym, ap, _∙_}
+use mathlib.Core.Path.{_≡_, refl, sym, ap, _∙_, subst}
 use mathlib.Core.Bool.{Bool, true, false, cond}
-use mathlib.Core.List.{List}
-use Prim.Native.Nat.{ℕ, _+_, _-_, _*_, _≤_}
-use native.Mathlib.Nat.{le-refl}
+use mathlib.Core.List.{List, [], flatten}
+use Prim.Native.Nat.{ℕ, zero, suc, _+_, _-_, _*_, _≤_}
 use native.Mathlib.Omega.{arith}
 use lib.Dec.{eqb}
+use lib.IntN.{ℤ}
 use lib.ListN.{length}
-use borrow.Author.Tests.{eqb-true, eqb-false, ne-eqb}
 use denote.Enum.Declared.{tagOf}
 use Rattle.bits.specs.Places.{field}
-use Rattle.bits.proofs.Fields.{zero-part}
 use Rattle.format.specs.declared.Answer.{Answer}
 use Rattle.format.specs.declared.Answer.the-variants as Answers
 use Rattle.format.specs.declared.Refusal.{Refusal}
-use Rattle.format.specs.Reading.{Outcome, accepted, idle, refused, readFrom, answerOf}
-use Rattle.format.proofs.Placed.{blank-from}
-use Rattle.format.proofs.Stops.{Stopped}
+use Rattle.format.specs.Masks.{Held, lent}
+use Rattle.format.specs.Messages as Messages
+use Rattle.format.specs.Programs.{Program, Ended, well, badly, later, run}
+use Rattle.format.specs.Reading.{Outcome, accepted, idle, refused, bitsFrom, readFrom, lentAfter, over, rowsAfter, answerOf}
+use Rattle.format.specs.Rows.{bodyWidth}
+use Rattle.format.specs.Table.{Message, table, opening}
+use Rattle.format.proofs.Placed.{length-from}
+use Rattle.format.proofs.Runs.{taken-le}
+use Rattle.heads.specs.declared.heading.Heading.{Heading}
 use Rattle.heads.specs.declared.Opening.{Opening}
-use Rattle.heads.specs.declared.Opening.the-variants.{SubType, Refused}
-use Rattle.heads.specs.Openings.{openingAt}
-use Rattle.heads.specs.Sorting.{sortedAt, openedBy}
-use Rattle.heads.proofs.Sorted.{sub-type-told, message-sorted}
+use Rattle.heads.specs.declared.Opening.the-variants.{SubType}
+use Rattle.heads.specs.declared.Opening.the-variants as Openings
+use Rattle.heads.specs.Heads.{openingBy}
+use Rattle.heads.specs.Headings.{Shows, saidBy}
+use Rattle.heads.specs.Sorting.{skyHeld, seenOf, headingFor, bodiedBy, headedAt, adoptedBy}
+use Rattle.heads.proofs.Opened.{Opened, opened, read-opened, read-unopened}
+use Rattle.heads.proofs.Sorted.{kind-ended, adopted-ended}
 use Rattle.holding.specs.declared.Holding.{Holding}
+use Rattle.holding.specs.Held.{skyIn, viewOf, slotsOf, stripCells}
 use Rattle.holding.specs.Pictures.{maskOf, sound}
-use Rattle.reader.specs.declared.Reading.{Reading}
+use Rattle.holding.proofs.Sounds.{sounds}
+use Rattle.reader.specs.declared.message.Found.{Found}
 use Rattle.reader.specs.declared.message.Found.the-variants.{Mask, Answered}
-use Rattle.reader.specs.Readings.{holdingAfter, readingOf, readAt, unopenedAt, foundBy}
-use Rattle.reader.proofs.Held.{says}
-use Rattle.reader.proofs.Rowed.{keeps}
+use Rattle.reader.specs.Readings.{readAt, sortedAt, unopenedAt, foundAs, foundBy, foundAt, Begins}
 use Rattle.reader.proofs.message.Found.{the-type}
+use Rattle.table.specs.declared.Kind.{Kind}
+use Rattle.table.specs.declared.Kind.the-variants as Kinds
+use Rattle.table.specs.Kinds.{kindFor, kindBy}
 
--- a stop leaves the holding as it was
-pub stop-keeps : {h : Holding} (o : Outcome) → Stopped o → holdingAfter h o ≡ h
-unfolding holdingAfter
-stop-keeps (accepted m next) stopped = absurd stopped
-stop-keeps (idle held) stopped = refl
-stop-keeps (refused r missing held) stopped = refl
+-- ---- how the opening ran, by what it answered
 
--- ---- by what opens the message
+pub opened-well : (e : Ended ℕ) (n : ℕ) → openingBy e ≡ SubType n → (taken : ℕ) × (e ≡ well n taken)
+unfolding openingBy
+opened-well (well m taken) n said = (taken, let same : m ≡ n = cc in rw same)
+opened-well (badly r missing) n said = absurd (let z : _≡_ {A = ℕ} 0 1 = cc in omega arith)
 
--- number and sub type are no zeros
-some-bit : (bs : List ℕ) (end start n : ℕ) → start ≤ end → openingAt bs end start ≡ SubType n → eqb (field bs start (end - start)) 0 ≡ false
-some-bit bs end start n room e =
-    let told = sub-type-told bs end start n room e in
-    ne-eqb (field bs start (end - start)) 0 (λ none. omega (arith, told .2, zero-part bs start end start 12 (le-refl start) (omega (arith, told .0)) none))
+pub opened-badly : (e : Ended ℕ) (r : Refusal) (missing : ℕ) → openingBy e ≡ Openings.Refused r missing → e ≡ badly r missing
+unfolding openingBy
+opened-badly (well m taken) r missing said = absurd (let z : _≡_ {A = ℕ} 0 1 = cc in omega arith)
+opened-badly (badly q rest) r missing said =
+    let same : q ≡ r = cc in
+    let count : rest ≡ missing = cc in
+    rw (same, count)
 
-module _ (h : Holding) (fine : sound h ≡ true) (bs : List ℕ) (end start : ℕ) (lent : end ≤ 8 * length bs) (there : start ≤ end) where
-  read-idle : eqb (field bs start (end - start)) 0 ≡ true → readAt h bs end start ≡ idle (maskOf h)
-  unfolding readAt readFrom
-  read-idle e = rw (blank-from bs end start lent there, e)
+-- ---- a heading
 
-  read-some : eqb (field bs start (end - start)) 0 ≡ false → readAt h bs end start ≡ openedBy (maskOf h) bs end start (openingAt bs end start)
-  unfolding readAt readFrom
-  read-some e = rw (blank-from bs end start lent there, e) (message-sorted bs end lent (maskOf h) (says h fine .few) start there)
-
-  -- a sub type was read
-  pub read-opened : (n : ℕ) → openingAt bs end start ≡ SubType n → readAt h bs end start ≡ sortedAt (maskOf h) bs end (start + 16) n
-  unfolding openedBy
-  read-opened n e = read-some (some-bit bs end start n there e) ∙ ap (openedBy (maskOf h) bs end start) e
-
-  -- refused before that: a stop
-  pub read-unopened : (r : Refusal) (missing : ℕ) → openingAt bs end start ≡ Refused r missing
-      → (unopenedAt bs end start r ≡ answerOf (readAt h bs end start)) × Stopped (readAt h bs end start)
-  unfolding unopenedAt answerOf openedBy
-  read-unopened r missing e = go (eqb (field bs start (end - start)) 0) refl
-    where
-      go : (b : Bool) → eqb (field bs start (end - start)) 0 ≡ b
-          → (cond (eqb (field bs start (end - start)) 0) Answers.Idle (Answers.Refused r) ≡ answerOf (readAt h bs end start)) × Stopped (readAt h bs end start)
-      go true f = rw (f, read-idle f) (refl, tt)
-      go false f = rw (f, read-some f, e) (refl, tt)
-
-  -- ---- by what was found
-
-  -- any but a mask leaves the holding as it was
-  by-opening : (o : Opening) → openingAt bs end start ≡ o → (a : Answer) → foundBy o (readAt h bs end start) ≡ Answered a
-      → (a ≡ answerOf (readAt h bs end start)) × (h ≡ holdingAfter h (readAt h bs end start))
-  unfolding foundBy
-  by-opening (SubType n) e a said = go (eqb n 1) refl said
-    where
-      go : (b : Bool) → eqb n 1 ≡ b → cond b Mask (Answered (answerOf (readAt h bs end start))) ≡ Answered a
-          → (a ≡ answerOf (readAt h bs end start)) × (h ≡ holdingAfter h (readAt h bs end start))
-      go true f said = absurd (let z : _≡_ {A = ℕ} 0 1 = cc in omega arith)
-      go false f said = (cc, sym (ap (holdingAfter h) (read-opened n e) ∙ keeps h fine bs end (start + 16) n (eqb-false n 1 f)))
-  by-opening (Refused r missing) e a said = (cc, sym (stop-keeps (readAt h bs end start) (read-unopened r missing e .1)))
-
-  pub found-answered : (a : Answer) → foundBy (openingAt bs end start) (readAt h bs end start) ≡ Answered a
-      → _≡_ {A = Reading} (record { answer = a; holding = h }) (readingOf h (readAt h bs end start))
-  unfolding readingOf
-  found-answered a said =
-      let it = by-opening (openingAt bs end start) refl a said in
-      ap (λ (b : Answer). record { answer = b; holding = h }) (it .0) ∙ ap (λ (g : Holding). record { answer = answerOf (readAt h bs end start); holding = g }) (it .1)
-
--- a mask was found: its sub type is 1
-pub found-mask : (o : Opening) (x : Outcome) → tagOf the-type (foundBy o x) ≡ 0 → o ≡ SubType 1
-unfolding foundBy
-found-mask (SubType n) x e = go (eqb n 1) refl e
+-- it ends within the stretch
+pub begins : (bs : List ℕ) (end : ℕ) → end ≤ 8 * length bs → (place : ℕ) → place ≤ end → (p : Program Messages.Heading) → Begins end (later place (run p (bitsFrom bs end place)))
+unfolding Begins later
+begins bs end inside place room p = go (run p (bitsFrom bs end place)) refl
   where
-    go : (b : Bool) → eqb n 1 ≡ b → tagOf the-type (cond b Mask (Answered (answerOf x))) ≡ 0 → SubType n ≡ SubType 1
-    go true f tag = ap SubType (eqb-true n 1 f)
-    go false f tag = absurd (omega arith)
-found-mask (Refused r missing) x e = absurd (omega arith)
+    go : (e : Ended Messages.Heading) → run p (bitsFrom bs end place) ≡ e → Begins end (later place e)
+    go (well d taken) ran = omega (arith, taken-le p (bitsFrom bs end place) d taken ran, length-from bs end inside place)
+    go (badly r missing) ran = tt
+
+-- what is held is held after it
+bodied-keeps : (held : Held) (m : Message) → m .after ≡ held → (next missing : ℕ) → lentAfter (bodiedBy held m next missing) ≡ lent held
+unfolding bodiedBy lentAfter
+bodied-keeps held m same next zero = ap lent same
+bodied-keeps held m same next (suc missing) = refl
+
+headed-keeps : (held : Held) (bs : List ℕ) (end : ℕ) (d : Ended Messages.Heading) → lentAfter (headedAt held bs end d) ≡ lent held
+unfolding headedAt lentAfter
+headed-keeps held bs end (well d at) = bodied-keeps held _ refl _ _
+headed-keeps held bs end (badly r missing) = refl
+
+-- ---- a mask has no rows
+
+pub adopted-rows : (held : Held) (place : ℕ) (e : Ended Messages.Adopted) (rows : List ℤ) → rows ≡ rowsAfter (adoptedBy held place e) rows
+unfolding adoptedBy rowsAfter over flatten
+adopted-rows held place (well d taken) rows = refl
+adopted-rows held place (badly r missing) rows = refl
+
+-- ---- in a stretch, under a sound holding
+
+module _ (h : Holding) (fine : sound h ≡ true) (bs : List ℕ) (end : ℕ) (inside : end ≤ 8 * length bs) where
+  -- what it shows
+  pub sky-seen : skyIn (viewOf h) ≡ skyHeld (maskOf h)
+  unfolding skyIn
+  sky-seen = let s = sounds h fine in rw (s .slots, s .strips)
+
+  pub shows : Shows (viewOf h) (h .nsat)
+  shows =
+      let s = sounds h fine in
+      record { count = ap length (s .slots) ∙ sym (s .nsat); few = s .few-satellites; strips = omega (arith, s .shaped .strips) }
+
+  -- any message but a mask, by its heading
+  pub sorted-headed : (place n : ℕ) → (kindFor n ≡ Kinds.Mask → ⊥)
+      → sortedAt (maskOf h) bs end place n
+      ≡ headedAt (maskOf h) bs end (later place (run (headingFor (kindFor n) (record { held = h .held; iod = h .iod; n = h .nsat; subtype = n }) (skyIn (viewOf h))) (bitsFrom bs end place)))
+  unfolding sortedAt
+  sorted-headed place n other =
+      let s = sounds h fine in
+      kind-ended bs end inside (maskOf h) place n (h .nsat) (kindFor n) other
+      ∙ (λ i.
+      headedAt (maskOf h) bs end
+      (later place
+      (run
+      (headingFor (kindFor n) (record { held = sym (s .held) i; iod = sym (s .iod) i; n = h .nsat; subtype = n }) (sym sky-seen i))
+      (bitsFrom bs end place))))
+
+  -- a mask
+  pub sorted-adopted : (place n : ℕ) → kindFor n ≡ Kinds.Mask → sortedAt (maskOf h) bs end place n ≡ adoptedBy (maskOf h) place (run Messages.maskMessage (bitsFrom bs end place))
+  unfolding sortedAt
+  sorted-adopted place n e = rw e (adopted-ended (maskOf h) place n (bitsFrom bs end place))
+
+  module _ (start : ℕ) (there : start ≤ end) where
+    -- a sub type was read
+    pub read-sorted : (n taken : ℕ) → run opening (bitsFrom bs end start) ≡ well n taken → readAt h bs end start ≡ sortedAt (maskOf h) bs end (start + 16) n
+    unfolding sortedAt
+    read-sorted n taken e = read-opened bs end inside start there (maskOf h) n taken e
+
+    -- refused before that: a stop
+    pub read-stopped : (r : Refusal) (missing : ℕ) → run opening (bitsFrom bs end start) ≡ badly r missing
+        → (unopenedAt bs end start r missing ≡ answerOf (readAt h bs end start)) × (lentAfter (readAt h bs end start) ≡ lent (maskOf h)) × ((rows : List ℤ) → rows ≡ rowsAfter (readAt h bs end start) rows)
+    unfolding unopenedAt answerOf lentAfter rowsAfter
+    read-stopped r missing e = rw (read-unopened bs end inside start there (maskOf h) r missing e) (go (eqb (field bs start (end - start)) 0))
+      where
+        go : (b : Bool)
+            → (cond b Answers.Idle (Answers.Refused r missing) ≡ answerOf (cond b (idle (lent (maskOf h))) (refused r missing (lent (maskOf h)))))
+            × (lentAfter (cond b (idle (lent (maskOf h))) (refused r missing (lent (maskOf h)))) ≡ lent (maskOf h))
+            × ((rows : List ℤ) → rows ≡ rowsAfter (cond b (idle (lent (maskOf h))) (refused r missing (lent (maskOf h)))) rows)
+        go true = (refl, refl, λ rows. refl)
+        go false = (refl, refl, λ rows. refl)
+
+    -- ---- by what was found
+
+    -- a mask, behind its number and sub type
+    pub record FoundMask : Type 0 where
+      pub room : start + 16 ≤ end
+      pub adopts : readAt h bs end start ≡ adoptedBy (maskOf h) (start + 16) (run Messages.maskMessage (bitsFrom bs end (start + 16)))
+
+    -- or the answer, and any but a mask leaves the holding as it was
+    pub record FoundAnswer (a : Answer) : Type 0 where
+      pub says : a ≡ answerOf (readAt h bs end start)
+      pub keeps : lentAfter (readAt h bs end start) ≡ lent (maskOf h)
+
+    -- by the kind
+    mask-found : (k : Kind) (o : Outcome) → tagOf the-type (foundAs k o) ≡ 0 → k ≡ Kinds.Mask
+    unfolding foundAs
+    mask-found Kinds.Other o e = absurd (omega arith)
+    mask-found Kinds.Mask o e = refl
+    mask-found Kinds.Packet o e = absurd (omega arith)
+    mask-found (Kinds.Masked l) o e = absurd (omega arith)
+
+    answer-found : (k : Kind) (o : Outcome) (a : Answer) → foundAs k o ≡ Answered a → (a ≡ answerOf o) × (k ≡ Kinds.Mask → ⊥)
+    unfolding foundAs
+    answer-found Kinds.Other o a e = (cc, λ z. let w : _≡_ {A = ℕ} 0 1 = cc in omega arith)
+    answer-found Kinds.Mask o a e = absurd (let w : _≡_ {A = ℕ} 0 1 = cc in omega arith)
+    answer-found Kinds.Packet o a e = (cc, λ z. let w : _≡_ {A = ℕ} 0 1 = cc in omega arith)
+    answer-found (Kinds.Masked l) o a e = (cc, λ z. let w : _≡_ {A = ℕ} 0 1 = cc in omega arith)
+
+    pub found-mask : tagOf the-type (foundAt h bs end start) ≡ 0 → FoundMask
+    unfolding openingBy foundBy
+    found-mask = go (run opening (bitsFrom bs end start)) refl
+      where
+        go : (e : Ended ℕ) → run opening (bitsFrom bs end start) ≡ e → tagOf the-type (foundBy (openingBy e) (readAt h bs end start)) ≡ 0 → FoundMask
+        go (well n taken) ran tag =
+            let o = opened bs end inside start there n taken ran in
+            record { room = o .there; adopts = read-sorted n taken ran ∙ sorted-adopted (start + 16) n (mask-found (kindFor n) (readAt h bs end start) tag) }
+        go (badly r missing) ran tag = absurd (omega arith)
+
+    pub found-answer : (a : Answer) → foundAt h bs end start ≡ Answered a → FoundAnswer a
+    unfolding openingBy foundBy
+    found-answer a = go (run opening (bitsFrom bs end start)) refl
+      where
+        go : (e : Ended ℕ) → run opening (bitsFrom bs end start) ≡ e → foundBy (openingBy e) (readAt h bs end start) ≡ Answered a → FoundAnswer a
+        go (well n taken) ran said =
+            let it = answer-found (kindFor n) (readAt h bs end start) a said in
+            record { says = it .0; keeps = ap lentAfter (read-sorted n taken ran ∙ sorted-headed (start + 16) n (it .1)) ∙ headed-keeps (maskOf h) bs end _ }
+        go (badly r missing) ran said = record { says = cc; keeps = read-stopped r missing ran .1 }

@@ -1,8 +1,8 @@
-pub mod Held
+pub mod Lents
+pub mod Outcomes
+pub mod Rawed
 pub mod Bodied
 pub mod Adopted
-pub mod Rawed
-pub mod Outcomes
 pub mod Findings
-pub mod Rowed
+pub mod Sought
 pub mod FewRows

@@ -1,24 +1,29 @@
 -- The outcome of a reading by the tests of what is lent. Assumes nothing.
-use mathlib.Core.Path.{_≡_, refl}
+use mathlib.Core.Path.{_≡_, refl, sym, ap, _∙_}
 use mathlib.Core.Bool.{Bool, true, false, cond}
-use mathlib.Core.List.{List}
+use mathlib.Core.List.{List, [], _∷_}
 use Prim.Native.Nat.{ℕ, _*_, _≤_}
 use native.Mathlib.Omega.{arith}
 use lib.Dec.{leb}
 use lib.IntN.{ℤ}
 use lib.ListN.{length}
-use borrow.Author.Tests.{le-leb, leb-true}
+use borrow.Author.Tests.{leb-true}
 use denote.Enum.Declared.{tagOf}
 use Rattle.format.specs.declared.Refusal.{Refusal}
 use Rattle.format.specs.declared.Refusal.the-variants.{Room, Place, Value}
-use Rattle.format.specs.Reading.{rowRoom, refused, bitsFrom, readFrom, placed, readingBy}
+use Rattle.format.specs.Good.{isHolding}
+use Rattle.format.specs.Masks.{Lent, heldIn}
+use Rattle.format.specs.Reading.{rowRoom, Outcome, refused, bitsFrom, readFrom, placed, lentTests, readingBy}
 use Rattle.format.specs.Table.{table}
+use Rattle.format.specs.Tests.{Test, verdict}
 use Rattle.format.proofs.Sames.{and-true}
 use Rattle.holding.specs.declared.Holding.{Holding}
 use Rattle.holding.specs.Pictures.{maskOf, sound}
-use Rattle.reader.specs.declared.Lent.the-variants.{Good, Refused}
-use Rattle.reader.specs.Readings.{outcomeAt, lentAt, readAt}
-use Rattle.reader.proofs.Lent.{the-type}
+use Rattle.reader.specs.declared.Verdict.{Verdict}
+use Rattle.reader.specs.declared.Verdict.the-variants.{Good, Refused}
+use Rattle.reader.specs.Readings.{lentBy, outcomeAt, testsOf, testedBy, readAt}
+use Rattle.reader.proofs.Verdict.{the-type}
+use Rattle.reader.proofs.Lents.{is-holding, sound-lent}
 
 -- what a place in a stretch is known to be
 pub record Inside (bs : List ℕ) (end start : ℕ) : Type 0 where
@@ -33,35 +38,46 @@ inside bs end start e =
     let second = and-true (leb end (8 * length bs)) (leb start end) (first .1) in
     record { limit = leb-true end 50850 (first .0); lent = leb-true end (8 * length bs) (second .0); there = leb-true start end (second .1) }
 
--- what is lent is good, or refused
-pub record Fine (sound : Bool) (bs : List ℕ) (end start room : ℕ) : Type 0 where
-  pub held : sound ≡ true
-  pub inside : placed bs end start ≡ true
+-- ---- by the tests
+
+-- what is read where they hold, or the refusal
+unfoldable pub tested-outcome : Lent → Outcome → Verdict → Outcome
+tested-outcome holding o Good = o
+tested-outcome holding o (Refused r) = refused r 0 holding
+
+by-tests : (holding : Lent) (o : Outcome) (ts : List Test) → verdict (λ r. refused r 0 holding) o ts ≡ tested-outcome holding o (testedBy ts)
+unfolding verdict testedBy tested-outcome
+by-tests holding o [] = refl
+by-tests holding o (t ∷ ts) = go (t .holds) (by-tests holding o ts)
+  where
+    go : (b : Bool) → verdict (λ r. refused r 0 holding) o ts ≡ tested-outcome holding o (testedBy ts)
+        → elim b [ true ↦ verdict (λ r. refused r 0 holding) o ts | false ↦ refused (t .else) 0 holding ] ≡ tested-outcome holding o (elim b [ true ↦ verdict Refused Good ts | false ↦ Refused (t .else) ])
+    go true rest = rest
+    go false rest = refl
+
+pub outcome-tested : (h : Holding) (bs : List ℕ) (end start : ℕ) (rows : List ℤ)
+    → outcomeAt h bs end start rows ≡ tested-outcome (lentBy h) (readFrom table (heldIn (lentBy h)) start (bitsFrom bs end start)) (testedBy (testsOf h bs end start (length rows)))
+unfolding outcomeAt readingBy
+outcome-tested h bs end start rows = by-tests (lentBy h) (readFrom table (heldIn (lentBy h)) start (bitsFrom bs end start)) (testsOf h bs end start (length rows))
+
+-- ---- what is lent is good
+
+pub record Fine (h : Holding) (bs : List ℕ) (end start room : ℕ) : Type 0 where
+  pub held : sound h ≡ true
+  pub inside : Inside bs end start
   pub rows : rowRoom ≤ room
 
-pub lent-good : (sound : Bool) (bs : List ℕ) (end start room : ℕ) → tagOf the-type (lentAt sound bs end start room) ≡ 0 → Fine sound bs end start room
-unfolding lentAt
-lent-good sound bs end start room e = go (leb rowRoom room) (placed bs end start) sound refl refl refl e
+pub all-good : (h : Holding) (bs : List ℕ) (end start room : ℕ) → tagOf the-type (testedBy (testsOf h bs end start room)) ≡ 0 → Fine h bs end start room
+unfolding testedBy lentTests verdict
+all-good h bs end start room = go (leb rowRoom room) (placed bs end start) (isHolding (lentBy h)) refl refl refl
   where
-    go : (a b c : Bool) → leb rowRoom room ≡ a → placed bs end start ≡ b → sound ≡ c
-        → tagOf the-type (cond a (cond b (cond c Good (Refused Value)) (Refused Place)) (Refused Room)) ≡ 0 → Fine sound bs end start room
-    go true true true p q r f = record { held = r; inside = q; rows = leb-true rowRoom room p }
+    go : (a b c : Bool) → leb rowRoom room ≡ a → placed bs end start ≡ b → isHolding (lentBy h) ≡ c
+        → tagOf the-type (elim a [ true ↦ elim b [ true ↦ elim c [ true ↦ Good | false ↦ Refused Value ] | false ↦ Refused Place ] | false ↦ Refused Room ]) ≡ 0 → Fine h bs end start room
+    go true true true p q r f = record { held = sym (is-holding h) ∙ r; inside = inside bs end start q; rows = leb-true rowRoom room p }
     go true true false p q r f = absurd (omega arith)
     go true false c p q r f = absurd (omega arith)
     go false b c p q r f = absurd (omega arith)
 
-module _ (h : Holding) (bs : List ℕ) (end start : ℕ) (rows : List ℤ) where
-  pub no-reading : (r : Refusal) → lentAt (sound h) bs end start (length rows) ≡ Refused r → outcomeAt h bs end start rows ≡ refused r 0 (maskOf h)
-  unfolding lentAt outcomeAt readingBy
-  no-reading r = go (leb rowRoom (length rows)) (placed bs end start) (sound h)
-    where
-      go : (a b c : Bool) → cond a (cond b (cond c Good (Refused Value)) (Refused Place)) (Refused Room) ≡ Refused r
-          → cond a (cond b (cond c (readFrom table (maskOf h) start (bitsFrom bs end start)) (refused Value 0 (maskOf h))) (refused Place 0 (maskOf h))) (refused Room 0 (maskOf h)) ≡ refused r 0 (maskOf h)
-      go true true true e = absurd (let z : _≡_ {A = ℕ} 0 1 = cc in omega arith)
-      go true true false e = cc
-      go true false c e = cc
-      go false b c e = cc
-
-  pub begun : Fine (sound h) bs end start (length rows) → outcomeAt h bs end start rows ≡ readAt h bs end start
-  unfolding outcomeAt readingBy readAt
-  begun fine = rw (le-leb rowRoom (length rows) (fine .rows), fine .inside, fine .held) refl
+pub begun : (h : Holding) → sound h ≡ true → (bs : List ℕ) (end start : ℕ) → readFrom table (heldIn (lentBy h)) start (bitsFrom bs end start) ≡ readAt h bs end start
+unfolding heldIn
+begun h e bs end start = rw (sound-lent h e)

@@ -15,16 +15,15 @@ use Rattle.bits.specs.Parts.{startOf, countOf, partOf, IsPart}
 use Rattle.format.specs.declared.Answer.{Answer}
 use Rattle.format.specs.declared.Answer.the-variants as Answers
 use Rattle.format.specs.declared.Refusal.the-variants.{Room, Place}
-use Rattle.format.specs.Masks.{Held}
-use Rattle.format.specs.Reading.{Outcome, refused, bitsFrom, placed, readingBy, reading, rawEnd, answerOf}
+use Rattle.format.specs.Masks.{Lent, heldIn}
+use Rattle.format.specs.Tests.{verdict}
+use Rattle.format.specs.Reading.{Outcome, refused, bitsFrom, placed, lentTests, readingBy, reading, rawEnd, answerOf}
 use Rattle.format.specs.Table.{table, message}
 use Rattle.format.proofs.Answer.{the-type}
 use Rattle.format.proofs.Placed.{length-from}
 use Rattle.format.proofs.Runs.{taken-le}
 use Rattle.format.proofs.Stops.{reading-ends}
-use Rattle.holding.specs.declared.Holding.{Holding}
-use Rattle.holding.specs.Pictures.{maskOf, sound}
-use Rattle.reader.specs.Readings.{outcomeAt, rawTo}
+use Rattle.reader.specs.Readings.{rawTo}
 use Rattle.reader.proofs.Outcomes.{Inside, inside}
 
 -- ---- an empty part is the same at every place
@@ -43,7 +42,7 @@ pub not-message : (bs : List ℕ) (start : ℕ) (a : Answer) (k : ℕ) → tagOf
 unfolding rawTo
 not-message bs start (Answers.Message h next rows) k e = absurd (omega arith)
 not-message bs start Answers.Idle k e = refl
-not-message bs start (Answers.Refused r) k e = refl
+not-message bs start (Answers.Refused r missing) k e = refl
 
 -- ---- an answer of the reader's own
 
@@ -61,26 +60,26 @@ in-stretch bs end start taken known few =
 abbrev Raw : List ℕ → ℕ → Outcome → Type 0
 Raw bs start o = rawTo bs start (answerOf o) ≡ rawEnd o start
 
-outside : (sound : Bool) (held : Held) (bs : List ℕ) (end start : ℕ) (rows : List ℤ) → placed bs end start ≡ false → Raw bs start (reading sound held bs end start rows)
-unfolding readingBy rawTo answerOf rawEnd
-outside sound held bs end start rows e = rw e (go (leb 2048 (length rows)))
-  where
-    go : (b : Bool) → Raw bs start (cond b (refused Place 0 held) (refused Room 0 held))
-    go true = refl
-    go false = refl
+module _ (holding : Lent) (bs : List ℕ) (end start : ℕ) (rows : List ℤ) where
+  outside : placed bs end start ≡ false → Raw bs start (reading holding bs end start rows)
+  unfolding readingBy lentTests verdict rawTo answerOf rawEnd
+  outside e = rw e (go (leb 2048 (length rows)))
+    where
+      go : (b : Bool) → Raw bs start (elim b [ true ↦ refused Place 0 holding | false ↦ refused Room 0 holding ])
+      go true = refl
+      go false = refl
 
-within : (sound : Bool) (held : Held) (bs : List ℕ) (end start : ℕ) (rows : List ℤ) → Inside bs end start → Raw bs start (reading sound held bs end start rows)
-unfolding rawTo answerOf rawEnd
-within sound held bs end start rows known =
-    reading-ends (Raw bs start) held (λ r missing. refl) table sound bs end start rows refl
-    (λ m taken e.
-    let few = taken-le (message held) (bitsFrom bs end start) m taken e in
-    rw (in-stretch bs end start taken known (omega (arith, few, length-from bs end (known .lent) start))))
+  within : Inside bs end start → Raw bs start (reading holding bs end start rows)
+  unfolding rawTo answerOf rawEnd
+  within known =
+      reading-ends (Raw bs start) table bs end start rows holding (λ r missing. refl) refl
+      (λ m taken e.
+      let few = taken-le (message (heldIn holding)) (bitsFrom bs end start) m taken e in
+      rw (in-stretch bs end start taken known (omega (arith, few, length-from bs end (known .lent) start))))
 
-pub raw-read : (h : Holding) (bs : List ℕ) (end start : ℕ) (rows : List ℤ) → Raw bs start (outcomeAt h bs end start rows)
-unfolding outcomeAt
-raw-read h bs end start rows = go (placed bs end start) refl
-  where
-    go : (b : Bool) → placed bs end start ≡ b → Raw bs start (reading (sound h) (maskOf h) bs end start rows)
-    go true e = within (sound h) (maskOf h) bs end start rows (inside bs end start e)
-    go false e = outside (sound h) (maskOf h) bs end start rows e
+  pub raw-read : Raw bs start (reading holding bs end start rows)
+  raw-read = go (placed bs end start) refl
+    where
+      go : (b : Bool) → placed bs end start ≡ b → Raw bs start (reading holding bs end start rows)
+      go true e = within (inside bs end start e)
+      go false e = outside e

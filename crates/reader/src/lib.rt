@@ -3,28 +3,22 @@ pub mod message;
 pub mod raw;
 
 ghost use mathlib.Core.Path.{_≡_};
-ghost use Rattle.format.specs.declared.Answer.the-variants.{Refused};
+ghost use lib.ListN.{length};
 ghost use Rattle.format.specs.Reading.{rowsAfter, placed};
-ghost use Rattle.holding.specs.Pictures.{sound};
-ghost use Rattle.reader.specs.Readings.{lentAt, readingOf, outcomeAt};
+ghost use Rattle.reader.specs.Readings.{testsOf, testedBy, readingOf, outcomeAt, soughtAt};
+use crate::message::Found;
+use crate::message::adopted;
+use crate::message::find;
 use format::Answer;
+use format::ROOM;
 use format::Refusal;
+use heads::OPENING;
 use holding::Holding;
 
 // The answer, and what is held after it.
 pub struct Reading {
     pub answer: Answer,
     pub holding: Holding,
-}
-
-// A refusal, after which what was held is held.
-pub fn refused(holding: Holding, r: Refusal) -> Reading
-    ensures { λ x. ⌜ x ≡ record { answer = Refused r; holding = holding } ⌝ }
-{
-    Reading {
-        answer: Answer::Refused(r),
-        holding,
-    }
 }
 
 // Whether a stretch of so many bits is within its limit and the bytes lent, and a place is within it.
@@ -40,38 +34,51 @@ pub fn is_placed(bytes: &[u8], end: usize, start: usize) -> bool
     start <= end
 }
 
-// What is lent for a reading: good, or why not.
-pub enum Lent {
+// What is lent for a reading is good, or refused.
+pub enum Verdict {
     Good,
     Refused(Refusal),
 }
 
 // The tests of what is lent, in their order: room for rows, the place, the holding.
-pub fn tested(holding: Holding, bytes: &[u8], end: usize, start: usize, room: usize) -> Lent
-    ensures { λ r. ⌜ r ≡ lentAt (sound holding) (now (bytes .entry)) end start room ⌝ }
+pub fn tested(holding: Holding, bytes: &[u8], end: usize, start: usize, room: usize) -> Verdict
+    ensures { λ r. ⌜ r ≡ testedBy (testsOf holding (now (bytes .entry)) end start room) ⌝ }
 {
-    if room < 2048 {
-        return Lent::Refused(Refusal::Room);
+    if room < ROOM {
+        return Verdict::Refused(Refusal::Room);
     }
     if !is_placed(bytes, end, start) {
-        return Lent::Refused(Refusal::Place);
+        return Verdict::Refused(Refusal::Place);
     }
     if !holding.is_sound() {
-        return Lent::Refused(Refusal::Value);
+        return Verdict::Refused(Refusal::Value);
     }
-    Lent::Good
+    Verdict::Good
 }
 
-// Reads the message at a place of a stretch of so many bits. The row buffer gets a message's rows first and
-// keeps its old numbers after them; a stop changes nothing.
+// Reads the message at a place of a stretch of so many bits, unless it is a mask: that is left to be adopted, so that
+// no holding is handed on where none changes. The row buffer gets a message's rows first and keeps its old numbers
+// after them; a stop changes nothing.
+pub fn seek(holding: Holding, bytes: &[u8], end: usize, start: usize, rows: &mut [i32]) -> Found
+    ensures { λ r. ⌜ r ≡ soughtAt holding (now (bytes .entry)) end start (length (now (rows .entry))) ⌝ }
+    ensures { λ _. ⌜ now (rows .exit) ≡ rowsAfter (outcomeAt holding (now (bytes .entry)) end start (now (rows .entry))) (now (rows .entry)) ⌝ }
+{
+    let room = rows.len();
+    let verdict = tested(holding, bytes, end, start, room);
+    if let Verdict::Refused(r) = verdict {
+        return Found::Answered(Answer::Refused(r, 0));
+    }
+    find(holding, bytes, end, start, rows)
+}
+
+// Reads the message at a place, a mask too.
 pub fn read(holding: Holding, bytes: &[u8], end: usize, start: usize, rows: &mut [i32]) -> Reading
     ensures { λ r. ⌜ r ≡ readingOf holding (outcomeAt holding (now (bytes .entry)) end start (now (rows .entry))) ⌝ }
     ensures { λ _. ⌜ now (rows .exit) ≡ rowsAfter (outcomeAt holding (now (bytes .entry)) end start (now (rows .entry))) (now (rows .entry)) ⌝ }
 {
-    let room = rows.len();
-    let lent = tested(holding, bytes, end, start, room);
-    if let Lent::Refused(r) = lent {
-        return refused(holding, r);
+    let found = seek(holding, bytes, end, start, rows);
+    match found {
+        Found::Mask => adopted(holding, bytes, end, start + OPENING),
+        Found::Answered(answer) => Reading { answer, holding },
     }
-    message::at(holding, bytes, end, start, rows)
 }

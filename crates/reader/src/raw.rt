@@ -12,7 +12,7 @@ pub fn raw(bytes: &[u8], start: usize, answer: Answer) -> &[u8]
 {
     match answer {
         Answer::Idle => part(bytes, 0, 0),
-        Answer::Refused(_) => part(bytes, 0, 0),
+        Answer::Refused(_, _) => part(bytes, 0, 0),
         Answer::Message(_, next, _) => {
             if !is_placed(bytes, next, start) {
                 return part(bytes, 0, 0);

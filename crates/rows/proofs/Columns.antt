@@ -6,7 +6,7 @@ use Prim.Native.Nat.{ℕ, zero, suc, _+_, _-_, _*_, _%_, _^_, _≤_, _<_}
 use native.Mathlib.Nat.{add-zero, one-mul, mod-lt, mod-eq-of-lt, mod-add-mod, mod-eq-sub-mod}
 use native.Mathlib.Decide.{decLt}
 use native.Mathlib.Omega.{arith}
-use borrow.Author.Tests.{lt-ltb, le-ltb, ne-eqb, eqb-true, eqb-false}
+use borrow.Author.Tests.{lt-ltb, le-ltb, eq-eqb, ne-eqb, eqb-true, eqb-false}
 use lib.Bits.{bitAnd, and-mask, and-zero-r, and-le-r}
 use lib.Dec.{eqb}
 use lib.IntN.{ℤ, pos, negsuc, subℕ, _-ℤ_}
@@ -14,9 +14,8 @@ use lib.Pow.{pow-pos, pow-mono, pow-lt}
 use lib.Signed.{mag}
 use Rattle.bits.proofs.Complement.{even, signed-pos, signed-neg}
 use Rattle.bits.specs.Signed.{signed}
-use Rattle.format.specs.Rows.{Column, gap, plain, counts, widthOf}
+use Rattle.format.specs.Rows.{Column, gap, plain, counts, widthOf, valueOf}
 use Rattle.rows.specs.declared.shape.Column.{Column as CodeColumn}
-use Rattle.rows.specs.At.{valueBy}
 use Rattle.rows.specs.Shapes.{columnFor, columnOf, Formed}
 
 -- a column that numbers can be: a gap, or of 1 to 15 bits
@@ -35,6 +34,10 @@ width-of c = go (eqb (c .width) 0) (eqb (c .half) 0) (eqb-true (c .width) 0)
     go true q e = sym (e refl)
     go false true e = refl
     go false false e = refl
+
+pub gap-of : (c : CodeColumn) → c .width ≡ 0 → columnOf c ≡ gap
+unfolding columnOf
+gap-of c none = rw (eq-eqb (c .width) 0 none)
 
 pub fine-of : (c : CodeColumn) → c .width ≤ 15 → Fine (columnOf c)
 unfolding columnOf
@@ -73,17 +76,16 @@ one-up w narrow = rw (one-mul (2 ^ w)) (mod-eq-of-lt (pow-lt narrow))
 -- ---- bounds
 
 pub record Bounded (c : CodeColumn) : Type 0 where
-  pub half : c .half ≤ 2 ^ 14
+  pub half : c .half ≤ 2 ^ 15
   pub mask : c .mask < 2 ^ 15
-  pub less : c .less ≤ 2 ^ 15
 
 bounded-for : {k : Column} → Fine k → Bounded (columnFor k)
 unfolding columnFor
-bounded-for fine-gap = record { half = omega arith; mask = omega arith; less = omega arith }
-bounded-for (fine-plain w some few) = record { half = omega arith; mask = omega (arith, pow-mono few, pow-pos w); less = omega arith }
+bounded-for fine-gap = record { half = omega arith; mask = omega arith }
+bounded-for (fine-plain w some few) = record { half = omega arith; mask = omega (arith, pow-mono few, pow-pos w) }
 bounded-for (fine-counts w some few) =
-    let low : w - 1 ≤ 14 = omega arith in
-    record { half = pow-mono low; mask = omega (arith, pow-mono few, pow-pos w); less = omega (arith, pow-mono low) }
+    let low : w - 1 ≤ 15 = omega arith in
+    record { half = pow-mono low; mask = omega (arith, pow-mono few, pow-pos w) }
 
 pub bounded : (c : CodeColumn) → Formed c → Bounded c
 bounded c formed = subst (λ (d : CodeColumn). Bounded d) (formed .numbers) (bounded-for (fine-of c (formed .narrow)))
@@ -113,24 +115,20 @@ turned w n wide small = go (decLt (n * 2) (2 ^ w))
 
 -- what the code computes of bits x
 unfoldable pub computed : CodeColumn → ℕ → ℤ
-computed c x = pos (bitAnd (x + c .half) (c .mask)) -ℤ pos (c .less)
+computed c x = pos (bitAnd (x + c .half) (c .mask)) -ℤ pos (c .half)
 
-computed-for : {k : Column} (x : ℕ) → Fine k → computed (columnFor k) x ≡ valueBy k (x % 2 ^ (columnFor k .width))
-unfolding computed columnFor valueBy
-computed-for x fine-gap = rw (and-zero-r (x + 0))
+computed-for : {k : Column} (x : ℕ) → Fine k → computed (columnFor k) x ≡ valueOf k (x % 2 ^ (columnFor k .width))
+unfolding computed columnFor valueOf
+computed-for x fine-gap = rw (and-zero-r (x + 32768))
 computed-for x (fine-plain w some few) = rw (add-zero x, and-mask x w) (ap pos (omega arith))
 computed-for x (fine-counts w some few) =
     rw (and-mask (x + 2 ^ (w - 1)) w, minus ((x + 2 ^ (w - 1)) % 2 ^ w) (2 ^ (w - 1)), ← (mod-add-mod x (2 ^ w) (2 ^ (w - 1))))
     (turned w (x % 2 ^ w) some (mod-lt x (pow-pos w)))
 
-pub value-computed : (c : CodeColumn) (x : ℕ) → Formed c → computed c x ≡ valueBy (columnOf c) (x % 2 ^ (c .width))
+pub value-computed : (c : CodeColumn) (x : ℕ) → Formed c → computed c x ≡ valueOf (columnOf c) (x % 2 ^ (c .width))
 value-computed c x formed =
-    subst (λ (d : CodeColumn). computed d x ≡ valueBy (columnOf c) (x % 2 ^ (d .width))) (formed .numbers)
+    subst (λ (d : CodeColumn). computed d x ≡ valueOf (columnOf c) (x % 2 ^ (d .width))) (formed .numbers)
     (computed-for x (fine-of c (formed .narrow)))
-
--- of a column that was made
-pub made-value : {k : Column} (x : ℕ) (c : CodeColumn) → Fine k → c ≡ columnFor k → valueBy (columnOf c) (x % 2 ^ (c .width)) ≡ valueBy k (x % 2 ^ widthOf k)
-made-value {k} x c fine made = rw (made, column-back fine, width-for k)
 
 -- ---- how large it is
 
@@ -147,4 +145,4 @@ sub-mag a b m ha hb = go (decLt a b)
 pub value-small : (c : CodeColumn) (x : ℕ) → Formed c → mag (computed c x) < 2 ^ 15
 unfolding computed
 value-small c x formed =
-    rw (minus (bitAnd (x + c .half) (c .mask)) (c .less)) (sub-mag (bitAnd (x + c .half) (c .mask)) (c .less) (2 ^ 15) (masked-lt c x formed) (bounded c formed .less))
+    rw (minus (bitAnd (x + c .half) (c .mask)) (c .half)) (sub-mag (bitAnd (x + c .half) (c .mask)) (c .half) (2 ^ 15) (masked-lt c x formed) (bounded c formed .half))

@@ -1,5 +1,5 @@
 pub mod Columns
 pub mod Cuts
-pub mod Plans
+pub mod Laid
 pub mod RowsAt
-pub mod Shaped
+pub mod Table

@@ -15,8 +15,8 @@ use Rattle.bits.specs.BitLists.{number, bits}
 use Rattle.format.proofs.Bodies.{All, none, more}
 use Rattle.format.proofs.Runs.{drop-take}
 use Rattle.format.specs.Reading.{bitsFrom}
-use Rattle.format.specs.Rows.{Column, gap, plain, counts, Line, widthOf, valueOf, shapeWidth, valuesOf, bodyWidth, rowsOf}
-use Rattle.rows.specs.At.{valueBy, valuesAt, rowsAt}
+use Rattle.format.specs.Rows.{Column, Line, widthOf, valueOf, shapeWidth, valuesOf, bodyWidth, rowsOf}
+use Rattle.rows.specs.At.{valuesAt, rowsAt}
 
 -- ---- one body after another
 
@@ -52,12 +52,6 @@ rows-length (n ∷ ns) bs at (more eight eights) =
 
 -- ---- the bits there
 
-value-by : (c : Column) (b : List Bool) → valueOf c b ≡ valueBy c (number b)
-unfolding valueOf valueBy
-value-by gap b = refl
-value-by (plain w) b = refl
-value-by (counts w) b = refl
-
 -- w bits at a place
 unfoldable part : List ℕ → ℕ → ℕ → List Bool
 part bs at w = take w (drop at (bits bs))
@@ -79,7 +73,7 @@ module _ (bs : List ℕ) where
   values-part [] at w room inside = refl
   values-part (c ∷ cs) at w room inside =
       let u : ℕ = widthOf c in
-      ap₂ _∷_ (value-by c (take u (part bs at w)) ∙ ap (λ (l : List Bool). valueBy c (number l)) (part-front at u w (omega arith)) ∙ ap (valueBy c) (sym (field-number bs at u (omega arith))))
+      ap₂ _∷_ (ap (λ (l : List Bool). valueOf c (number l)) (part-front at u w (omega arith)) ∙ ap (valueOf c) (sym (field-number bs at u (omega arith))))
       (ap (valuesOf cs) (part-rest at u w (omega arith) inside) ∙ values-part cs (at + u) (w - u) (omega arith) (omega arith))
 
   rows-part : (lines : List Line) (at w : ℕ) → bodyWidth lines ≤ w → at + w ≤ 8 * length bs → rowsOf lines (part bs at w) ≡ rowsAt lines bs at

@@ -1,3 +1,3 @@
 pub mod At
-pub mod Plans
 pub mod Shapes
+pub mod Table

@@ -1,5 +1,4 @@
-// One row of a body: the shape of its values or its plan, and the row written into a lent part.
-pub mod plan;
+// One row of a body: the shape of its values, and the row written into a lent part.
 pub mod row;
 pub mod shape;
 pub mod shapes;

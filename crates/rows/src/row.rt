@@ -1,23 +1,21 @@
 // One row, written: its three keys, and the values that its columns have at a place. Windows are read without a
 // test, so eight bytes have to be there from the byte of the row's last bit on.
 ghost use mathlib.Core.Path.{_≡_};
-ghost use mathlib.Core.Bool.{cond};
 ghost use mathlib.Core.List.{[], _∷_};
-ghost use Prim.Native.Nat.{_+_, _*_, _^_, _≤_, _<_};
+ghost use Prim.Native.Nat.{_+_, _-_, _*_, _/_, _%_, _^_, _≤_, _<_};
+ghost use lib.IntN.{pos};
 ghost use lib.ListN.{length};
 ghost use Rattle.bits.specs.Places.{field};
-ghost use Rattle.format.specs.Rows.{gap};
-ghost use Rattle.rows.specs.At.{valueBy, valuesAt};
-ghost use Rattle.rows.specs.Plans.{oneColumn, orbitColumns, columnsBy};
-ghost use Rattle.rows.specs.Shapes.{columnOf, columnsOf, Formed, FormedShape};
-use crate::plan::Plan;
+ghost use Rattle.format.specs.Messages.{iodeWidth};
+ghost use Rattle.format.specs.Rows.{absent, valueOf};
+ghost use Rattle.rows.specs.At.{valuesAt};
+ghost use Rattle.rows.specs.Shapes.{columnOf, columnsOf, columnsIn, lastOf, Formed, FormedShape, Laid, Narrow};
 use crate::shape;
 use crate::shape::Column;
 use crate::shape::Shape;
+use crate::shapes;
 use bits::window;
-
-// What a gap holds (document 01, "What is handed out").
-const ABSENT: i32 = -32768;
+use format::ABSENT;
 
 // Eight numbers, stored.
 fn store(row: &mut [i32], a: i32, b: i32, c: i32, d: i32, e: i32, f: i32, g: i32, h: i32)
@@ -34,47 +32,58 @@ fn store(row: &mut [i32], a: i32, b: i32, c: i32, d: i32, e: i32, f: i32, g: i32
     row[7] = h;
 }
 
-// The value of one column, from a window of its own.
+// The value of one column, from a window of its own. A window is halved first, so that a shift by all of it, for a
+// column of no bits at its front, stays below 64.
 fn alone(bytes: &[u8], at: usize, c: Column) -> i32
     requires { ⌜ Formed c × (at + 64 ≤ 8 * length (now bytes)) ⌝ }
-    ensures { λ r. ⌜ r ≡ valueBy (columnOf c) (field (now (bytes .entry)) at (c .width)) ⌝ }
+    ensures { λ r. ⌜ r ≡ valueOf (columnOf c) (field (now (bytes .entry)) at (c .width)) ⌝ }
 {
     let half = window::eight(bytes, at / 8) >> 1;
     shape::value(half >> (63 - at % 8 - c.width), c)
 }
 
-// A row of two columns and three gaps: both values are cut from one window. The window is halved first, so
-// that a shift by all of it, for a column of no bits at its front, stays below 64.
-pub fn slim(
+// The value of a column that most rows do not have, from half a window of which so many bits are left.
+fn third(half: u64, left: usize, c: Column) -> i32
+    requires { ⌜ (half < 2 ^ 63) × (left ≤ 63) × (c .width ≤ left) × Formed c ⌝ }
+    ensures { λ r. ⌜ r ≡ valueOf (columnOf c) (half / 2 ^ (left - c .width) % 2 ^ (c .width)) ⌝ }
+{
+    if c.width == 0 {
+        return ABSENT;
+    }
+    shape::value(half >> (left - c.width), c)
+}
+
+// A row of three columns and two gaps: the values are cut from one window.
+pub fn three(
     row: &mut [i32],
     system: i32,
     satellite: i32,
     signal: i32,
     bytes: &[u8],
     at: usize,
-    v1: Column,
-    v2: Column,
+    s: Shape,
 )
-    requires { ⌜ (length (now row) ≡ 8) × Formed v1 × Formed v2 × (at + 64 ≤ 8 * length (now bytes)) ⌝ }
-    ensures { λ _. ⌜ now (row .exit) ≡ system ∷ satellite ∷ signal ∷ valuesAt (columnOf v1 ∷ columnOf v2 ∷ gap ∷ gap ∷ gap ∷ []) (now (bytes .entry)) at ⌝ }
+    requires { ⌜ (length (now row) ≡ 8) × FormedShape s × Narrow s × (at + 64 ≤ 8 * length (now bytes)) ⌝ }
+    ensures { λ _. ⌜ now (row .exit) ≡ system ∷ satellite ∷ signal ∷ valuesAt (columnsOf s) (now (bytes .entry)) at ⌝ }
 {
     let half = window::eight(bytes, at / 8) >> 1;
-    let first = 63 - at % 8 - v1.width;
-    let second = first - v2.width;
+    let first = 63 - at % 8 - s.v1.width;
+    let second = first - s.v2.width;
     store(
         row,
         system,
         satellite,
         signal,
-        shape::value(half >> first, v1),
-        shape::value(half >> second, v2),
-        ABSENT,
+        shape::value(half >> first, s.v1),
+        shape::value(half >> second, s.v2),
+        third(half, second, s.v3),
         ABSENT,
         ABSENT,
     );
 }
 
-// A row of five columns: four values are cut from one window, the last from the one behind them.
+// A row of five columns: four values are cut from one window, moved so that the last of them is lowest, and the fifth
+// from the window behind them.
 pub fn wide(
     row: &mut [i32],
     system: i32,
@@ -82,83 +91,43 @@ pub fn wide(
     signal: i32,
     bytes: &[u8],
     at: usize,
-    shape: Shape,
+    s: Shape,
 )
-    requires { ⌜ (length (now row) ≡ 8) × (at < 2 ^ 32) × FormedShape shape × (at + 120 ≤ 8 * length (now bytes)) ⌝ }
-    ensures { λ _. ⌜ now (row .exit) ≡ system ∷ satellite ∷ signal ∷ valuesAt (columnsOf shape) (now (bytes .entry)) at ⌝ }
+    requires { ⌜ (length (now row) ≡ 8) × (at < 2 ^ 32) × FormedShape s × (at + 120 ≤ 8 * length (now bytes)) ⌝ }
+    ensures { λ _. ⌜ now (row .exit) ≡ system ∷ satellite ∷ signal ∷ valuesAt (columnsOf s) (now (bytes .entry)) at ⌝ }
 {
-    let behind = at + shape.v1.width + shape.v2.width + shape.v3.width + shape.v4.width;
+    let second = s.v3.width + s.v4.width;
+    let first = s.v2.width + second;
+    let front = s.v1.width + first;
     let half = window::eight(bytes, at / 8) >> 1;
-    let first = 63 - at % 8 - shape.v1.width;
-    let second = first - shape.v2.width;
-    let third = second - shape.v3.width;
-    let fourth = third - shape.v4.width;
+    let four = half >> (63 - at % 8 - front);
     store(
         row,
         system,
         satellite,
         signal,
-        shape::value(half >> first, shape.v1),
-        shape::value(half >> second, shape.v2),
-        shape::value(half >> third, shape.v3),
-        shape::value(half >> fourth, shape.v4),
-        alone(bytes, behind, shape.v5),
+        shape::value(four >> first, s.v1),
+        shape::value(four >> second, s.v2),
+        shape::value(four >> s.v4.width, s.v3),
+        shape::value(four, s.v4),
+        alone(bytes, at + front, s.v5),
     );
 }
 
-// A row of an orbit and one column more: an IODE of so many bits and three values are cut from one window, moved so
-// that the last of them is lowest.
-fn orbit(
+// A row of four gaps and one column.
+fn last(
     row: &mut [i32],
     system: i32,
     satellite: i32,
     signal: i32,
     bytes: &[u8],
     at: usize,
-    iode: usize,
     v5: Column,
 )
-    requires { ⌜ (length (now row) ≡ 8) × (at < 2 ^ 32) × (1 ≤ iode) × (iode ≤ 10) × Formed v5 × (at + 120 ≤ 8 * length (now bytes)) ⌝ }
-    ensures { λ _. ⌜ now (row .exit) ≡ system ∷ satellite ∷ signal ∷ valuesAt (orbitColumns iode v5) (now (bytes .entry)) at ⌝ }
+    requires { ⌜ (length (now row) ≡ 8) × Formed v5 × (at + 64 ≤ 8 * length (now bytes)) ⌝ }
+    ensures { λ _. ⌜ now (row .exit) ≡ system ∷ satellite ∷ signal ∷ valuesAt (columnsOf (lastOf v5)) (now (bytes .entry)) at ⌝ }
 {
-    let half = window::eight(bytes, at / 8) >> 1;
-    let four = half >> (22 - at % 8 - iode);
-    store(
-        row,
-        system,
-        satellite,
-        signal,
-        shape::number(four >> 41, iode),
-        shape::count(four >> 26, 15),
-        shape::count(four >> 13, 13),
-        shape::count(four, 13),
-        alone(bytes, at + iode + 41, v5),
-    );
-}
-
-// Where in a row its one column is.
-fn spot(first: bool) -> usize
-    ensures { λ r. ⌜ r ≡ cond first 3 7 ⌝ }
-{
-    if first { 3 } else { 7 }
-}
-
-// A row of one column, the first or the last.
-fn one(
-    row: &mut [i32],
-    system: i32,
-    satellite: i32,
-    signal: i32,
-    bytes: &[u8],
-    at: usize,
-    first: bool,
-    column: Column,
-)
-    requires { ⌜ (length (now row) ≡ 8) × Formed column × (at + 64 ≤ 8 * length (now bytes)) ⌝ }
-    ensures { λ _. ⌜ now (row .exit) ≡ system ∷ satellite ∷ signal ∷ valuesAt (oneColumn first column) (now (bytes .entry)) at ⌝ }
-{
-    let value = alone(bytes, at, column);
-    let i = spot(first);
+    let value = alone(bytes, at, v5);
     store(
         row,
         system,
@@ -168,37 +137,37 @@ fn one(
         ABSENT,
         ABSENT,
         ABSENT,
-        ABSENT,
+        value,
     );
-    row[i] = value;
 }
 
-// A row laid out by a plan, its IODE of so many bits, into a part of eight numbers.
-pub fn put(
+// A row of a satellite, an IODE in it of so many bits.
+pub fn satellite(
     row: &mut [i32],
-    system: i32,
-    satellite: i32,
-    signal: i32,
+    system: u8,
+    number: i32,
     bytes: &[u8],
     at: usize,
-    plan: Plan,
     iode: usize,
+    s: Shape,
 )
-    requires { ⌜ (length (now row) ≡ 8) × (at < 2 ^ 32) × (1 ≤ iode) × (iode ≤ 10) × Formed (plan .column) × (at + 120 ≤ 8 * length (now bytes)) ⌝ }
-    ensures { λ _. ⌜ now (row .exit) ≡ system ∷ satellite ∷ signal ∷ valuesAt (columnsBy plan iode) (now (bytes .entry)) at ⌝ }
+    requires { ⌜ (length (now row) ≡ 8) × (at < 2 ^ 32) × (iode ≡ iodeWidth system) × FormedShape s × Laid s × (at + 120 ≤ 8 * length (now bytes)) ⌝ }
+    ensures { λ _. ⌜ now (row .exit) ≡ pos system ∷ number ∷ absent ∷ valuesAt (columnsIn s system) (now (bytes .entry)) at ⌝ }
 {
-    if plan.orbit {
-        orbit(row, system, satellite, signal, bytes, at, iode, plan.column);
-        return;
+    let id = system as i32;
+    if s.iode {
+        wide(
+            row,
+            id,
+            number,
+            ABSENT,
+            bytes,
+            at,
+            shapes::orbit(iode, s.v5),
+        );
+    } else if s.v1.width + s.v2.width + s.v3.width == 0 {
+        last(row, id, number, ABSENT, bytes, at, s.v5);
+    } else {
+        three(row, id, number, ABSENT, bytes, at, s);
     }
-    one(
-        row,
-        system,
-        satellite,
-        signal,
-        bytes,
-        at,
-        plan.first,
-        plan.column,
-    );
 }

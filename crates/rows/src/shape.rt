@@ -1,9 +1,8 @@
 // Columns and shapes of a row (document 01, "Message layouts" and "What is handed out").
 ghost use mathlib.Core.Path.{_≡_};
 ghost use Prim.Native.Nat.{_%_, _^_, _≤_, _<_};
-ghost use Rattle.format.specs.Rows.{gap, plain, counts};
-ghost use Rattle.rows.specs.At.{valueBy};
-ghost use Rattle.rows.specs.Shapes.{columnFor, columnOf, Formed};
+ghost use Rattle.format.specs.Rows.{gap, plain, counts, valueOf, shapeWidth};
+ghost use Rattle.rows.specs.Shapes.{columnFor, columnOf, columnsOf, Formed, FormedShape};
 
 // A column of v1 to v5, as the numbers that turn bits into its value: nothing, a number, or two's complement. Of 32
 // bits each, since what they make has 32: a loop's machine code then adds and masks with them where they lie.
@@ -11,11 +10,12 @@ pub struct Column {
     pub width: usize,
     pub half: u32,
     pub mask: u32,
-    pub less: u32,
 }
 
-// Five columns.
+// Five columns. Where `iode` is set the first is an IODE, whose width goes by the row's system (8 bits, 10 for
+// Galileo): the rest of the shape holds for all of them.
 pub struct Shape {
+    pub iode: bool,
     pub v1: Column,
     pub v2: Column,
     pub v3: Column,
@@ -23,14 +23,14 @@ pub struct Shape {
     pub v5: Column,
 }
 
+// Of no bits the value is half less than 0, which is what stands for an absent one.
 pub fn gap() -> Column
     ensures { λ r. ⌜ r ≡ columnFor gap ⌝ }
 {
     Column {
         width: 0,
-        half: 0,
+        half: 32768,
         mask: 0,
-        less: 32768,
     }
 }
 
@@ -42,7 +42,6 @@ pub fn plain(w: usize) -> Column
         width: w,
         half: 0,
         mask: (1u32 << w) - 1,
-        less: 0,
     }
 }
 
@@ -50,36 +49,26 @@ pub fn counts(w: usize) -> Column
     requires { ⌜ (1 ≤ w) × (w ≤ 15) ⌝ }
     ensures { λ r. ⌜ r ≡ columnFor (counts w) ⌝ }
 {
-    let half = 1u32 << (w - 1);
     Column {
         width: w,
-        half,
+        half: 1u32 << (w - 1),
         mask: (1u32 << w) - 1,
-        less: half,
     }
 }
 
 // The value of a column whose bits are the low ones of a number.
 pub fn value(x: u64, c: Column) -> i32
     requires { ⌜ (x < 2 ^ 63) × Formed c ⌝ }
-    ensures { λ r. ⌜ r ≡ valueBy (columnOf c) (x % 2 ^ (c .width)) ⌝ }
+    ensures { λ r. ⌜ r ≡ valueOf (columnOf c) (x % 2 ^ (c .width)) ⌝ }
 {
     let y = (x + (c.half as u64)) & (c.mask as u64);
-    (y as i32) - (c.less as i32)
+    (y as i32) - (c.half as i32)
 }
 
-// The value of a number of w bits, the low ones of a number.
-pub fn number(x: u64, w: usize) -> i32
-    requires { ⌜ (x < 2 ^ 63) × (1 ≤ w) × (w ≤ 15) ⌝ }
-    ensures { λ r. ⌜ r ≡ valueBy (plain w) (x % 2 ^ w) ⌝ }
+// How many bits a row has.
+pub fn width(s: Shape) -> usize
+    requires { ⌜ FormedShape s ⌝ }
+    ensures { λ r. ⌜ r ≡ shapeWidth (columnsOf s) ⌝ }
 {
-    value(x, plain(w))
-}
-
-// And of two's complement.
-pub fn count(x: u64, w: usize) -> i32
-    requires { ⌜ (x < 2 ^ 63) × (1 ≤ w) × (w ≤ 15) ⌝ }
-    ensures { λ r. ⌜ r ≡ valueBy (counts w) (x % 2 ^ w) ⌝ }
-{
-    value(x, counts(w))
+    s.v1.width + s.v2.width + s.v3.width + s.v4.width + s.v5.width
 }

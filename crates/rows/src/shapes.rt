@@ -1,47 +1,163 @@
-// The shapes of rows of cells and packets (document 01, sub types 4, 5 and 10).
+// The table of the rows' shapes (document 01, sub types 2, 3, 4, 5, 10 and 11), by number: those of sub type 11 first,
+// by its flags.
 ghost use mathlib.Core.Path.{_≡_};
-ghost use Rattle.format.specs.Messages.{codeShape, phaseShape, packetShape};
-ghost use Rattle.format.specs.Rows.{gap};
-ghost use Rattle.rows.specs.Shapes.{columnFor, shapeWith};
+ghost use mathlib.Core.Bool.{false};
+ghost use Prim.Native.Nat.{_≤_, _<_};
+ghost use Rattle.format.specs.Messages.{iodeWidth};
+ghost use Rattle.format.specs.Rows.{gap, shapeWidth};
+ghost use Rattle.rows.specs.Shapes.{columnFor, orbitOf, lastOf};
+ghost use Rattle.rows.specs.Table.{shapeAt, shapeFor};
 use crate::shape;
 use crate::shape::Column;
 use crate::shape::Shape;
 
-// Two columns and three gaps.
-fn slim(v1: Column, v2: Column) -> Shape
-    ensures { λ r. ⌜ r ≡ record { v1 = v1; v2 = v2; v3 = columnFor gap; v4 = columnFor gap; v5 = columnFor gap } ⌝ }
+// Sub type 11's by its flags: neither is set.
+pub const NONE: usize = 0;
+
+// The clock's alone.
+pub const LAST: usize = 1;
+
+// The orbit's alone, which is sub type 2's shape too.
+pub const ORBIT: usize = 2;
+
+// Both.
+pub const COMBINED: usize = 3;
+
+// Sub type 3.
+pub const CLOCK: usize = 4;
+
+// Sub type 4.
+pub const CODE: usize = 5;
+
+// Sub type 5.
+pub const PHASE: usize = 6;
+
+// Sub type 10.
+pub const PACKET: usize = 7;
+
+// How many bits an IODE has: 10 for Galileo.
+pub fn iode(system: u8) -> usize
+    ensures { λ r. ⌜ r ≡ iodeWidth system ⌝ }
+{
+    if system == 2 { 10 } else { 8 }
+}
+
+// An orbit, its IODE of so many bits, and one column more.
+pub fn orbit(iode: usize, v5: Column) -> Shape
+    requires { ⌜ (1 ≤ iode) × (iode ≤ 10) ⌝ }
+    ensures { λ r. ⌜ r ≡ orbitOf iode v5 ⌝ }
+{
+    let across = shape::counts(13);
+    Shape {
+        iode: true,
+        v1: shape::plain(iode),
+        v2: shape::counts(15),
+        v3: across,
+        v4: across,
+        v5,
+    }
+}
+
+// Gaps instead of an orbit, and one column.
+fn last(column: Column) -> Shape
+    ensures { λ r. ⌜ r ≡ lastOf column ⌝ }
 {
     let none = shape::gap();
     Shape {
+        iode: false,
+        v1: none,
+        v2: none,
+        v3: none,
+        v4: none,
+        v5: column,
+    }
+}
+
+// Three columns and two gaps.
+fn three(v1: Column, v2: Column, v3: Column) -> Shape
+    ensures { λ r. ⌜ r ≡ record { iode = false; v1 = v1; v2 = v2; v3 = v3; v4 = columnFor gap; v5 = columnFor gap } ⌝ }
+{
+    let none = shape::gap();
+    Shape {
+        iode: false,
         v1,
         v2,
-        v3: none,
+        v3,
         v4: none,
         v5: none,
     }
 }
 
-pub fn code() -> Shape
-    ensures { λ r. ⌜ r ≡ shapeWith codeShape ⌝ }
+fn clock() -> Shape
+    ensures { λ r. ⌜ r ≡ shapeFor 4 ⌝ }
 {
-    slim(shape::counts(11), shape::gap())
+    three(shape::counts(15), shape::gap(), shape::gap())
 }
 
-pub fn phase() -> Shape
-    ensures { λ r. ⌜ r ≡ shapeWith phaseShape ⌝ }
+fn code() -> Shape
+    ensures { λ r. ⌜ r ≡ shapeFor 5 ⌝ }
 {
-    slim(shape::counts(15), shape::plain(2))
+    three(shape::counts(11), shape::gap(), shape::gap())
+}
+
+fn phase() -> Shape
+    ensures { λ r. ⌜ r ≡ shapeFor 6 ⌝ }
+{
+    three(shape::counts(15), shape::plain(2), shape::gap())
 }
 
 pub fn packet() -> Shape
-    ensures { λ r. ⌜ r ≡ shapeWith packetShape ⌝ }
+    ensures { λ r. ⌜ r ≡ shapeFor 7 ⌝ }
 {
     let byte = shape::plain(8);
     Shape {
+        iode: false,
         v1: byte,
         v2: byte,
         v3: byte,
         v4: byte,
         v5: byte,
     }
+}
+
+pub fn shape_of(i: usize) -> Shape
+    requires { ⌜ i < 8 ⌝ }
+    ensures { λ r. ⌜ r ≡ shapeFor i ⌝ }
+{
+    match i {
+        NONE => last(shape::gap()),
+        LAST => last(shape::counts(15)),
+        ORBIT => orbit(iode(0), shape::gap()),
+        COMBINED => orbit(iode(0), shape::counts(15)),
+        CLOCK => clock(),
+        CODE => code(),
+        PHASE => phase(),
+        _ => packet(),
+    }
+}
+
+// How many bits a row of a system has. Not by shape_of, which is too large to be inlined: here each arm is a sum that
+// the compiler knows.
+pub fn width_in(i: usize, system: u8) -> usize
+    requires { ⌜ i < 8 ⌝ }
+    ensures { λ r. ⌜ r ≡ shapeWidth (shapeAt i system) ⌝ }
+{
+    match i {
+        NONE => shape::width(last(shape::gap())),
+        LAST => shape::width(last(shape::counts(15))),
+        ORBIT => shape::width(orbit(iode(system), shape::gap())),
+        COMBINED => shape::width(orbit(iode(system), shape::counts(15))),
+        CLOCK => shape::width(clock()),
+        CODE => shape::width(code()),
+        PHASE => shape::width(phase()),
+        _ => shape::width(packet()),
+    }
+}
+
+// And of most systems.
+pub fn width_of(i: usize) -> usize
+    requires { ⌜ i < 8 ⌝ }
+    ensures { λ r. ⌜ r ≡ shapeWidth (shapeAt i 0) ⌝ }
+{
+    width_in(i, 0)
 }

@@ -8,23 +8,25 @@ use native.Mathlib.Omega.{arith}
 use lib.IntN.{ℤ}
 use lib.ListN.{length}
 use borrow.Author.Tests.{le-leb}
-use Rattle.format.specs.Good.{good}
-use Rattle.format.specs.Masks.{Held}
-use Rattle.format.specs.Reading.{stretchLimit, rowRoom, Outcome, accepted, placed, readingBy, reading, answerOf, heldAfter, rowsAfter}
+use Rattle.format.specs.Good.{good, isHolding}
+use Rattle.format.specs.Masks.{Lent, lent, heldIn}
+use Rattle.format.specs.Reading.{stretchLimit, rowRoom, Outcome, accepted, placed, lentTests, readingBy, reading, answerOf, lentAfter, rowsAfter}
 use Rattle.format.specs.Table.{Message, table}
+use Rattle.format.specs.Tests.{verdict}
 use Rattle.format.specs.Walking.{Walk, hand, goOn, walkOn, messages, rowCount}
 use Rattle.format.proofs.CutWalks.{over-long}
 use Rattle.format.proofs.HeldGood.{reading-good}
 use Rattle.format.proofs.Stops.{Stopped, reading-ends, stop-holds}
 use Rattle.format.proofs.Walks.{ends-inside, walk-step, stop-ends}
 use Rattle.holding.specs.Pictures.{pictureOf, maskOf}
-use Rattle.holding.proofs.Pictured.{mask-picture, sound-picture, picture-sound}
+use Rattle.holding.proofs.Pictured.{mask-picture, sound-picture}
+use Rattle.holding.proofs.Sounds.{sounds}
 use Rattle.reader.specs.Readings.{readAt}
 use Rattle.reader.proofs.FewRows.{few-rows}
 use Rattle.walk.specs.Standing.{Stand, Stands, restOf, walkedWith, walkedFrom, rowsFrom, Gone}
 
 pub gone-nowhere : (bytes : List ℕ) (end : ℕ) (s : Stand) → Gone bytes end s s
-gone-nowhere bytes end s = record { forth = le-refl (s .place); walked = refl; numbers = refl }
+gone-nowhere bytes end s = record { forth = le-refl (s .tally .place); walked = refl; numbers = refl }
 
 pub gone-on : {bytes : List ℕ} {end : ℕ} {s t u : Stand} → Gone bytes end s t → Gone bytes end t u → Gone bytes end s u
 gone-on first then = record { forth = omega (arith, first .forth, then .forth); walked = first .walked ∙ then .walked; numbers = first .numbers ∙ then .numbers }
@@ -32,13 +34,14 @@ gone-on first then = record { forth = omega (arith, first .forth, then .forth); 
 -- ---- an accepted reading
 
 -- where it ends
-moves : (held : Held) (bytes : List ℕ) (end place : ℕ) (rows : List ℤ) (m : Message) (next : ℕ) → reading true held bytes end place rows ≡ accepted m next
+moves : (holding : Lent) (bytes : List ℕ) (end place : ℕ) (rows : List ℤ) (m : Message) (next : ℕ) → reading holding bytes end place rows ≡ accepted m next
     → (place < next) × (next ≤ end)
-moves held bytes end place rows m next =
-    reading-ends (λ o. o ≡ accepted m next → (place < next) × (next ≤ end)) held (λ r missing e. absurd (let z : _≡_ {A = ℕ} 0 1 = cc in omega arith)) table true bytes end place rows
+moves holding bytes end place rows m next =
+    reading-ends (λ o. o ≡ accepted m next → (place < next) × (next ≤ end)) table bytes end place rows holding
+    (λ r missing e. absurd (let z : _≡_ {A = ℕ} 0 1 = cc in omega arith))
     (λ e. absurd (let z : _≡_ {A = ℕ} 0 1 = cc in omega arith))
     (λ n taken ran e.
-    let inside = ends-inside table held bytes end place n taken ran in
+    let inside = ends-inside table holding bytes end place n taken ran in
     let same : place + taken ≡ next = cc in
     (omega arith, omega arith))
 
@@ -52,9 +55,7 @@ counted a b m w =
 abbrev pub nextStand : Stand → Message → ℕ → Stand
 nextStand s m next = record {
   holding = pictureOf (m .after);
-  place = next;
-  messages = s .messages + 1;
-  count = s .count + length (m .content .rows);
+  tally = record { place = next; messages = s .tally .messages + 1; rows = s .tally .rows + length (m .content .rows) };
   rows = rowsAfter (accepted m next) (s .rows);
 }
 
@@ -62,49 +63,51 @@ nextStand s m next = record {
 pub record Goes (bytes : List ℕ) (end : ℕ) (s t : Stand) : Type 0 where
   pub gone : Gone bytes end s t
   pub stands : Stands bytes end t
-  pub past : s .place < t .place
+  pub past : s .tally .place < t .tally .place
 
 module _ (bytes : List ℕ) (end : ℕ) (s : Stand) (stands : Stands bytes end s) where
-  abbrev held : Held
-  held = maskOf (s .holding)
+  abbrev held : Lent
+  held = lent (maskOf (s .holding))
 
   abbrev found : Outcome
-  found = readAt (s .holding) bytes end (s .place)
+  found = readAt (s .holding) bytes end (s .tally .place)
+
+  good-held : good (maskOf (s .holding)) ≡ true
+  good-held = sounds (s .holding) (stands .held) .good-held
 
   -- the reading there tests nothing that was not tested
-  there : reading true held bytes end (s .place) (s .rows) ≡ found
-  unfolding readingBy placed readAt
+  there : reading held bytes end (s .tally .place) (s .rows) ≡ found
+  unfolding readingBy lentTests verdict placed isHolding heldIn
   there =
-      rw (le-leb rowRoom (length (s .rows)) (stands .room), le-leb end stretchLimit (stands .limit), le-leb end (8 * length bytes) (stands .lent), le-leb (s .place) end (stands .there))
-      refl
+      rw (le-leb rowRoom (length (s .rows)) (stands .room), le-leb end stretchLimit (stands .limit), le-leb end (8 * length bytes) (stands .lent), le-leb (s .tally .place) end (stands .there), good-held)
 
   module _ (m : Message) (next : ℕ) (said : found ≡ accepted m next) where
     abbrev t : Stand
     t = nextStand s m next
 
     good-after : good (m .after) ≡ true
-    unfolding heldAfter
-    good-after = rw (there ∙ said) at (reading-good held bytes end (s .place) (s .rows) (picture-sound (s .holding) (stands .held) .0))
+    unfolding lentAfter isHolding
+    good-after = rw (there ∙ said) at (reading-good held bytes end (s .tally .place) (s .rows) good-held)
 
     rest-next : restOf bytes end s ≡ hand (m .content) (restOf bytes end t)
     unfolding restOf goOn
     rest-next =
-        walk-step table true held bytes end (s .place) (s .rows)
-        ∙ ap (λ (o : Outcome). goOn o (s .place) (s .rows) (λ n to. walkOn table (good (n .after)) (n .after) bytes end to (rowsAfter (accepted n to) (s .rows)))) (there ∙ said)
-        ∙ rw (good-after, mask-picture (m .after) good-after) refl
+        walk-step table held bytes end (s .tally .place) (s .rows)
+        ∙ ap (λ (o : Outcome). goOn o (s .tally .place) (s .rows) (λ n to. walkOn table (lent (n .after)) bytes end to (rowsAfter (accepted n to) (s .rows)))) (there ∙ said)
+        ∙ rw (mask-picture (m .after) good-after)
 
-    next-gone : s .place < next → Gone bytes end s t
+    next-gone : s .tally .place < next → Gone bytes end s t
     unfolding walkedFrom rowsFrom hand
     next-gone past = record {
       forth = omega (arith, past);
-      walked = ap (walkedWith (s .messages) (s .count)) rest-next ∙ counted (s .messages) (s .count) m (restOf bytes end t);
+      walked = ap (walkedWith (s .tally .messages) (s .tally .rows)) rest-next ∙ counted (s .tally .messages) (s .tally .rows) m (restOf bytes end t);
       numbers = ap (λ (w : Walk). w .rows) rest-next;
     }
 
-    next-stands : (s .place < next) → (next ≤ end) → Stands bytes end t
+    next-stands : (s .tally .place < next) → (next ≤ end) → Stands bytes end t
     unfolding rowsAfter
     next-stands past inside =
-        let few = few-rows (s .holding) (stands .held) bytes end (s .place) (stands .lent) (stands .there) m next said in
+        let few = few-rows (s .holding) (stands .held) bytes end (s .tally .place) (stands .lent) (stands .there) m next said in
         record {
           held = sound-picture (m .after) good-after;
           lent = stands .lent;
@@ -117,25 +120,27 @@ module _ (bytes : List ℕ) (end : ℕ) (s : Stand) (stands : Stands bytes end s
 
     pub next-goes : Goes bytes end s t
     next-goes =
-        let after = moves held bytes end (s .place) (s .rows) m next (there ∙ said) in
+        let after = moves held bytes end (s .tally .place) (s .rows) m next (there ∙ said) in
         record { gone = next-gone (after .0); stands = next-stands (after .0) (after .1); past = after .0 }
 
   -- ---- a stop
 
   module _ (stopped : Stopped found) where
-    rest-stop : restOf bytes end s ≡ record { handed = []; stop = found; place = s .place; rows = s .rows }
+    rest-stop : restOf bytes end s ≡ record { handed = []; stop = found; place = s .tally .place; rows = s .rows }
     unfolding restOf
-    rest-stop = stop-ends table true held bytes end (s .place) (s .rows) found there stopped
+    rest-stop = stop-ends table held bytes end (s .tally .place) (s .rows) found there stopped
 
-    kept : pictureOf (heldAfter found) ≡ s .holding
-    kept =
-        ap (λ (o : Outcome). pictureOf (heldAfter o)) (sym there)
-        ∙ ap pictureOf (stop-holds true held bytes end (s .place) (s .rows) (subst Stopped (sym there) stopped))
-        ∙ picture-sound (s .holding) (stands .held) .1
+    -- what is lent stays
+    pub stop-lent : lentAfter found ≡ held
+    stop-lent = ap lentAfter (sym there) ∙ stop-holds held bytes end (s .tally .place) (s .rows) (subst Stopped (sym there) stopped)
 
-    pub stop-walked : record { stop = answerOf found; place = s .place; messages = s .messages; rows = s .count; holding = s .holding } ≡ walkedFrom bytes end s
+    kept : pictureOf (heldIn (lentAfter found)) ≡ s .holding
+    unfolding heldIn
+    kept = ap (λ (l : Lent). pictureOf (heldIn l)) stop-lent ∙ sounds (s .holding) (stands .held) .picture
+
+    pub stop-walked : record { stop = answerOf found; tally = s .tally; holding = s .holding } ≡ walkedFrom bytes end s
     unfolding walkedFrom walkedWith messages rowCount
-    stop-walked = rw (rest-stop, kept, add-zero (s .messages), add-zero (s .count)) refl
+    stop-walked = rw (rest-stop, kept, add-zero (s .tally .messages), add-zero (s .tally .rows))
 
     pub stop-numbers : s .rows ≡ rowsFrom bytes end s
     unfolding rowsFrom

@@ -1,37 +1,42 @@
--- `heads::common` meets its contract.
--- Assumes nothing.
-use mathlib.Core.Path.{ap}
-use Prim.Native.Nat.{_+_, _-_}
+-- `heads::common` meets its contract. Assumes nothing.
+use mathlib.Core.Path.{_≡_, _∙_, sym}
+use Prim.Native.Nat.{_-_, _<_}
 use native.Mathlib.Omega.{arith}
 use borrow.Author.Needs.{needs}
-use borrow.Author.Tests.{lt-ltb, le-ltb}
-use Rattle.heads.specs.declared.Opened.the-variants.{Short}
-use Rattle.heads.specs.Openings.{commonAt}
-use Rattle.heads.proofs.Parts.{epoch-part, interval-part, indicator-part, iod-part}
+use Rattle.bits.specs.Short.{bitsOf, widthsOf}
+use Rattle.bits.proofs.Short.{field-whole, field-short}
+use Rattle.heads.proofs.Commons.{taken-whole, taken-cut}
 use Rattle.heads.proofs.common.Statement.{statement}
 use Rattle.heads.proofs.common.Tie as tie
 
 returns : tie.Need-returns
-unfolding commonAt
 returns c =
-    let x = c .before .before .before .args in
-    rw (lt-ltb (x .end - x .place) (x .w + 9) (omega arith)) (ap Short (c .head-short .ensures))
+    let g = c .before .before in
+    let took = g .before .before in
+    let s = took .before .before in
+    let x = s .args in
+    let it = field-whole (x .bytes .now) (x .end) (x .place) 21 (g .taken .given .0 .0) (sym (took .take-field .ensures) ∙ g .taken .given .1) in
+    taken-whole (x .bytes .now) (x .end) (s .pre .0) (x .place) (s .pre .1) 12 (omega arith) (it .0) _ (it .1) _ (c .parted .ensures)
+
+-- it is not there
+short : (c : tie.After-enum-told) → c .before .before .before .before .args .end - c .before .before .before .before .args .place < 21
+short c =
+    let took = c .before .before in
+    let x = took .before .before .args in
+    field-short (x .bytes .now) (x .end) (x .place) 21 (c .enum-told .given .0 .0) (sym (took .take-field .ensures) ∙ c .enum-told .given .1) .0
+
+short-by-requires : tie.Need-short-by-requires
+unfolding bitsOf widthsOf
+short-by-requires c κs = short c
 
 returns-2 : tie.Need-returns-2
-unfolding commonAt
+unfolding widthsOf
 returns-2 c =
-    let x = c .before .before .before .args in
-    let bs = x .bytes .now in
-    rw (
-      le-ltb (x .end - x .place) (x .w + 9) (omega arith),
-      c .read-field .ensures,
-      epoch-part bs (x .place) (x .w),
-      interval-part bs (x .place) (x .w),
-      indicator-part bs (x .place) (x .w),
-      iod-part bs (x .place) (x .w),
-    )
+    let s = c .before .before .before .before .before in
+    let x = s .args in
+    taken-cut (x .bytes .now) (x .end) (s .pre .0) (x .place) (s .pre .1) 12 (omega arith) (short (c .before)) _ (c .short-by .ensures)
 
 pub common-spec : {M : Type 1} → statement M
 common-spec =
     tie.close
-    (tie.spec (λ c. search needs) (λ c. search needs) (λ c κs. search needs) returns (λ c. search needs) (λ c κs. search needs) returns-2)
+    (tie.spec (λ c. search needs) (λ c κs. search needs) (λ c. search needs) (λ c κs. search needs) (λ c. search needs) (λ c. search needs) short-by-requires returns returns-2)

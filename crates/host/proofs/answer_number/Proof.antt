@@ -1,5 +1,4 @@
--- `host::answer_number` meets its contract.
--- Assumes nothing.
+-- `host::answer_number` meets its contract. Assumes nothing.
 use mathlib.Core.Path.{sym, ap, _∙_}
 use borrow.Author.Needs.{needs}
 use Rattle.host.specs.Handing.{answerNumber}

@@ -5,6 +5,7 @@ use native.Mathlib.Omega.{arith}
 use borrow.Author.Needs.{needs}
 use borrow.Author.Tests.{le-leb, lt-leb}
 use lib.ListN.{length}
+use Rattle.passing.specs.Passing.{size}
 use Rattle.format.specs.Good.{good}
 use Rattle.format.specs.Masks.{nothing}
 use Rattle.holding.proofs.Pictured.{sound-picture}
@@ -16,7 +17,7 @@ returns : tie.Need-returns
 unfolding emptied emptiedNumber
 returns c =
     let bs = c .before .before .args .holding .now in
-    rw (lt-leb 194 (length bs) (omega arith)) (refl, refl)
+    rw (lt-leb size (length bs) (omega arith)) (refl, refl)
 
 holding-over-requires : tie.Need-holding-over-requires
 unfolding good
@@ -26,7 +27,7 @@ returns-2 : tie.Need-returns-2
 unfolding emptied emptiedNumber
 returns-2 c =
     let bs = c .before .before .before .before .before .before .before .args .holding .now in
-    rw (le-leb 194 (length bs) (omega arith)) (refl, c .before .before .holding-over .ensures ∙ rw (c .before .before .before .empty .ensures))
+    rw (le-leb size (length bs) (omega arith)) (refl, c .before .before .holding-over .ensures ∙ rw (c .before .before .before .empty .ensures))
 
 pub hundurzek-empty-spec : {M : Type 1} → statement M
 hundurzek-empty-spec =

@@ -1,22 +1,35 @@
--- `host::hundurzek_read` meets its contract.
--- Assumes nothing.
+-- `host::hundurzek_read` meets its contract. Assumes nothing.
 use mathlib.Core.Path.{_≡_, sym, ap, _∙_}
+use mathlib.Core.Bool.{true}
 use mathlib.Core.List.{List}
-use Prim.Native.Nat.{ℕ}
+use Prim.Native.Nat.{ℕ, _+_}
+use native.Mathlib.Omega.{arith}
+use lib.ListN.{length}
 use borrow.Author.Needs.{needs}
-use mir.Facts.{toZ-ofZ}
-use mir.Syntax.{w32}
-use Rattle.format.specs.Reading.{Outcome, answerOf, rowsAfter}
-use Rattle.reader.specs.declared.Reading.{Reading}
-use Rattle.host.specs.Handing.{hostOutcome}
-use Rattle.host.proofs.Outcomes.{idle-tag, idle-handed, refused-handed, message-handed, after-known}
-use Rattle.passing.specs.Passing.{holdingIn}
-use Rattle.reader.specs.Readings.{holdingAfter, readingOf}
+use denote.Enum.Declared.{tagOf}
+use Rattle.bits.proofs.Windows.{Bytes}
+use Rattle.format.specs.Good.{isHolding}
+use Rattle.format.specs.Masks.{Lent}
+use Rattle.format.specs.Messages.{maskMessage}
+use Rattle.format.specs.Programs.{run}
+use Rattle.format.specs.Reading.{Outcome, bitsFrom, lentAfter, answerOf, over, rowsAfter}
+use Rattle.heads.specs.Sorting.{adoptedBy}
+use Rattle.holding.specs.declared.Holding.{Holding}
+use Rattle.holding.specs.Pictures.{maskOf, sound}
+use Rattle.format.proofs.HeldGood.{reading-good}
+use Rattle.host.specs.Handing.{handedBy, bytesAfter, hostOutcome}
+use Rattle.host.proofs.Outcomes.{bytes-pass, bytes-stay}
 use Rattle.host.proofs.hundurzek_read.Statement.{statement}
 use Rattle.host.proofs.hundurzek_read.Tie as tie
+use Rattle.passing.specs.Passing.{bytesOf, holdingIn}
+use Rattle.passing.proofs.Returns.{bytes-return}
+use Rattle.reader.specs.Readings.{lentBy, outcomeAt, soughtAt}
+use Rattle.reader.proofs.Lents.{is-holding}
+use Rattle.reader.proofs.message.Found.{the-type}
+use Rattle.reader.proofs.Sought.{SoughtMask, sought-mask, sought-answer}
 
--- what the reading answered, under the holding that the lent bytes say
-module _ (c : tie.After-read) where
+-- what was found, under the holding that the lent bytes say
+module _ (c : tie.After-seek) where
   abbrev s : tie.Start
   s = c .before .before .before .before .before .before
 
@@ -26,51 +39,75 @@ module _ (c : tie.After-read) where
   abbrev outcome : Outcome
   outcome = hostOutcome lent (s .args .bytes .now) (s .args .end) (s .args .start) (s .args .rows .now)
 
-  said : (c .read .result ≡ readingOf (holdingIn lent) outcome) × (c .read .last .1 .1 .1 .1 .0 ≡ rowsAfter outcome (s .args .rows .now))
+  small : Bytes lent
+  small k = omega (arith, c .before .before .before .before .before .slice-known .given k)
+
+  said : (c .seek .result ≡ soughtAt (holdingIn lent) (s .args .bytes .now) (s .args .end) (s .args .start) (length (s .args .rows .now))) × (c .seek .last .1 .1 .1 .1 .0 ≡ rowsAfter outcome (s .args .rows .now))
   unfolding hostOutcome
-  said = rw (c .before .before .holding-in .ensures) at (c .read .ensures)
-
-  answered : answerOf outcome ≡ c .read .result .answer
-  unfolding readingOf
-  answered = sym (ap (λ (r : Reading). r .answer) (said .0))
-
-  kept : c .read .result .holding ≡ holdingAfter (holdingIn lent) outcome
-  unfolding readingOf
-  kept = ap (λ (r : Reading). r .holding) (said .0)
-
-keep-requires : tie.Need-keep-requires
-unfolding hostOutcome
-keep-requires c κs =
-    let r = c .before .before .before .before .before .before .before in
-    let x = s r .args in
-    let a = c .before .before .before .answer2 .given in
-    let known = after-known (lent r) (x .bytes .now) (x .end) (x .start) (x .rows .now) (a .0 .0) (a .0 .1 .0) (a .0 .1 .1 .0) (answered r ∙ a .1) in
-    (known .0, rw (kept r) (known .1))
+  said = rw (c .before .before .holding-in .ensures) at (c .seek .ensures)
 
 returns : tie.Need-returns
+unfolding hostOutcome
 returns c =
-    let r = c .before .before .before .before .before in
-    let stopped = idle-handed (outcome r) (s r .args .start) (lent r) (answered r ∙ idle-tag (r .read .result .answer) (c .before .before .match .keys1)) in
-    (c .stop .ensures ∙ stopped .0, (stopped .1, said r .1))
+    let g = c .before .before in
+    let k = g .before .before .before in
+    let x = s k .args in
+    let it = sought-answer (holdingIn (lent k)) (x .bytes .now) (x .end) (x .start) (x .rows .now) (g .found .given .0 .0) (sym (said k .0) ∙ g .found .given .1) in (
+      c .hand .ensures ∙ ap (handedBy (x .start)) (it .says),
+      (bytes-stay (lent k) (small k) ∙ ap (λ (l : Lent). bytesAfter l (lent k)) (sym (it .keeps)), said k .1),
+    )
+
+-- a mask
+module _ (c : tie.After-enum-told) where
+  abbrev k : tie.After-seek
+  k = c .before .before .before
+
+  found : SoughtMask (holdingIn (lent k)) (s k .args .bytes .now) (s k .args .end) (s k .args .start) (s k .args .rows .now)
+  found =
+      sought-mask (holdingIn (lent k)) (s k .args .bytes .now) (s k .args .end) (s k .args .start) (s k .args .rows .now)
+      (ap (tagOf the-type) (sym (said k .0) ∙ c .enum-told .given .1))
+
+  -- it is adopted to what reading there comes to
+  abbrev adoptedUnder : Holding → Outcome
+  adoptedUnder h = adoptedBy (maskOf h) (s k .args .start + 16) (run maskMessage (bitsFrom (s k .args .bytes .now) (s k .args .end) (s k .args .start + 16)))
+
+  same : k .before .before .holding-in .result ≡ holdingIn (lent k)
+  same = k .before .before .holding-in .ensures
+
+  adopts : adoptedUnder (k .before .before .holding-in .result) ≡ outcome k
+  unfolding hostOutcome
+  adopts = ap adoptedUnder same ∙ sym (found .reads ∙ found .found .adopts)
+
+  good : isHolding (lentAfter (outcome k)) ≡ true
+  unfolding hostOutcome outcomeAt
+  good = reading-good (lentBy (holdingIn (lent k))) (s k .args .bytes .now) (s k .args .end) (s k .args .start) (s k .args .rows .now) (is-holding (holdingIn (lent k)) ∙ found .fine .held)
+
+add-adopt : tie.Need-add-adopt
+add-adopt c = let f = found (c .before) in omega (arith, f .found .room, f .fine .inside .limit)
+
+adopt-requires : tie.Need-adopt-requires
+adopt-requires c κs =
+    let e = c .before in
+    let hb = lent (k e) in
+    let f = found e in (
+      f .fine .inside .lent,
+      f .fine .inside .limit,
+      f .found .room,
+      ap sound (same e) ∙ f .fine .held,
+      bytes-pass hb (f .fine .held),
+      ap (λ (h : Holding). over (bytesOf h) hb) (same e) ∙ bytes-return hb (small (k e)) (f .fine .held),
+      ap (λ (o : Outcome). isHolding (lentAfter o)) (adopts e) ∙ good e,
+    )
 
 returns-2 : tie.Need-returns-2
 returns-2 c =
-    let r = c .before .before .before .before .before .before .before in
-    let a = c .before .before .before .answer .given in
-    let stopped = refused-handed (outcome r) (s r .args .start) (lent r) (a .0 .0) (answered r ∙ a .1) in
-    (c .stop2 .ensures ∙ rw (c .before .number .ensures) (stopped .0), (stopped .1, said r .1))
-
-returns-3 : tie.Need-returns-3
-returns-3 c =
-    let r = c .before .before .before .before .before .before .before .before .before .before .before in
-    let a = c .before .before .before .before .before .before .before .answer2 .given in
-    let out = message-handed (holdingIn (lent r)) (outcome r) (s r .args .start) (lent r) (a .0 .0) (a .0 .1 .0) (a .0 .1 .1 .0) (answered r ∙ a .1) in
-    let fits = toZ-ofZ {w = w32} {z = a .0 .0 .subtype} (record { sfits = c .before .before .before .before .struct-told .given .0 .1 }) in
-    (c .message .ensures ∙ out .0, (c .before .before .before .keep .ensures ∙ rw (fits, kept r) (out .1), said r .1))
+    let a = c .before .before .before in
+    let e = a .before .before in (
+      c .hand2 .ensures ∙ ap (handedBy (s (k e) .args .start)) (a .adopt .ensures .0 ∙ ap answerOf (adopts e)),
+      (a .adopt .ensures .1 ∙ ap (λ (o : Outcome). bytesAfter (lentAfter o) (lent (k e))) (adopts e), said (k e) .1),
+    )
 
 pub hundurzek-read-spec : {M : Type 1} → statement M
 hundurzek-read-spec =
     tie.close
-    (tie.spec (λ c κs. search needs) (λ c κs. search needs) (λ c. search needs) (λ c κs. search needs) (λ c. search needs) (λ c κs. search needs)
-    (λ c κs. search needs) (λ c. search needs) keep-requires (λ c κs. search needs) (λ c. search needs) (λ c. search needs) returns
-    (λ c. search needs) (λ c. search needs) returns-2 (λ c. search needs) (λ c. search needs) returns-3)
+    (tie.spec (λ c κs. search needs) (λ c κs. search needs) (λ c. search needs) (λ c κs. search needs) (λ c. search needs) add-adopt adopt-requires (λ c κs. search needs) (λ c. search needs) (λ c. search needs) returns (λ c. search needs) (λ c. search needs) returns-2)

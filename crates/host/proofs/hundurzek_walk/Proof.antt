@@ -1,9 +1,10 @@
--- `host::hundurzek_walk` meets its contract.
--- Assumes nothing.
+-- `host::hundurzek_walk` meets its contract. Assumes nothing.
 use mathlib.Core.Path.{_≡_, ap, _∙_}
 use mathlib.Core.List.{List}
 use Prim.Native.Nat.{ℕ}
+use native.Mathlib.Omega.{arith}
 use borrow.Author.Needs.{needs}
+use Rattle.bits.proofs.Windows.{Bytes}
 use Rattle.format.specs.Walking.{Walk}
 use Rattle.host.specs.Handing.{hostWalk}
 use Rattle.host.proofs.Walks.{leave-known, left, walked-to}
@@ -23,6 +24,9 @@ module _ (c : tie.After-walk) where
   abbrev w : Walk
   w = hostWalk lent (s .args .bytes .now) (s .args .end) (s .args .rows .now)
 
+  small : Bytes lent
+  small k = omega (arith, c .before .before .before .before .before .slice-known .given k)
+
   said : (c .walk .result ≡ walkedOf (holdingIn lent) w) × (c .walk .last .1 .1 .1 .0 ≡ w .rows)
   unfolding hostWalk
   said = rw (c .before .before .holding-in .ensures) at (c .walk .ensures)
@@ -30,17 +34,19 @@ module _ (c : tie.After-walk) where
 leave-requires : tie.Need-leave-requires
 unfolding hostWalk
 leave-requires c κs some =
-    let v = c .before .before .before in
+    let v = c .before .before .before .before in
     leave-known (lent v) (s v .args .bytes .now) (s v .args .end) (s v .args .rows .now) (v .walk .result) (said v .0) some
 
 returns : tie.Need-returns
 unfolding hostWalk
 returns c =
-    let v = c .before .before .before .before .before .before .before in
+    let o = c .before .before .before in
+    let v = o .before .before .before .before .before in
     let x = s v .args in
+    let t = v .walk .result .tally in
     let told = walked-to (lent v) (x .bytes .now) (x .end) (x .rows .now) (v .walk .result) (said v .0) in (
-      ap (λ (n : ℕ). record { answer = n; place = v .walk .result .place; messages = v .walk .result .messages; rows = v .walk .result .rows }) (c .answer-number .ensures) ∙ told,
-      (c .before .before .before .leave .ensures ∙ left (lent v) (x .bytes .now) (x .end) (x .rows .now) (v .walk .result) (said v .0), said v .1),
+      ap (λ (n : ℕ). record { answer = n; place = t .place; messages = t .messages; rows = t .rows }) (c .answer-number .ensures) ∙ told,
+      (o .leave .ensures ∙ left (lent v) (x .bytes .now) (x .end) (x .rows .now) (v .walk .result) (said v .0) (small v), said v .1),
     )
 
 pub hundurzek-walk-spec : {M : Type 1} → statement M

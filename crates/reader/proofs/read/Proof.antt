@@ -1,46 +1,52 @@
--- `reader::read` meets its contract.
--- Assumes nothing.
-use mathlib.Core.Path.{_∙_, sym, ap, refl}
+-- `reader::read` meets its contract. Assumes nothing.
+use mathlib.Core.Path.{_≡_, _∙_, sym, ap, refl}
+use native.Mathlib.Omega.{arith}
 use borrow.Author.Needs.{needs}
-use lib.ListN.{length}
 use denote.Enum.Declared.{tagOf}
-use Rattle.format.specs.Reading.{answerOf, rowsAfter}
-use Rattle.holding.specs.Pictures.{sound}
-use Rattle.reader.specs.Readings.{holdingAfter, readingOf}
-use Rattle.reader.proofs.Lent.{the-type}
-use Rattle.reader.proofs.Outcomes.{inside, Fine, lent-good, no-reading, begun}
+use Rattle.reader.specs.Readings.{structOf, readingOf}
+use Rattle.reader.proofs.Lents.{lent-back}
+use Rattle.reader.proofs.Sought.{SoughtMask, sought-mask, SoughtAnswer, sought-answer}
+use Rattle.reader.proofs.message.Found.{the-type}
 use Rattle.reader.proofs.read.Statement.{statement}
 use Rattle.reader.proofs.read.Tie as tie
 
-returns : tie.Need-returns
-unfolding readingOf holdingAfter answerOf rowsAfter
-returns c =
-    let t = c .before .before .before .before in
-    let x = t .before .before .args in
-    let why = sym (t .tested .ensures) ∙ c .before .before .lent .given .1 in
-    rw (no-reading (x .holding) (x .bytes .now) (x .end) (x .start) (x .rows .now) _ why) (c .refused .ensures, refl)
+-- a mask was found
+module _ (c : tie.After-enum-told) where
+  abbrev k : tie.After-seek
+  k = c .before .before .before
 
--- what is lent is good
-module _ (c : tie.At-match-keys2) where
   abbrev s : tie.Start
-  s = c .before .before .before
+  s = k .before .before .before
 
-  fine : Fine (sound (s .args .holding)) (s .args .bytes .now) (s .args .end) (s .args .start) (length (s .args .rows .now))
-  fine = lent-good _ _ _ _ _ (ap (tagOf the-type) (sym (c .before .tested .ensures)) ∙ c .match .keys2)
+  found : SoughtMask (s .args .holding) (s .args .bytes .now) (s .args .end) (s .args .start) (s .args .rows .now)
+  found = sought-mask (s .args .holding) (s .args .bytes .now) (s .args .end) (s .args .start) (s .args .rows .now) (ap (tagOf the-type) (sym (k .seek .ensures .0) ∙ c .enum-told .given .1))
 
-at-requires : tie.Need-at-requires
-at-requires c κs =
-    let k = c .before .before in
-    let within = inside (s k .args .bytes .now) (s k .args .end) (s k .args .start) (fine k .inside) in
-    (fine k .held, within .lent, within .limit, within .there, fine k .rows)
+add-adopted : tie.Need-add-adopted
+add-adopted c = omega (arith, found c .found .room, found c .fine .inside .limit)
+
+adopted-requires : tie.Need-adopted-requires
+adopted-requires c κs =
+    let f = found c in
+    (f .fine .inside .lent, f .fine .inside .limit, f .found .room, f .fine .held)
+
+returns : tie.Need-returns
+returns c =
+    let e = c .before in
+    let f = found e in
+    (c .adopted .ensures ∙ ap (readingOf (s e .args .holding)) (sym (f .reads ∙ f .found .adopts)), k e .seek .ensures .1)
 
 returns-2 : tie.Need-returns-2
+unfolding readingOf
 returns-2 c =
-    let k = c .before .before .before .before in
-    let x = s k .args in
-    rw (begun (x .holding) (x .bytes .now) (x .end) (x .start) (x .rows .now) (fine k)) (c .before .at .ensures)
+    let g = c .before in
+    let r = g .before .before .before in
+    let t = r .before .before .before in
+    let x = t .args in
+    let it = sought-answer (x .holding) (x .bytes .now) (x .end) (x .start) (x .rows .now) (g .found .given .0 .0) (sym (r .seek .ensures .0) ∙ g .found .given .1) in
+    ((λ i. record { answer = it .says i; holding = sym (ap (structOf (x .holding)) (it .keeps) ∙ lent-back (x .holding)) i }), r .seek .ensures .1)
 
 pub read-spec : {M : Type 1} → statement M
 read-spec =
     tie.close
-    (tie.spec (λ c κs. search needs) (λ c. search needs) (λ c κs. search needs) returns (λ c. search needs) at-requires (λ c. search needs) returns-2)
+    (tie.spec (λ c κs. search needs) (λ c. search needs) add-adopted adopted-requires (λ c. search needs) (λ c. search needs) returns (λ c. search needs)
+    returns-2)

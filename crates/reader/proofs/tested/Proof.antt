@@ -4,35 +4,38 @@ use mathlib.Core.Path.{_∙_, sym, refl}
 use borrow.Author.Needs.{needs}
 use borrow.Author.Tests.{lt-leb, le-leb, not-true, not-false}
 use native.Mathlib.Omega.{arith}
-use Rattle.reader.specs.Readings.{lentAt}
+use Rattle.format.specs.Reading.{lentTests}
+use Rattle.format.specs.Tests.{verdict}
+use Rattle.reader.specs.Readings.{testedBy}
+use Rattle.reader.proofs.Lents.{is-holding}
 use Rattle.reader.proofs.tested.Statement.{statement}
 use Rattle.reader.proofs.tested.Tie as tie
 
 returns : tie.Need-returns
-unfolding lentAt
+unfolding testedBy lentTests verdict
 returns c = rw (lt-leb 2048 (c .before .before .args .room) (c .if1 .taken)) refl
 
 returns-2 : tie.Need-returns-2
-unfolding lentAt
+unfolding testedBy lentTests verdict
 returns-2 c =
     let x = c .before .before .before .before .args in
     let out = sym (c .before .is-placed .ensures) ∙ not-true _ (c .if2 .taken) in
     rw (le-leb 2048 (x .room) (omega arith), out) refl
 
 returns-3 : tie.Need-returns-3
-unfolding lentAt
+unfolding testedBy lentTests verdict
 returns-3 c =
     let x = c .before .before .before .before .before .before .args in
     let inside = sym (c .before .before .before .is-placed .ensures) ∙ not-false _ (c .before .before .if2 .left) in
-    let stray = sym (c .before .is-sound .ensures) ∙ not-true _ (c .if3 .taken) in
+    let stray = is-holding (x .holding) ∙ sym (c .before .is-sound .ensures) ∙ not-true _ (c .if3 .taken) in
     rw (le-leb 2048 (x .room) (omega arith), inside, stray) refl
 
 returns-4 : tie.Need-returns-4
-unfolding lentAt
+unfolding testedBy lentTests verdict
 returns-4 c =
     let x = c .before .before .before .before .before .before .args in
     let inside = sym (c .before .before .before .is-placed .ensures) ∙ not-false _ (c .before .before .if2 .left) in
-    let fine = sym (c .before .is-sound .ensures) ∙ not-false _ (c .if3 .left) in
+    let fine = is-holding (x .holding) ∙ sym (c .before .is-sound .ensures) ∙ not-false _ (c .if3 .left) in
     rw (le-leb 2048 (x .room) (omega arith), inside, fine) refl
 
 pub tested-spec : {M : Type 1} → statement M

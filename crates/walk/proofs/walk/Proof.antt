@@ -1,40 +1,44 @@
--- `walk::walk` meets its contract.
--- Assumes nothing.
-use mathlib.Core.Path.{sym, ap, _∙_}
+-- `walk::walk` meets its contract. Assumes nothing.
+use mathlib.Core.Path.{_≡_, sym, ap, _∙_}
 use lib.ListN.{length}
 use borrow.Author.Needs.{needs}
-use denote.Enum.Declared.{tagOf}
-use Rattle.holding.specs.Pictures.{sound}
-use Rattle.reader.proofs.Lent.{the-type}
-use Rattle.reader.proofs.Outcomes.{Fine, lent-good}
+use Rattle.reader.specs.declared.Verdict.the-variants.{Good}
+use Rattle.reader.specs.Readings.{testsOf, testedBy}
+use Rattle.reader.proofs.Outcomes.{Fine}
+use Rattle.reader.proofs.Sought.{good-lent}
 use Rattle.walk.proofs.Begins.{refused-walked, begin, begun-walked}
 use Rattle.walk.proofs.walk.Statement.{statement}
 use Rattle.walk.proofs.walk.Tie as tie
 
 returns : tie.Need-returns
 returns c =
-    let t = c .before .before .before in
+    let v = c .before in
+    let t = v .before .before in
     let x = t .before .before .args in
-    refused-walked (x .holding) (x .bytes .now) (x .end) (x .rows .now) _ (sym (t .tested .ensures) ∙ c .before .lent .given .1)
+    refused-walked (x .holding) (x .bytes .now) (x .end) (x .rows .now) _ (sym (t .tested .ensures) ∙ v .verdict .given .1)
 
 -- what is lent is good
-module _ (c : tie.At-match-keys2) where
-  abbrev s : tie.Start
-  s = c .before .before .before
+module _ (c : tie.After-enum-told) where
+  abbrev t : tie.After-tested
+  t = c .before .before
 
-  fine : Fine (sound (s .args .holding)) (s .args .bytes .now) (s .args .end) 0 (length (s .args .rows .now))
-  fine = lent-good _ _ _ _ _ (ap (tagOf the-type) (sym (c .before .tested .ensures)) ∙ c .match .keys2)
+  abbrev s : tie.Start
+  s = t .before .before
+
+  fine : Fine (s .args .holding) (s .args .bytes .now) (s .args .end) 0 (length (s .args .rows .now))
+  fine = good-lent (s .args .holding) (s .args .bytes .now) (s .args .end) 0 (s .args .rows .now) (sym (t .tested .ensures) ∙ c .enum-told .given .1)
 
 on-requires : tie.Need-on-requires
 on-requires c κs =
-    let k = c .before .before in
-    begin (s k .args .holding) (s k .args .bytes .now) (s k .args .end) (s k .args .rows .now) (fine k)
+    let e = c .before in
+    begin (s e .args .holding) (s e .args .bytes .now) (s e .args .end) (s e .args .rows .now) (fine e)
 
 returns-2 : tie.Need-returns-2
 returns-2 c =
-    let k = c .before .before .before .before in
-    let whole = begun-walked (s k .args .holding) (s k .args .bytes .now) (s k .args .end) (s k .args .rows .now) (fine k) in
-    (c .before .on .ensures .0 ∙ whole .0, c .before .on .ensures .1 ∙ whole .1)
+    let o = c .before in
+    let e = o .before .before in
+    let whole = begun-walked (s e .args .holding) (s e .args .bytes .now) (s e .args .end) (s e .args .rows .now) (fine e) in
+    (o .on .ensures .0 ∙ whole .0, o .on .ensures .1 ∙ whole .1)
 
 pub walk-spec : {M : Type 1} → statement M
 walk-spec =

@@ -1,69 +1,77 @@
--- `adoption::stages::read_id` meets its contract.
--- Assumes nothing.
-use mathlib.Core.Path.{_≡_, sym, ap, _∙_}
-use mathlib.Core.Bool.{true}
+-- `adoption::stages::read_id` meets its contract. Assumes nothing.
+use mathlib.Core.Path.{_≡_, sym, _∙_}
+use mathlib.Core.Bool.{true, cond, not, _&&_}
 use mathlib.Core.List.{List}
-use Prim.Native.Nat.{ℕ}
+use Prim.Native.Nat.{ℕ, _+_, _<_}
 use native.Mathlib.Omega.{arith}
 use borrow.Author.Needs.{needs}
 use borrow.Author.Tests.{le-leb, lt-leb}
 use lib.ListN.{take}
-use Rattle.adoption.proofs.StageRuns.{id-short, id-there}
-use Rattle.bits.proofs.Fields.{field-lt}
-use Rattle.bits.specs.Places.{field}
+use Rattle.adoption.proofs.Ends.{fits, number-short}
+use Rattle.adoption.proofs.StageEnds.{id-end}
+use Rattle.adoption.specs.Ends.{endFrom}
+use Rattle.adoption.specs.Stages.{endNamed}
+use Rattle.bits.specs.declared.read.Taken.the-variants.{Whole}
+use Rattle.bits.specs.Short.{takenAt}
 use Rattle.format.specs.Assigned.{known}
-use Rattle.holding.specs.Named.{namedIn}
+use Rattle.format.specs.declared.Refusal.the-variants.{System}
+use Rattle.format.specs.Messages.{named, systemId}
+use Rattle.format.specs.Programs.{well, badly}
 use Rattle.adoption.proofs.stages.read_id.Statement.{statement}
 use Rattle.adoption.proofs.stages.read_id.Tie as tie
 
-returns : tie.Need-returns
-returns c =
-    let s = c .before .before .before in
-    sym (id-short (s .args .bytes .now) (s .args .end) (s .pre .1) (s .args .place) (take (s .args .count) (s .args .ids .now)) (c .if1 .taken))
-
-cast-id : tie.Need-cast-id
-cast-id c =
-    let x = c .before .before .before .before .args in
-    omega (arith, c .read-field .ensures, field-lt (x .bytes .now) (x .place) 4)
-
-returns-2 : tie.Need-returns-2
-unfolding known
-returns-2 c =
-    let s = c .before .before .before .before .before in
-    let x = s .args in
-    let big = lt-leb (field (x .bytes .now) (x .place) 4) 4 (omega (arith, c .before .read-field .ensures, c .if2 .taken)) in
-    sym (id-there (x .bytes .now) (x .end) (s .pre .1) (x .place) (take (x .count) (x .ids .now)) (omega arith) ∙ rw big)
-
--- the ID, known, and whether it is named
-module _ (c : tie.After-named-in) where
-  abbrev ids : List ℕ
-  ids = take (c .before .before .before .before .before .before .args .count) (c .before .before .before .before .before .before .args .ids .now)
+-- the ID, where its bits are there
+module _ (c : tie.After-known-told2) where
+  abbrev s : tie.Start
+  s = c .before .before .before .before .before .before
 
   abbrev id : ℕ
-  id = field (c .before .before .before .before .before .before .args .bytes .now) (c .before .before .before .before .before .before .args .place) 4
+  id = c .before .taken2 .given .0 .0
 
-  small : known id ≡ true
+  abbrev ids : List ℕ
+  ids = take (s .args .count) (s .args .ids .now)
+
+  there : takenAt (s .args .bytes .now) (s .args .end) (s .args .place) 4 ≡ Whole id
+  there = sym (c .before .before .before .take-field .ensures) ∙ c .before .taken2 .given .1
+
+  low : id < 16
+  low = fits (s .pre .1) 4 there
+
+  ends : endFrom (systemId ids) (s .args .bytes .now) (s .args .end) (s .args .place) ≡ cond (known id && not (named id ids)) (well id (s .args .place + 4)) (badly System 0)
+  ends = id-end (s .pre .1) ids there
+
+returns : tie.Need-returns
+unfolding endNamed known
+returns c = sym (ends (c .before) ∙ rw (lt-leb (id (c .before)) 4 (c .if1 .taken)))
+
+-- a known one, by whether it is named
+module _ (c : tie.After-named-in) where
+  abbrev p : tie.After-known-told2
+  p = c .before .before
+
+  is-named : named (id p) (ids p) ≡ c .named-in .result
+  is-named = sym (c .named-in .ensures)
+
+  is-known : known (id p) ≡ true
   unfolding known
-  small = le-leb id 4 (omega (arith, c .before .before .read-field .ensures, c .before .if2 .left))
+  is-known = le-leb (id p) 4 (omega (arith, c .before .if1 .left))
 
-  named : namedIn id ids ≡ c .named-in .result
-  named = ap (λ (n : ℕ). namedIn n ids) (sym (c .before .before .read-field .ensures)) ∙ sym (c .named-in .ensures)
+returns-2 : tie.Need-returns-2
+unfolding endNamed
+returns-2 c = sym (ends (p (c .before)) ∙ rw (is-known (c .before), is-named (c .before) ∙ c .if2 .taken))
 
 returns-3 : tie.Need-returns-3
+unfolding endNamed systemId
 returns-3 c =
-    let s = c .before .before .before .before .before .before .before in
-    let x = s .args in
-    sym (id-there (x .bytes .now) (x .end) (s .pre .1) (x .place) (ids (c .before)) (omega arith) ∙ rw (small (c .before), named (c .before), c .if3 .taken))
+    let took = c .before .before .before in
+    sym (number-short (took .before .before .before .pre .1) 4 (sym (took .take-field .ensures) ∙ c .before .taken .given .1) _)
 
 returns-4 : tie.Need-returns-4
-returns-4 c =
-    let s = c .before .before .before .before .before .before .before in
-    let x = s .args in
-    rw (c .before .before .before .read-field .ensures)
-    (sym (id-there (x .bytes .now) (x .end) (s .pre .1) (x .place) (ids (c .before)) (omega arith) ∙ rw (small (c .before), named (c .before), c .if3 .left)))
+unfolding endNamed
+returns-4 c = sym (ends (p (c .before)) ∙ rw (is-known (c .before), is-named (c .before) ∙ c .if2 .left))
 
 pub read-id-spec : {M : Type 1} → statement M
 read-id-spec =
     tie.close
-    (tie.spec (λ c. search needs) (λ c. search needs) returns (λ c κs. search needs) cast-id returns-2 (λ c κs. search needs) returns-3
-    (λ c. search needs) returns-4)
+    (tie.spec (λ c κs. search needs) (λ c. search needs) (λ c. search needs) (λ c. omega (arith, low c)) (λ c. search needs) returns (λ c κs. search needs) returns-2
+    (λ c. search needs) returns-3 returns-4)

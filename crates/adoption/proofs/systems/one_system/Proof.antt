@@ -1,60 +1,58 @@
--- `adoption::systems::one_system` meets its contract: the parts one after the other.
--- Assumes nothing.
+-- `adoption::systems::one_system` meets its contract: the parts one after the other. Assumes nothing.
 use mathlib.Core.Path.{_≡_, sym, ap, _∙_}
-use mathlib.Core.Bool.{true, false}
-use mathlib.Core.List.{List, map}
-use Prim.Native.Nat.{ℕ, _≤_, _<_}
+use mathlib.Core.List.{List}
+use Prim.Native.Nat.{ℕ, _<_}
 use native.Mathlib.Omega.{arith}
 use borrow.Author.Needs.{needs}
 use borrow.Author.Tests.{leb-true}
-use lib.ListN.{length}
-use Rattle.adoption.proofs.Holds.{Holds, holds, ids-named, refused-held}
-use Rattle.adoption.proofs.SystemRuns.{afterId, id-refused, id-fine, masks-refused, MasksFine, masks-fine}
-use Rattle.adoption.specs.Adoptions.{maskIn, grownAt}
-use Rattle.adoption.specs.Stages.{systemId, namedAt, systemMasks, maskedAt}
-use Rattle.adoption.specs.declared.stages.Masked.the-variants as Masked
-use Rattle.adoption.specs.declared.stages.Named.the-variants as Named
+use Rattle.adoption.proofs.Ends.{ended-at, gave, then-well, then-badly}
+use Rattle.adoption.proofs.Holds.{holds, systems-count, ids-named, refused-held}
+use Rattle.adoption.proofs.StageEnds.{id-gives, masks-give}
+use Rattle.adoption.specs.Adoptions.{maskIn, grownBy}
+use Rattle.adoption.specs.Ends.{Within, endFrom}
+use Rattle.adoption.specs.Growing.{HasRoom}
+use Rattle.adoption.specs.Stages.{endNamed, masksBy, endMasked, FitsMasked}
 use Rattle.format.specs.Assigned.{known}
-use Rattle.format.specs.Masks.{satellites}
-use Rattle.format.specs.Messages.{system, named as isNamed}
-use Rattle.format.specs.Programs.{run}
-use Rattle.format.specs.Reading.{bitsFrom}
+use Rattle.format.specs.Masks.{System, mask}
+use Rattle.format.specs.Messages.{idsOf, systemId, systemMasks, systemCells, system}
+use Rattle.format.specs.Programs.{Program, _>>=_, Ended, well}
 use Rattle.holding.proofs.Built.{room-for}
+use Rattle.holding.proofs.Places.{ones-places}
+use Rattle.holding.proofs.Sounds.{Sounds}
+use Rattle.holding.specs.Held.{satellitesHeld}
 use Rattle.adoption.proofs.systems.one_system.Statement.{statement}
 use Rattle.adoption.proofs.systems.one_system.Tie as tie
 
--- what is held
 module _ (s : tie.Start) where
-  held : Holds (s .args .h)
-  held = holds (s .args .h) (s .pre .0) (s .pre .1)
+  held : Sounds (mask (maskIn (s .args .h))) (s .args .h)
+  held = holds (s .args .h) (s .pre .0)
+
+  abbrev before : List System
+  before = maskIn (s .args .h) .systems
+
+  -- where a program ends from a place on
+  abbrev ends : {A : Type 0} → Program A → ℕ → Ended A
+  ends p place = endFrom p (s .args .bytes .now) (s .args .end) place
 
 -- what the answer to the ID says
 module _ (c : tie.After-read-id) where
-  abbrev start : tie.Start
-  start = c .before .before .before .before
+  abbrev s : tie.Start
+  s = c .before .before .before .before
 
-  named : c .read-id .result ≡ namedAt (start .args .place) (run (systemId (map (λ s. s .id) (maskIn (start .args .h) .systems))) (bitsFrom (start .args .bytes .now) (start .args .end) (start .args .place)))
-  named =
-      let x = start .args in
-      c .read-id .ensures ∙ ap (λ (ids : List ℕ). namedAt (x .place) (run (systemId ids) (bitsFrom (x .bytes .now) (x .end) (x .place)))) (ids-named (x .h) (held start) .1)
-
-read-id-requires : tie.Need-read-id-requires
-read-id-requires c κs =
-    let s = c .before .before .before in
-    (ids-named (s .args .h) (held s) .0, s .pre .2, s .pre .3, s .pre .4)
+  named : ends s (systemId (idsOf (before s))) (s .args .place) ≡ endNamed (c .read-id .result)
+  named = sym (c .read-id .ensures ∙ ap (λ (ids : List ℕ). ends s (systemId ids) (s .args .place)) (ids-named (s .args .h) (held s) .1))
 
 returns : tie.Need-returns
+unfolding endNamed system
 returns c =
-    let at = c .before .before .before in
-    let s = start at in
-    let x = s .args in
-    let answer = id-refused (x .bytes .now) (x .end) (s .pre .2) (maskIn (x .h)) (x .place) (s .pre .4) _ _ (sym (c .before .r .given .1) ∙ named at) in
-    refused-held (x .h) (held s) _ _ (x .place) ∙ ap (grownAt (maskIn (x .h)) (x .place)) (sym answer)
+    let p = c .before .before .before in
+    let x = s p .args in
+    refused-held (x .h) (held (s p)) _ _ ∙ ap (grownBy (maskIn (x .h))) (sym (then-badly (s p .pre .1) (systemId (idsOf (before (s p)))) _ (named p ∙ ap endNamed (c .before .r .given .1))))
 
 -- after an ID
 module _ (c : tie.After-known-told2) where
-  abbrev s : tie.Start
-  s = start (c .before .before .before)
+  abbrev t : tie.Start
+  t = s (c .before .before .before)
 
   abbrev id : ℕ
   id = c .before .id .given .0 .0
@@ -62,62 +60,65 @@ module _ (c : tie.After-known-told2) where
   abbrev next : ℕ
   next = c .before .id .given .0 .1 .0
 
-  fine :
-      (next ≤ s .args .end) × (known id ≡ true) × (isNamed id (maskIn (s .args .h) .systems) ≡ false)
-      × (grownAt (maskIn (s .args .h)) (s .args .place) (run (system (maskIn (s .args .h) .systems)) (bitsFrom (s .args .bytes .now) (s .args .end) (s .args .place)))
-      ≡ grownAt (maskIn (s .args .h)) next (run (afterId (s .args .bytes .now) (s .args .end) (s .pre .2) (maskIn (s .args .h)) id) (bitsFrom (s .args .bytes .now) (s .args .end) next)))
-  fine = id-fine (s .args .bytes .now) (s .args .end) (s .pre .2) (maskIn (s .args .h)) (s .args .place) (s .pre .4) id next (sym (c .before .id .given .1) ∙ named (c .before .before .before))
+  fine : ends t (systemId (idsOf (before t))) (t .args .place) ≡ well id next
+  unfolding endNamed
+  fine = named (c .before .before .before) ∙ ap endNamed (c .before .id .given .1)
 
-  room : s .args .h .count < 5
-  room = omega (arith, held s .count, room-for (maskIn (s .args .h)) id (held s .good-mask) (fine .1) (fine .2))
+  there : Within (t .args .bytes .now) (t .args .end) next
+  there = ended-at (t .pre .1) (systemId (idsOf (before t))) fine
 
-read-masks-requires : tie.Need-read-masks-requires
-unfolding known
-read-masks-requires c κs = (held (s c) .few-sats, omega (arith, leb-true (id c) 4 (fine c .1)), s c .pre .2, s c .pre .3, fine c .0)
+  -- the system from its masks on
+  abbrev masks : ℕ → Program System
+  masks n = systemMasks n id >>= systemCells (before t) id
+
+  after : ends t (system (before t)) (t .args .place) ≡ ends t (masks (t .args .h .nsat)) next
+  unfolding system satellitesHeld
+  after = then-well (t .pre .1) (systemId (idsOf (before t))) _ fine ∙ ap (λ (n : ℕ). ends t (masks n) next) (sym (held t .nsat))
+
+  new : (id < 5) × (t .args .h .count < 5)
+  unfolding known
+  new =
+      let it = gave (t .pre .1) (systemId (idsOf (before t))) (id-gives (idsOf (before t))) fine .1 in
+      (omega (arith, leb-true id 4 (it .0)), omega (arith, systems-count (t .args .h) (held t), room-for (maskIn (t .args .h)) id (held t .good-held) (it .0) (it .1)))
 
 -- what the answer to the masks says
-module _ (c : tie.After-read-masks) where
-  abbrev s2 : tie.Start
-  s2 = s (c .before)
-
-  masked :
-      c .read-masks .result
-      ≡ maskedAt (next (c .before)) (run (systemMasks (length (satellites (maskIn (s2 .args .h) .systems))) (id (c .before))) (bitsFrom (s2 .args .bytes .now) (s2 .args .end) (next (c .before))))
-  masked =
-      c .read-masks .ensures
-      ∙ ap (λ (n : ℕ). maskedAt (next (c .before)) (run (systemMasks n (id (c .before))) (bitsFrom (s2 .args .bytes .now) (s2 .args .end) (next (c .before))))) (held s2 .nsat)
-
 returns-2 : tie.Need-returns-2
+unfolding endMasked
 returns-2 c =
-    let at = c .before .before .before in
-    let x = s2 at .args in
-    let m = maskIn (x .h) in
-    let before = fine (at .before) in
-    let answer = masks-refused (x .bytes .now) (x .end) (s2 at .pre .2) m (next (at .before)) (before .0) (id (at .before)) _ _ (sym (c .before .r2 .given .1) ∙ masked at) in
-    refused-held (x .h) (held (s2 at)) _ _ (next (at .before)) ∙ ap (grownAt m (next (at .before))) (sym answer) ∙ sym (before .3)
+    let p = c .before .before .before in
+    let x = t (p .before) .args in
+    let cut = then-badly (there (p .before)) (systemMasks (x .h .nsat) (id (p .before))) _ (sym (p .read-masks .ensures .0) ∙ ap endMasked (c .before .r2 .given .1)) in
+    refused-held (x .h) (held (t (p .before))) _ _ ∙ ap (grownBy (maskIn (x .h))) (sym (after (p .before) ∙ cut))
 
 -- after the masks
 module _ (c : tie.After-known-told4) where
-  abbrev after : tie.After-read-masks
-  after = c .before .before .before
+  abbrev p : tie.After-known-told2
+  p = c .before .before .before .before
 
-  both : MasksFine (s2 after .args .bytes .now) (s2 after .args .end) (s2 after .pre .2) (maskIn (s2 after .args .h)) (next (after .before)) (fine (after .before) .0) (id (after .before))
-      (c .before .satellites .given .0 .0) (c .before .satellites .given .0 .1 .0) (c .before .satellites .given .0 .1 .1 .0)
-  both =
-      let x = s2 after .args in
-      masks-fine (x .bytes .now) (x .end) (s2 after .pre .2) (maskIn (x .h)) (next (after .before)) (fine (after .before) .0) (id (after .before)) _ _ _ (sym (c .before .satellites .given .1) ∙ masked after)
+  abbrev sats : ℕ
+  sats = c .before .satellites .given .0 .0
 
-read-cells-requires : tie.Need-read-cells-requires
-read-cells-requires c κs =
-    let s = s2 (after c) in
-    let it = both c in
-    (s .pre .0, s .pre .1, room (after c .before), rw (held s .nsat) (it .2), it .1, s .pre .2, s .pre .3, it .0)
+  both : ends (t p) (systemMasks (t p .args .h .nsat) (id p)) (next p) ≡ well (masksBy sats (c .before .satellites .given .0 .1 .0)) (c .before .satellites .given .0 .1 .1 .0)
+  unfolding endMasked
+  both = sym (c .before .before .before .read-masks .ensures .0) ∙ ap endMasked (c .before .satellites .given .1)
+
+  room : HasRoom (t p .args .h) sats
+  unfolding FitsMasked
+  room =
+      let whole = rw (c .before .satellites .given .1) at (c .before .before .before .read-masks .ensures .1) in
+      let few = gave (there p) (systemMasks (t p .args .h .nsat) (id p)) (masks-give (t p .args .h .nsat) (id p)) both .1 in
+      record { has-mask = t p .pre .0; slot = new p .1; strips = rw (ones-places 40 sats 0 whole) few; whole = whole }
 
 returns-3 : tie.Need-returns-3
-returns-3 c = c .read-cells .ensures ∙ sym (fine (after (c .before) .before) .3 ∙ both (c .before) .3)
+returns-3 c =
+    let at = p (c .before) in
+    let x = t at .args in
+    c .read-cells .ensures
+    ∙ ap (grownBy (maskIn (x .h))) (sym (after at ∙ then-well (there at) (systemMasks (x .h .nsat) (id at)) _ (both (c .before))))
 
 pub one-system-spec : {M : Type 1} → statement M
 one-system-spec =
     tie.close
-    (tie.spec (λ c. search needs) read-id-requires (λ c. search needs) (λ c. search needs) read-masks-requires (λ c. search needs) (λ c. search needs)
-    read-cells-requires returns returns-2 returns-3)
+    (tie.spec (λ c. search needs) (λ c κs. let s = c .before .before .before in (ids-named (s .args .h) (held s) .0, s .pre .1)) (λ c. search needs) (λ c. search needs)
+    (λ c κs. (held (t c) .few-satellites, new c .0, there c)) (λ c. search needs) (λ c. search needs)
+    (λ c κs. (room c, ended-at (there (p c)) (systemMasks (t (p c) .args .h .nsat) (id (p c))) (both c))) returns returns-2 returns-3)

@@ -1,22 +1,15 @@
 -- `body::satellites::size_alike` meets its contract. Assumes nothing.
-use Prim.Native.Nat.{_*_, _≤_}
-use native.Mathlib.Nat.{mul-le-mul}
+use mathlib.Core.Path.{_∙_}
 use native.Mathlib.Omega.{arith}
 use borrow.Author.Needs.{needs}
 use Rattle.body.proofs.Sizes.{few-ones}
 use Rattle.body.proofs.satellites.size_alike.Statement.{statement}
 use Rattle.body.proofs.satellites.size_alike.Tie as tie
 
-mul-bits : tie.Need-mul-t5
-mul-bits c =
+alike-requires : tie.Need-alike-requires
+alike-requires c κs =
     let s = c .before in
-    let few = few-ones (s .args .chosen) (s .args .n) (omega arith) (s .pre .0) in
-    let some : c .picked .result ≤ 64 = omega (arith, few, c .picked .ensures) in
-    let less : c .picked .result * s .args .width ≤ 64 * 15 = mul-le-mul some (s .pre .1) in
-    omega (arith, less)
-
-returns : tie.Need-returns
-returns c = rw (c .picked .ensures)
+    (omega (arith, few-ones (s .args .chosen) (s .args .n) (omega arith) (s .pre .0), c .picked .ensures), s .pre .1)
 
 pub size-alike-spec : {M : Type 1} → statement M
-size-alike-spec = tie.close (tie.spec (λ c κs. search needs) mul-bits returns)
+size-alike-spec = tie.close (tie.spec (λ c κs. search needs) alike-requires (λ c. c .alike .ensures ∙ rw (c .before .picked .ensures)))

@@ -1,49 +1,131 @@
--- `heads::heading::gated` meets its contract.
--- Assumes nothing.
+-- `heads::heading::gated` meets its contract. Assumes nothing.
+use mathlib.Core.Path.{_≡_, _∙_, sym, ap, refl}
+use mathlib.Core.Bool.{Bool, true, false, cond}
+use mathlib.Core.List.{List}
+use Prim.Native.Nat.{ℕ, _≤_, _<_}
+use native.Mathlib.Nat.{add-zero}
+use native.Mathlib.Omega.{arith}
 use borrow.Author.Needs.{needs}
 use borrow.Author.Tests.{eq-eqb, ne-eqb, not-true, not-false}
-use Rattle.heads.specs.Headings.{gatedAt}
+use lib.Dec.{eqb}
+use Rattle.format.specs.declared.Refusal.the-variants.{NoMask, OtherIssue}
+use Rattle.format.specs.Masks.{Sky}
+use Rattle.format.specs.Messages as Messages
+use Rattle.format.specs.Messages.{rowsAlone, flagged, overSatellites, overCells}
+use Rattle.format.specs.Programs.{Program, done, refuse, _>>=_, _>>_, require, well, badly, later, run}
+use Rattle.format.specs.Reading.{bitsFrom}
+use Rattle.format.specs.Rows.{absent}
+use Rattle.heads.specs.declared.CommonHead.{CommonHead}
+use Rattle.heads.specs.declared.heading.Under.{Under}
+use Rattle.heads.specs.Heads.{commonOf}
+use Rattle.heads.specs.Headings.{headWith, Shows, saidBy, FitsHeading, gateBy, gatedBy}
+use Rattle.heads.proofs.Picked.{pick-all}
 use Rattle.heads.proofs.heading.gated.Statement.{statement}
 use Rattle.heads.proofs.heading.gated.Tie as tie
+use Rattle.holding.specs.Held.{View, skyIn}
+use Rattle.rows.specs.Table.{shapeAt}
+use Rattle.table.specs.declared.Keys.the-variants.{Satellites, Cells}
+use Rattle.table.specs.declared.Layout.{Layout}
+use Rattle.table.specs.Bodies.{linesIn, linesOver, FitsKeys}
+use Rattle.table.specs.Shapes.{shapesFrom}
+use Rattle.table.specs.Kinds.{keysFor, LaidOut, overBy, programBy}
+
+module _ (u : Under) (h : CommonHead) (sky : Sky) (l : List Bool) where
+  -- the gate's three ways
+  none-held : u .held ≡ false → run (gatedBy u sky (commonOf h)) l ≡ badly NoMask 0
+  unfolding gatedBy gateBy _>>_ _>>=_ run
+  none-held e = rw e
+
+  another : u .held ≡ true → (h .iod ≡ u .iod → ⊥) → run (gatedBy u sky (commonOf h)) l ≡ badly OtherIssue 0
+  unfolding gatedBy gateBy commonOf require _>>_ _>>=_ run
+  another e differs = rw (e, ne-eqb (h .iod) (u .iod) differs)
+
+  passed : u .held ≡ true → h .iod ≡ u .iod → run (gatedBy u sky (commonOf h)) l ≡ run (programBy (u .subtype) (u .layout) sky (commonOf h)) l
+  unfolding gatedBy gateBy commonOf require _>>_ _>>=_
+  passed e same = rw (e, eq-eqb (h .iod) (u .iod) same)
+
+-- with flags, and with rows alone
+module _ (n : ℕ) (l : Layout) (sky : Sky) (h : Messages.Common) where
+  with-flags : l .flagged ≡ true → programBy n l sky h ≡ flagged n (shapesFrom (l .shape)) sky h
+  unfolding programBy
+  with-flags e = ap (λ (b : Bool). cond b (flagged n (shapesFrom (l .shape))) (rowsAlone n (overBy l)) sky h) e
+
+  alone : l .flagged ≡ false → programBy n l sky h ≡ rowsAlone n (overBy l) sky h
+  unfolding programBy
+  alone e = ap (λ (b : Bool). cond b (flagged n (shapesFrom (l .shape))) (rowsAlone n (overBy l)) sky h) e
+
+-- rows alone go over all that is seen
+module _ (v : View) (n : ℕ) (shows : Shows v n) (shape : ℕ) where
+  all-satellites : linesOver v (Satellites 18446744073709551615) shape ≡ overSatellites (shapeAt shape) (skyIn v)
+  unfolding linesOver overSatellites skyIn
+  all-satellites = rw (pick-all (v .satellites) (omega (arith, shows .count, shows .few)))
+
+  all-cells : linesOver v (Cells 18446744073709551615) shape ≡ overCells (shapeAt shape) (skyIn v)
+  unfolding linesOver overCells skyIn
+  all-cells = rw (pick-all (v .satellites) (omega (arith, shows .count, shows .few)), pick-all (v .strips) (shows .strips))
+
+alone-lines : (l : Layout) (v : View) (n : ℕ) → Shows v n → linesOver v (keysFor (l .cells) 18446744073709551615) (l .shape) ≡ overBy l (skyIn v)
+unfolding keysFor overBy
+alone-lines l v n shows = go (l .cells)
+  where
+    go : (b : Bool)
+        → linesOver v (cond b (Cells 18446744073709551615) (Satellites 18446744073709551615)) (l .shape)
+        ≡ cond b (overCells (shapeAt (l .shape))) (overSatellites (shapeAt (l .shape))) (skyIn v)
+    go true = all-cells v n shows (l .shape)
+    go false = all-satellites v n shows (l .shape)
+
+alone-fits : (l : Layout) → LaidOut l → FitsKeys (keysFor (l .cells) 18446744073709551615) (l .shape)
+unfolding keysFor FitsKeys
+alone-fits l laid = go (l .cells) (laid .of-satellites) (laid .of-cells)
+  where
+    go : (b : Bool) → (b ≡ false → l .shape < 5) → (b ≡ true → (5 ≤ l .shape) × (l .shape < 7)) → FitsKeys (cond b (Cells 18446744073709551615) (Satellites 18446744073709551615)) (l .shape)
+    go true few some = some refl
+    go false few some = few refl
 
 returns : tie.Need-returns
-unfolding gatedAt
-returns c = rw (not-true (c .before .before .args .held) (c .if1 .taken))
+unfolding saidBy FitsHeading later
+returns c =
+    let x = c .before .before .before .args in
+    (λ v shows. rw (none-held (x .under) (x .h) (skyIn v) _ (not-true (x .under .held) (c .if1 .taken))), tt)
 
 returns-2 : tie.Need-returns-2
-unfolding gatedAt
+unfolding saidBy FitsHeading later
 returns-2 c =
-    let x = c .before .before .before .before .args in
-    rw (not-false (x .held) (c .before .before .if1 .left), ne-eqb (x .h .iod) (x .iod) (c .if2 .taken))
+    let x = c .before .before .before .before .before .before .args in
+    (λ v shows. rw (another (x .under) (x .h) (skyIn v) _ (not-false (x .under .held) (c .before .before .before .if1 .left)) (c .if2 .taken)), tt)
+
+flagged-requires : tie.Need-flagged-requires
+flagged-requires c κs =
+    let s = c .before .before .before .before .before .before .before in
+    (s .pre .0, s .pre .1, s .pre .2 .with-flags (c .if3 .taken) .1, s .pre .3, s .pre .4, s .pre .5, s .pre .6)
 
 returns-3 : tie.Need-returns-3
-unfolding gatedAt
 returns-3 c =
-    let x = c .before .before .before .before .before .before .args in
-    let same = eq-eqb (x .h .iod) (x .iod) (c .before .before .if2 .left) in
-    rw (not-false (x .held) (c .before .before .before .before .if1 .left), same, eq-eqb (x .subtype) 11 (c .before .if3 .taken)) (c .combined .ensures)
+    let x = c .before .before .before .before .before .before .before .before .args in (
+      λ v shows.
+          rw (passed (x .under) (x .h) (skyIn v) (bitsFrom (x .bytes .now) (x .end) (x .place)) (not-false (x .under .held) (c .before .before .before .before .before .if1 .left)) (c .before .before .if2 .left), with-flags (x .under .subtype) (x .under .layout) (skyIn v) (commonOf (x .h)) (c .before .if3 .taken))
+          (c .flagged .ensures .0 v shows),
+      c .flagged .ensures .1,
+    )
 
 returns-4 : tie.Need-returns-4
-unfolding gatedAt
+unfolding saidBy FitsHeading linesIn rowsAlone headWith later run
 returns-4 c =
-    let x = c .before .before .before .before .before .before .before .args in
-    let same = eq-eqb (x .h .iod) (x .iod) (c .before .before .before .if2 .left) in
-    rw (
-      not-false (x .held) (c .before .before .before .before .before .if1 .left),
-      same,
-      ne-eqb (x .subtype) 11 (c .before .before .if3 .left),
-      c .before .head .ensures,
-      c .lines-alone .ensures,
+    let s = c .before .before .before .before .before .before .before .before .before in
+    let x = s .args in (
+      λ v shows.
+          rw (
+            passed (x .under) (x .h) (skyIn v) (bitsFrom (x .bytes .now) (x .end) (x .place)) (not-false (x .under .held) (c .before .before .before .before .before .before .if1 .left)) (c .before .before .before .if2 .left),
+            alone (x .under .subtype) (x .under .layout) (skyIn v) (commonOf (x .h)) (c .before .before .if3 .left),
+            c .before .head .ensures,
+            c .over .ensures,
+            alone-lines (x .under .layout) v (x .under .n) shows,
+            add-zero (x .place),
+          ),
+      rw (c .over .ensures) (alone-fits (x .under .layout) (s .pre .2)),
     )
 
 pub gated-spec : {M : Type 1} → statement M
 gated-spec =
     tie.close
-    (tie.spec
-    returns
-    returns-2
-    (λ c κs. search needs)
-    returns-3
-    (λ c κs. search needs)
-    (λ c κs. search needs)
-    returns-4)
+    (tie.spec returns (λ c. search needs) returns-2 flagged-requires returns-3 (λ c κs. search needs) (λ c κs. search needs) returns-4)

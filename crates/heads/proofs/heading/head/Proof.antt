@@ -6,7 +6,7 @@ use mir.Facts.{toZ-ofZ, toZ-pos}
 use mir.Syntax.{w32}
 use Rattle.format.specs.Messages.{headOf}
 use Rattle.heads.specs.Headings.{headWith}
-use Rattle.heads.specs.Openings.{commonOf}
+use Rattle.heads.specs.Heads.{commonOf}
 use Rattle.heads.proofs.heading.head.Statement.{statement}
 use Rattle.heads.proofs.heading.head.Tie as tie
 

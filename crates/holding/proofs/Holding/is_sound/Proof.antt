@@ -5,7 +5,7 @@ use borrow.Author.Needs.{needs}
 use borrow.Author.Tests.{le-leb, lt-leb, not-true, not-false}
 use Rattle.holding.specs.Testing.{tested}
 use Rattle.holding.proofs.Shapes.{as-long, narrow-typed, tested-is-sound, not-tested}
-use Rattle.holding.proofs.TestedSound.{Shaped}
+use Rattle.holding.proofs.Sounds.{Shaped}
 use Rattle.holding.proofs.Holding.is_sound.Statement.{statement}
 use Rattle.holding.proofs.Holding.is_sound.Tie as tie
 
@@ -37,9 +37,9 @@ returns-3 c =
       satellites = as-long (h .satellites) 5 (lists .1 .0 .1 .0 .1);
       signals = as-long (h .signals) 5 (lists .1 .1 .0 .1 .0 .1);
       flags = as-long (h .flags) 5 (lists .1 .1 .1 .0 .1 .0 .1);
-      cells = as-long (h .cells) 64 (lists .1 .1 .1 .1 .0 .1 .0 .1);
+      strips = as-long (h .strips) 64 (lists .1 .1 .1 .1 .0 .1 .0 .1);
       signals-narrow = narrow-typed (h .signals) (known .0);
-      rows-narrow = narrow-typed (h .cells) (known .1 .1 .0);
+      strips-narrow = narrow-typed (h .strips) (known .1 .1 .0);
     } in
     let issue = sym (after .before .before .before .issue-fits .ensures) ∙ not-false _ (after .before .before .if1 .left) in
     c .slots-fit .ensures ∙ (rw (issue, le-leb (h .count) 5 (after .if2 .left)) at (tested-is-sound h shaped))

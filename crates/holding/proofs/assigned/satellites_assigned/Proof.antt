@@ -2,8 +2,8 @@
 use mathlib.Core.Path.{refl}
 use borrow.Author.Needs.{needs}
 use Rattle.format.specs.Assigned.{satellitePlaces, assigned}
-use Rattle.holding.specs.Kth.{below}
-use Rattle.holding.proofs.Highest.{below-at}
+use Rattle.holding.specs.Bounds.{below}
+use Rattle.holding.proofs.Bounds.{below-at}
 use Rattle.holding.proofs.assigned.satellites_assigned.Statement.{statement}
 use Rattle.holding.proofs.assigned.satellites_assigned.Tie as tie
 

@@ -1,4 +1,4 @@
--- `holding::cells_in::cells_in` meets its contract. The loop's invariant: the cells of the rows passed, four each time.
+-- `holding::cells_in::cells_in` meets its contract. The loop's invariant: the cells of the strips passed, four each time.
 -- Assumes nothing.
 use mathlib.Core.Path.{_≡_, refl, ap, _∙_}
 use Prim.Native.Nat.{ℕ, _+_, _-_, _*_, _≤_}
@@ -10,10 +10,10 @@ use Rattle.holding.proofs.cells_in.cells_in.Statement.{statement}
 use Rattle.holding.proofs.cells_in.cells_in.Tie as tie
 
 abbrev Inv-loop : tie.InvT-loop
-Inv-loop rows n cells₀ k₀ cells k = (k ≤ 16) × (cells ≤ 64 * k) × (cells ≡ onesIn (take (4 * k) rows))
+Inv-loop strips n cells₀ k₀ cells k = (k ≤ 16) × (cells ≤ 64 * k) × (cells ≡ onesIn (take (4 * k) strips))
 
 abbrev μ-loop : tie.MeasureT-loop
-μ-loop rows n cells₀ k₀ cells k = 16 - k
+μ-loop strips n cells₀ k₀ cells k = 16 - k
 
 loop-holds : tie.Need-loop-holds Inv-loop μ-loop
 unfolding onesIn
@@ -24,14 +24,14 @@ loop-again c =
     let x = c .before .before .before .before .args in
     let s = c .before .before .loop in
     let next : 4 * (s .k + 1) ≡ 4 * s .k + 4 = omega arith in
-    let more = ap (λ (j : ℕ). onesIn (take j (x .rows .now))) next ∙ ones-part (x .rows .now) (4 * s .k) 4 in
+    let more = ap (λ (j : ℕ). onesIn (take j (x .strips .now))) next ∙ ones-part (x .strips .now) (4 * s .k) 4 in
     (omega arith, omega arith, omega (arith, more, c .cells-of-four .ensures .0))
 
 returns : tie.Need-returns Inv-loop μ-loop
 returns c =
     let x = c .before .before .before .args in
     let s = c .before .loop in
-    s .inv .2 ∙ ones-past (x .rows .now) (x .n) (4 * s .k) (omega arith) (c .before .before .before .pre .2)
+    s .inv .2 ∙ ones-past (x .strips .now) (x .n) (4 * s .k) (omega arith) (c .before .before .before .pre .2)
 
 pub cells-in-spec : {M : Type 1} → statement M
 cells-in-spec =

@@ -13,9 +13,9 @@ returns : tie.Need-returns
 returns c =
     let read = c .before .before in
     let x = read .before .before .before .before .before .args in
-    let small : (k : ℕ) → getD (x .rows .now) k 0 < 2 ^ 16 = λ k. read .shared-slice-known5 .given k .fits in
+    let small : (k : ℕ) → getD (x .strips .now) k 0 < 2 ^ 16 = λ k. read .shared-slice-known5 .given k .fits in
     let whole = c .count .ensures ∙ ap ones (c .before .joined .ensures) in
-    (whole ∙ ones-four (x .rows .now) (x .i) (omega arith) small, rw (c .count .ensures) (ones-le 64 (c .before .joined .result) (c .before .joined .ok)))
+    (whole ∙ ones-four (x .strips .now) (x .i) (omega arith) small, rw (c .count .ensures) (ones-le 64 (c .before .joined .result) (c .before .joined .ok)))
 
 pub cells-of-four-spec : {M : Type 1} → statement M
 cells-of-four-spec =

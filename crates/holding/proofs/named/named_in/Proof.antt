@@ -6,19 +6,19 @@ use Prim.Native.Nat.{ℕ, _-_, _≤_}
 use native.Mathlib.Numerals.{add-one}
 use native.Mathlib.Omega.{arith}
 use lib.ListN.{take}
-use Rattle.holding.specs.Named.{namedIn}
+use Rattle.format.specs.Messages.{named}
 use Rattle.holding.proofs.Names.{named-at, named-more}
 use Rattle.holding.proofs.named.named_in.Statement.{statement}
 use Rattle.holding.proofs.named.named_in.Tie as tie
 
 abbrev Inv-loop : tie.InvT-loop
-Inv-loop ids count id i₀ i = (i ≤ count) × (namedIn id (take i ids) ≡ false)
+Inv-loop ids count id i₀ i = (i ≤ count) × (named id (take i ids) ≡ false)
 
 abbrev μ-loop : tie.MeasureT-loop
 μ-loop ids count id i₀ i = count - i
 
 loop-holds : tie.Need-loop-holds Inv-loop μ-loop
-unfolding namedIn
+unfolding named
 loop-holds c = (omega arith, refl)
 
 returns : tie.Need-returns Inv-loop μ-loop
@@ -36,7 +36,7 @@ returns-2 : tie.Need-returns-2 Inv-loop μ-loop
 returns-2 c =
     let x = c .before .before .args in
     let all : c .before .loop .i ≡ x .count = omega arith in
-    sym (ap (λ (k : ℕ). namedIn (x .id) (take k (x .ids .now))) (sym all) ∙ c .before .loop .inv .1)
+    sym (ap (λ (k : ℕ). named (x .id) (take k (x .ids .now))) (sym all) ∙ c .before .loop .inv .1)
 
 pub named-in-spec : {M : Type 1} → statement M
 named-in-spec =

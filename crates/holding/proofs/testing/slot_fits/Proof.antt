@@ -7,7 +7,7 @@ use borrow.Author.Needs.{needs}
 use borrow.Author.Tests.{lt-ltb, le-ltb, not-true, not-false}
 use lib.Count.{ones, ones-le}
 use lib.ListN.{getD, take, drop}
-use Rattle.holding.specs.Testing.{rowsFit, slotFits}
+use Rattle.holding.specs.Testing.{stripsFit, slotFits}
 use Rattle.holding.proofs.Fitting.{few-with}
 use Rattle.holding.proofs.testing.slot_fits.Statement.{statement}
 use Rattle.holding.proofs.testing.slot_fits.Tie as tie
@@ -38,8 +38,8 @@ add-to c =
     let s = c .before .before .before .before .before .before .before .before .before in
     omega (arith, c .count .ensures, ones-le 64 (s .args .satellites) (s .fits .satellites .fits))
 
-rows-fit-requires : tie.Need-rows-fit-requires
-rows-fit-requires c κs =
+strips-fit-requires : tie.Need-strips-fit-requires
+strips-fit-requires c κs =
     let x = c .before .before .before .before .before .before .before .before .before .args in
     let few = few-with (x .n) (getD (x .ids .now) (x .i) 0) (x .satellites) (x .signals) (sym (c .before .before .masks-fit .ensures) ∙ not-false _ (c .before .if3 .left)) in
     (omega arith, omega (arith, c .count .ensures))
@@ -52,10 +52,10 @@ returns-4 c =
     let fit = sym (c .before .before .before .masks-fit .ensures) ∙ not-false _ (c .before .before .if3 .left) in
     let width : x .n + c .before .count .result - x .n ≡ ones (x .satellites) = omega (arith, c .before .count .ensures) in
     rw (lt-ltb (getD (x .ids .now) (x .i) 0) 5 (omega arith), new, fit)
-    (c .rows-fit .ensures ∙ ap (λ (k : ℕ). rowsFit (x .flag) (x .signals) (take k (drop (x .n) (x .rows .now)))) width)
+    (c .strips-fit .ensures ∙ ap (λ (k : ℕ). stripsFit (x .flag) (x .signals) (take k (drop (x .n) (x .strips .now)))) width)
 
 pub slot-fits-spec : {M : Type 1} → statement M
 slot-fits-spec =
     tie.close
-    (tie.spec (λ c. search needs) returns (λ c κs. search needs) returns-2 (λ c. search needs) (λ c κs. search needs) returns-3 (λ c κs. search needs)
-    add-to rows-fit-requires returns-4)
+    (tie.spec (λ c. search needs) (λ c. omega (arith, c .shared-slice-known3 .given (c .before .before .before .args .i))) returns (λ c κs. search needs) returns-2 (λ c. search needs) (λ c κs. search needs) returns-3 (λ c κs. search needs)
+    add-to strips-fit-requires returns-4)

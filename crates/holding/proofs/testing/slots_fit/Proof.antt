@@ -1,5 +1,5 @@
 -- `holding::testing::slots_fit` meets its contract. The loop's invariant: the whole test is that of what is left, after the n satellites of the slots
--- passed and the cells of their rows.
+-- passed and the cells of their strips.
 -- Assumes nothing.
 use mathlib.Core.Path.{_≡_, sym, _∙_}
 use mathlib.Core.Bool.{false, _&&_}
@@ -14,19 +14,19 @@ use lib.Count.{ones}
 use lib.Dec.{eqb, leb}
 use lib.ListN.{length, getD, take, drop}
 use Rattle.holding.specs.Building.{onesIn}
-use Rattle.holding.specs.Testing.{emptyRows, emptySlots, slotsFit}
+use Rattle.holding.specs.Testing.{emptyStrips, emptySlots, slotsFit}
 use Rattle.holding.proofs.Fitting.{fits-few, next-slot, no-slot}
 use Rattle.holding.proofs.testing.slots_fit.Statement.{statement}
 use Rattle.holding.proofs.testing.slots_fit.Tie as tie
 
 abbrev Inv-loop : tie.InvT-loop
-Inv-loop ids satellites signals flags rows count nsat ncell i₀ n₀ i n =
+Inv-loop ids satellites signals flags strips count nsat ncell i₀ n₀ i n =
     (i ≤ count) × (n ≤ 64)
-    × (slotsFit nsat ncell count [] 0 0 ids satellites signals flags rows
-    ≡ slotsFit nsat ncell (count - i) (take i ids) n (onesIn (take n rows)) (drop i ids) (drop i satellites) (drop i signals) (drop i flags) (drop n rows))
+    × (slotsFit nsat ncell count [] 0 0 ids satellites signals flags strips
+    ≡ slotsFit nsat ncell (count - i) (take i ids) n (onesIn (take n strips)) (drop i ids) (drop i satellites) (drop i signals) (drop i flags) (drop n strips))
 
 abbrev μ-loop : tie.MeasureT-loop
-μ-loop ids satellites signals flags rows count nsat ncell i₀ n₀ i n = count - i
+μ-loop ids satellites signals flags strips count nsat ncell i₀ n₀ i n = count - i
 
 loop-holds : tie.Need-loop-holds Inv-loop μ-loop
 unfolding onesIn
@@ -37,7 +37,7 @@ returns c =
     let a = c .before .before .before .before .before .before in
     let x = a .before .before .before .before .before .before .args in
     let s = a .loop in
-    let next = next-slot (x .nsat) (x .ncell) (x .count) (s .n) (s .i) (x .ids .now) (x .satellites .now) (x .signals .now) (x .flags .now) (x .rows .now) (omega arith) (omega arith) in
+    let next = next-slot (x .nsat) (x .ncell) (x .count) (s .n) (s .i) (x .ids .now) (x .satellites .now) (x .signals .now) (x .flags .now) (x .strips .now) (omega arith) (omega arith) in
     sym (s .inv .2 ∙ next ∙ rw (sym (c .before .slot-fits .ensures) ∙ not-true _ (c .if1 .taken)))
 
 -- a slot that fits leaves room for its satellites
@@ -48,7 +48,7 @@ few c =
     let x = a .before .before .before .before .before .before .args in
     let s = a .loop in
     fits-few (take (s .i) (x .ids .now)) (s .n) (getD (x .ids .now) (s .i) 0) (getD (x .satellites .now) (s .i) 0) (getD (x .signals .now) (s .i) 0) (getD (x .flags .now) (s .i) false)
-    (drop (s .n) (x .rows .now)) (sym (c .before .slot-fits .ensures) ∙ not-false _ (c .if1 .left))
+    (drop (s .n) (x .strips .now)) (sym (c .before .slot-fits .ensures) ∙ not-false _ (c .if1 .left))
 
 loop-again : tie.Need-loop-again Inv-loop μ-loop
 loop-again c =
@@ -56,28 +56,28 @@ loop-again c =
     let x = a .before .before .before .before .before .before .args in
     let s = a .loop in
     let fit = sym (c .before .before .before .slot-fits .ensures) ∙ not-false _ (c .before .before .if1 .left) in
-    let next = next-slot (x .nsat) (x .ncell) (x .count) (s .n) (s .i) (x .ids .now) (x .satellites .now) (x .signals .now) (x .flags .now) (x .rows .now) (omega arith) (omega arith) in
+    let next = next-slot (x .nsat) (x .ncell) (x .count) (s .n) (s .i) (x .ids .now) (x .satellites .now) (x .signals .now) (x .flags .now) (x .strips .now) (omega arith) (omega arith) in
     (omega arith, omega (arith, few (c .before .before), c .count .ensures), s .inv .2 ∙ next ∙ rw (fit, add-one (s .i), c .count .ensures))
 
 -- what is left of the test after the last slot
 ends : (c : tie.After-loop Inv-loop μ-loop) → let x = c .before .before .before .before .before .before .before .args in
     let n = c .before .loop .n in
-    slotsFit (x .nsat) (x .ncell) (x .count) [] 0 0 (x .ids .now) (x .satellites .now) (x .signals .now) (x .flags .now) (x .rows .now)
+    slotsFit (x .nsat) (x .ncell) (x .count) [] 0 0 (x .ids .now) (x .satellites .now) (x .signals .now) (x .flags .now) (x .strips .now)
     ≡ (eqb n (x .nsat) && (emptySlots (length (x .ids .now) - x .count) (drop (x .count) (x .ids .now)) (drop (x .count) (x .satellites .now)) (drop (x .count) (x .signals .now)) (drop (x .count) (x .flags .now))
-    && (emptyRows (drop n (x .rows .now)) && (leb (onesIn (take n (x .rows .now))) 256 && eqb (onesIn (take n (x .rows .now))) (x .ncell)))))
+    && (emptyStrips (drop n (x .strips .now)) && (leb (onesIn (take n (x .strips .now))) 256 && eqb (onesIn (take n (x .strips .now))) (x .ncell)))))
 ends c =
     let x = c .before .before .before .before .before .before .before .args in
     let s = c .before .loop in
     s .inv .2
-    ∙ no-slot (x .nsat) (x .ncell) (x .count) (s .i) (s .n) (onesIn (take (s .n) (x .rows .now))) (take (s .i) (x .ids .now)) (x .ids .now) (x .satellites .now) (x .signals .now) (x .flags .now)
-    (drop (s .n) (x .rows .now)) (omega arith)
+    ∙ no-slot (x .nsat) (x .ncell) (x .count) (s .i) (s .n) (onesIn (take (s .n) (x .strips .now))) (take (s .i) (x .ids .now)) (x .ids .now) (x .satellites .now) (x .signals .now) (x .flags .now)
+    (drop (s .n) (x .strips .now)) (omega arith)
 
 -- its first two tests hold
 ends-in : (c : tie.Else3 Inv-loop μ-loop) → let l = c .before .before .before in
     let x = l .before .before .before .before .before .before .before .args in
     let n = l .before .loop .n in
-    slotsFit (x .nsat) (x .ncell) (x .count) [] 0 0 (x .ids .now) (x .satellites .now) (x .signals .now) (x .flags .now) (x .rows .now)
-    ≡ (emptyRows (drop n (x .rows .now)) && (leb (onesIn (take n (x .rows .now))) 256 && eqb (onesIn (take n (x .rows .now))) (x .ncell)))
+    slotsFit (x .nsat) (x .ncell) (x .count) [] 0 0 (x .ids .now) (x .satellites .now) (x .signals .now) (x .flags .now) (x .strips .now)
+    ≡ (emptyStrips (drop n (x .strips .now)) && (leb (onesIn (take n (x .strips .now))) 256 && eqb (onesIn (take n (x .strips .now))) (x .ncell)))
 ends-in c =
     let l = c .before .before .before in
     let x = l .before .before .before .before .before .before .before .args in
@@ -96,14 +96,14 @@ returns-3 c =
     sym (ends (c .before .before .before) ∙ rw (eq-eqb (a .loop .n) (a .before .before .before .before .before .before .args .nsat) (c .before .before .if2 .left), used))
 
 returns-4 : tie.Need-returns-4 Inv-loop μ-loop
-returns-4 c = sym (ends-in (c .before .before) ∙ rw (sym (c .before .rows-empty .ensures) ∙ not-true _ (c .if4 .taken)))
+returns-4 c = sym (ends-in (c .before .before) ∙ rw (sym (c .before .strips-empty .ensures) ∙ not-true _ (c .if4 .taken)))
 
 returns-5 : tie.Need-returns-5 Inv-loop μ-loop
 returns-5 c =
-    sym (ends-in (c .before .before .before) ∙ rw (sym (c .before .before .rows-empty .ensures) ∙ not-false _ (c .before .if4 .left)) (sym (c .cells-fit .ensures)))
+    sym (ends-in (c .before .before .before) ∙ rw (sym (c .before .before .strips-empty .ensures) ∙ not-false _ (c .before .if4 .left)) (sym (c .cells-fit .ensures)))
 
 cells-fit-requires : tie.Need-cells-fit-requires Inv-loop μ-loop
-cells-fit-requires c κs = (omega arith, omega arith, sym (c .before .rows-empty .ensures) ∙ not-false _ (c .if4 .left))
+cells-fit-requires c κs = (omega arith, omega arith, sym (c .before .strips-empty .ensures) ∙ not-false _ (c .if4 .left))
 
 pub slots-fit-spec : {M : Type 1} → statement M
 slots-fit-spec =

@@ -8,32 +8,32 @@ use Prim.Native.Nat.{ℕ}
 use lib.Seq.{length-take-le}
 use Rattle.format.specs.Reading.{over}
 use Rattle.passing.proofs.Placing.{put-three, put-room}
-use Rattle.passing.proofs.Segments.{startOf, systemsIn, rowsIn, start-length, systems-length, rows-length, three-segments}
-use Rattle.holding.proofs.Sizes.{sound-sizes}
+use Rattle.passing.proofs.Segments.{startOf, systemsIn, stripsIn, start-length, systems-length, strips-length, three-segments}
+use Rattle.holding.proofs.Sounds.{sounds}
 use Rattle.passing.proofs.give.holding_over.Statement.{statement}
 use Rattle.passing.proofs.give.holding_over.Tie as tie
 
 start-requires : tie.Need-start-requires
 start-requires c κs =
     let e = c .before .before .before .before .before .before .before in
-    let sizes = sound-sizes (e .args .h) (e .pre .1) in
-    (length-take-le 6 (e .args .bytes .now) (omega (arith, e .pre .0)), omega (arith, sizes .count), omega (arith, sizes .nsat), omega (arith, sizes .ncell))
+    let s = sounds (e .args .h) (e .pre .1) in
+    (length-take-le 6 (e .args .bytes .now) (omega (arith, e .pre .0)), omega (arith, s .few-systems), omega (arith, s .few-satellites), omega (arith, s .few-cells))
 
 words-requires : tie.Need-words-requires
 words-requires c κs =
     let e = c .before .before .before .before .before .before .before .before .before .before .before .before .before .before .before .before .before .before .before .before in
     let h = e .args .h in
-    let sizes = sound-sizes h (e .pre .1) in
+    let sizes = sounds h (e .pre .1) .shaped in
     let room = put-room 6 60 128 (e .args .bytes .now) (startOf h) (systemsIn h) (start-length h) (systems-length h sizes) (omega (arith, e .pre .0)) in
-    (rw (c .before .before .before .before .before .before .before .before .before .before .before .before .start .ensures, c .before .before .before .before .systems .ensures) (room ∙ omega (arith, sizes .cells)), omega (arith, sizes .cells))
+    (rw (c .before .before .before .before .before .before .before .before .before .before .before .before .start .ensures, c .before .before .before .before .systems .ensures) (room ∙ omega (arith, sizes .strips)), omega (arith, sizes .strips))
 
 returns : tie.Need-returns
 returns c =
     let e = c .before .before .before .before .before .before .before .before .before .before .before .before .before .before .before .before .before .before .before .before .before .before .before in
     let h = e .args .h in
-    let sizes = sound-sizes h (e .pre .1) in
+    let sizes = sounds h (e .pre .1) .shaped in
     rw (c .before .before .before .before .before .before .before .before .before .before .before .before .before .before .before .start .ensures, c .before .before .before .before .before .before .before .systems .ensures, c .before .before .words .ensures)
-    (put-three 6 60 128 (e .args .bytes .now) (startOf h) (systemsIn h) (rowsIn h) (start-length h) (systems-length h sizes) (rows-length h sizes)
+    (put-three 6 60 128 (e .args .bytes .now) (startOf h) (systemsIn h) (stripsIn h) (start-length h) (systems-length h sizes) (strips-length h sizes)
     ∙ ap (λ (l : List ℕ). over l (e .args .bytes .now)) (three-segments h))
 
 pub holding-over-spec : {M : Type 1} → statement M

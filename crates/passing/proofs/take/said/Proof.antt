@@ -15,7 +15,7 @@ cast-t17 c = record { fits = omega (arith, c .shared-slice-known5 .given 3) }
 returns : tie.Need-returns
 unfolding said truth
 returns c =
-    rw (c .before .before .before .before .before .before .ids .ensures, c .before .before .before .before .before .satellites .ensures, c .before .before .before .before .signals .ensures, c .before .before .before .flags .ensures, c .before .before .rows .ensures, c .word .ensures)
+    rw (c .before .before .before .before .before .before .ids .ensures, c .before .before .before .before .before .satellites .ensures, c .before .before .before .before .signals .ensures, c .before .before .before .flags .ensures, c .before .before .strips .ensures, c .word .ensures)
 
 pub said-spec : {M : Type 1} → statement M
 said-spec =

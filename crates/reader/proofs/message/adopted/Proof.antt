@@ -1,5 +1,4 @@
--- `reader::message::adopted` meets its contract.
--- Assumes nothing.
+-- `reader::message::adopted` meets its contract. Assumes nothing.
 use mathlib.Core.Path.{_∙_, sym, ap}
 use borrow.Author.Needs.{needs}
 use Rattle.adoption.specs.declared.Adoption.{Adoption}
@@ -14,16 +13,17 @@ use Rattle.reader.proofs.message.adopted.Tie as tie
 returns : tie.Need-returns
 unfolding madeReading answerBy
 returns c =
-    let x = c .before .before .before .before .before .before .args in
+    let s = c .before .before .before .before .before .before in
+    let x = s .args in
     let a = c .before .before .before .before .adopt .result in
     let e = run maskMessage (bitsFrom (x .bytes .now) (x .end) (x .place)) in
-    ap (λ (m : Made). record { answer = answerBy m; holding = a .holding }) (sym (c .before .made .given .1)) ∙ ap madeReading (c .before .before .before .before .adopt .ensures) ∙ adopted-by (x .holding) (x .place) e
+    ap (λ (m : Made). record { answer = answerBy m; holding = a .holding }) (sym (c .before .made .given .1)) ∙ ap madeReading (c .before .before .before .before .adopt .ensures) ∙ adopted-by (x .holding) (s .pre .3) (x .place) e
 
 returns-2 : tie.Need-returns-2
 returns-2 c =
     let a = c .before .before .before .before in
     let x = a .before .before .args in
-    adopted-not (x .holding) (x .place) _ _ _ (ap (λ (d : Adoption). d .made) (sym (a .adopt .ensures)) ∙ c .before .made2 .given .1)
+    adopted-not (x .holding) (a .before .before .pre .3) (x .place) _ _ _ (ap (λ (d : Adoption). d .made) (sym (a .adopt .ensures)) ∙ c .before .made2 .given .1)
 
 pub adopted-spec : {M : Type 1} → statement M
 adopted-spec =

@@ -1,103 +1,115 @@
--- `reader::message::body_of` meets its contract.
--- Assumes nothing.
+-- `reader::message::body_of` meets its contract. Assumes nothing.
 use mathlib.Core.Path.{_≡_, _∙_, sym, ap, subst, refl}
-use mathlib.Core.List.{flatten}
-use Prim.Native.Nat.{ℕ, _+_}
+use mathlib.Core.List.{List, flatten}
+use Prim.Native.Nat.{ℕ, _+_, _-_, _≤_}
 use native.Mathlib.Omega.{arith}
 use borrow.Author.Needs.{needs}
-use Rattle.format.specs.declared.Answer.the-variants.{Message}
-use Rattle.format.specs.Reading.{accepted, answerOf, over, rowsAfter}
-use Rattle.format.specs.Rows.{bodyWidth}
-use Rattle.heads.specs.declared.lines.Lines.{Lines}
 use lib.ListN.{length}
-use Rattle.heads.specs.Headings.{headedBy, Begins}
-use Rattle.heads.specs.Lines.{linesOf}
+use Rattle.format.specs.declared.Answer.the-variants as Answers
+use Rattle.format.specs.Masks.{Held}
+use Rattle.format.specs.Reading.{Outcome, accepted, answerOf, over, rowsAfter}
+use Rattle.format.specs.Rows.{Line, bodyWidth}
+use Rattle.heads.specs.declared.heading.Heading.{Heading}
+use Rattle.heads.specs.Headings.{saidBy, FitsHeading}
+use Rattle.heads.specs.Sorting.{headedAt}
+use Rattle.holding.specs.Held.{viewOf}
 use Rattle.holding.specs.Pictures.{maskOf}
+use Rattle.reader.specs.Readings.{Begins}
 use Rattle.reader.proofs.Bodied.{bodyOf, headed-there, body-said, headed-short, none-at}
 use Rattle.reader.proofs.message.body_of.Statement.{statement}
 use Rattle.reader.proofs.message.body_of.Tie as tie
+use Rattle.table.specs.declared.Body.{Body}
+use Rattle.table.specs.Bodies.{linesIn, Fits}
+
+-- rows begin at a place
+module _ (c : tie.After-heading2) where
+  abbrev s : tie.Start
+  s = c .before .before .before
+
+  abbrev body : Body
+  body = c .heading2 .given .0 .1 .0
+
+  abbrev at : ℕ
+  at = c .heading2 .given .0 .1 .1 .0
+
+  abbrev lines : List Line
+  lines = linesIn (viewOf (s .args .holding)) body
+
+  abbrev held : Held
+  held = maskOf (s .args .holding)
+
+  fits : Fits body
+  unfolding FitsHeading
+  fits = rw (c .heading2 .given .1) at (s .pre .1)
+
+  begins : at ≤ s .args .end
+  unfolding saidBy Begins
+  begins = subst (λ (d : Heading). Begins (s .args .end) (saidBy (viewOf (s .args .holding)) d)) (c .heading2 .given .1) (s .pre .2)
+
+  -- what it comes to
+  abbrev whole : Outcome
+  whole = headedAt held (s .args .bytes .now) (s .args .end) (saidBy (viewOf (s .args .holding)) (s .args .heading))
 
 size-requires : tie.Need-size-requires
-unfolding Begins
-size-requires c κs =
-    let s = c .before .before .before .before in
-    let begins = rw (c .before .heading2 .given .1) at (s .pre .1) in
-    (s .pre .0, begins .1)
+size-requires c κs = (s (c .before) .pre .0, fits (c .before))
 
-sub-if1 : tie.Need-sub-if1
-unfolding Begins
-sub-if1 c =
-    let s = c .before .before .before .before .before in
-    let begins = rw (c .before .before .heading2 .given .1) at (s .pre .1) in
-    begins .0
+sub-left : tie.Need-sub-left
+sub-left c = begins (c .before .before)
 
 returns : tie.Need-returns
-unfolding answerOf rowsAfter
+unfolding saidBy answerOf rowsAfter
 returns c =
-    let x = c .before .before .before .before .before .before .before .args in
-    let d = c .before .before .before .before .heading2 .given in
-    let held = maskOf (x .holding) in
-    let bits = c .before .before .size .ensures .bits in
-    let short =
-    ap (headedBy held (x .bytes .now) (x .end)) (d .1)
-    ∙ headed-short held (x .bytes .now) (x .end) (d .0 .0) (d .0 .1 .0) (d .0 .1 .1 .0) (omega (arith, bits)) in
-    rw short (refl, refl)
+    let z = c .before .before .before in
+    let t = z .before .before in
+    let bits = z .size .ensures .bits in
+    rw (
+      t .heading2 .given .1,
+      headed-short (held t) (s t .args .bytes .now) (s t .args .end) (t .heading2 .given .0 .0) (lines t) (at t) (omega (arith, bits, c .before .if1 .taken)),
+    )
+    (ap (λ (n : ℕ). Answers.Refused _ (n - (s t .args .end - at t))) bits, refl)
 
 -- the body is there
 module _ (c : tie.Else1) where
   abbrev z : tie.After-size
   z = c .before .before
 
-  abbrev s : tie.Start
-  s = z .before .before .before .before .before
+  abbrev t : tie.After-heading2
+  t = z .before .before
 
-  abbrev lines : Lines
-  lines = z .before .before .heading2 .given .0 .1 .0
-
-  abbrev at : ℕ
-  at = z .before .before .heading2 .given .0 .1 .1 .0
-
-  there : headedBy (maskOf (s .args .holding)) (s .args .bytes .now) (s .args .end) (s .args .heading)
-      ≡ accepted (bodyOf (maskOf (s .args .holding)) (s .args .bytes .now) (z .before .before .heading2 .given .0 .0) lines at) (at + bodyWidth (linesOf (maskOf (s .args .holding)) lines))
-  unfolding Begins
+  there : whole t ≡ accepted (bodyOf (held t) (s t .args .bytes .now) (t .heading2 .given .0 .0) (lines t) (at t)) (at t + bodyWidth (lines t))
+  unfolding saidBy
   there =
-      let d = z .before .before .heading2 .given in
-      let begins = subst (Begins (s .args .end)) (d .1) (s .pre .1) in
-      ap (headedBy (maskOf (s .args .holding)) (s .args .bytes .now) (s .args .end)) (d .1)
-      ∙ headed-there (maskOf (s .args .holding)) (s .args .bytes .now) (s .args .end) (d .0 .0) lines at (omega (arith, z .size .ensures .bits, begins .0, c .if1 .left)) (s .pre .2)
+      ap (λ (d : Heading). headedAt (held t) (s t .args .bytes .now) (s t .args .end) (saidBy (viewOf (s t .args .holding)) d)) (t .heading2 .given .1)
+      ∙ headed-there (held t) (s t .args .bytes .now) (s t .args .end) (t .heading2 .given .0 .0) (lines t) (at t) (omega (arith, z .size .ensures .bits, begins t, c .if1 .left)) (s t .pre .3)
 
-  said : (rows : ℕ) → rows ≡ length (linesOf (maskOf (s .args .holding)) lines)
-      → Message (z .before .before .heading2 .given .0 .0) (at + z .size .result .bits) rows
-      ≡ answerOf (headedBy (maskOf (s .args .holding)) (s .args .bytes .now) (s .args .end) (s .args .heading))
-  said rows e = body-said (maskOf (s .args .holding)) (s .args .bytes .now) (s .args .end) _ lines at _ rows (z .size .ensures .bits) e ∙ ap answerOf (sym there)
+  said : (rows : ℕ) → rows ≡ length (lines t) → Answers.Message (t .heading2 .given .0 .0) (at t + z .size .result .bits) rows ≡ answerOf (whole t)
+  said rows e = body-said (held t) (s t .args .bytes .now) (s t .args .end) _ (lines t) (at t) _ rows (z .size .ensures .bits) e ∙ ap answerOf (sym there)
 
 returns-2 : tie.Need-returns-2
 unfolding rowsAfter over flatten
 returns-2 c =
     let e = c .before .before .before in
     let none = sym (c .before .if2 .taken) ∙ z e .size .ensures .rows in
-    (said e 0 none, rw (there e, none-at (linesOf (maskOf (s e .args .holding)) (lines e)) (s e .args .bytes .now) (at e) (sym none)) refl)
+    (said e 0 none, rw (there e, none-at (lines (t e)) (s (t e) .args .bytes .now) (at (t e)) (sym none)) refl)
 
-write-requires : tie.Need-write-requires
-unfolding Begins
-write-requires c κs =
+fill-requires : tie.Need-fill-requires
+fill-requires c κs =
     let e = c .before .before .before in
-    let begins = subst (Begins (s e .args .end)) (z e .before .before .heading2 .given .1) (s e .pre .1) in
-    (s e .pre .0, begins .1, z e .size .ensures .bits, omega (arith, begins .0, s e .pre .3), s e .pre .4)
+    let p = s (t e) .pre in
+    (p .0, fits (t e), z e .size .ensures .bits, omega (arith, begins (t e), p .4, e .if1 .left), p .5)
 
 returns-3 : tie.Need-returns-3
-unfolding answerOf rowsAfter headedBy
-returns-3 c =
-    rw (c .before .heading .given .1) (refl, refl)
+unfolding saidBy answerOf rowsAfter headedAt
+returns-3 c = rw (c .before .heading .given .1) (refl, refl)
 
 returns-4 : tie.Need-returns-4
 unfolding rowsAfter
 returns-4 c =
     let e = c .before .before .before .before .before .before in
-    (said e _ (z e .size .ensures .rows), rw (there e) (c .before .before .write .ensures))
+    (said e _ (z e .size .ensures .rows), rw (there e) (c .before .before .fill .ensures))
 
 pub body-of-spec : {M : Type 1} → statement M
 body-of-spec =
     tie.close
-    (tie.spec (λ c. search needs) (λ c. search needs) size-requires sub-if1 returns (λ c. search needs) returns-2 write-requires (λ c. search needs)
-    returns-3 (λ c. search needs) returns-4)
+    (tie.spec (λ c. search needs) (λ c. search needs) size-requires sub-left (λ c. search needs) returns (λ c. search needs) returns-2 fill-requires
+    (λ c. search needs) returns-3 (λ c. search needs) returns-4)

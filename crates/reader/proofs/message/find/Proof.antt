@@ -1,58 +1,140 @@
--- `reader::message::find` meets its contract.
--- Assumes nothing.
-use mathlib.Core.Path.{_∙_, sym, ap, refl}
+-- `reader::message::find` meets its contract. Assumes nothing.
+use mathlib.Core.Path.{_≡_, _∙_, sym, ap, refl}
+use mathlib.Core.Logic.{_⊎_, inl, inr}
+use Prim.Native.Nat.{ℕ, _+_}
+use native.Mathlib.Omega.{arith}
 use borrow.Author.Needs.{needs}
-use borrow.Author.Tests.{eq-eqb, ne-eqb}
-use Rattle.format.proofs.Stops.{stop-leaves}
-use Rattle.heads.specs.Sorting.{sortedAt}
-use Rattle.heads.proofs.Sorted.{sub-type-told}
+use denote.Enum.Declared.{tagOf}
+use Rattle.format.specs.Messages as Messages
+use Rattle.format.specs.Programs.{Ended, well, badly, later, run}
+use Rattle.format.specs.Reading.{Outcome, bitsFrom, answerOf, rowsAfter}
+use Rattle.format.specs.Table.{opening}
+use Rattle.heads.specs.Heads.{openingBy}
+use Rattle.heads.specs.Headings.{saidBy}
+use Rattle.heads.specs.Sorting.{headingFor, headedAt}
+use Rattle.heads.proofs.Opened.{Opened, opened, tabled}
+use Rattle.holding.specs.declared.Holding.{Holding}
+use Rattle.holding.specs.Held.{skyIn, viewOf}
 use Rattle.holding.specs.Pictures.{maskOf}
+use Rattle.holding.proofs.Sounds.{sounds}
 use Rattle.reader.specs.declared.message.Found.the-variants.{Answered}
-use Rattle.reader.specs.Readings.{foundBy}
-use Rattle.reader.proofs.Adopted.{adopted-rows}
-use Rattle.reader.proofs.Findings.{read-opened, read-unopened}
+use Rattle.reader.specs.Readings.{readAt, foundAs, foundBy}
+use Rattle.reader.proofs.Findings.{opened-well, opened-badly, begins, shows, sorted-headed, sorted-adopted, adopted-rows, read-sorted, read-stopped}
 use Rattle.reader.proofs.message.find.Statement.{statement}
 use Rattle.reader.proofs.message.find.Tie as tie
+use Rattle.table.proofs.Kind.{the-type}
+use Rattle.table.specs.declared.Kind.{Kind}
+use Rattle.table.specs.declared.Kind.the-variants as Kinds
+use Rattle.table.specs.Kinds.{kindFor}
 
+-- any kind but a mask is answered
+other-found : (k : Kind) (o : Outcome) → (k ≡ Kinds.Mask → ⊥) → Answered (answerOf o) ≡ foundAs k o
+unfolding foundAs
+other-found Kinds.Other o other = refl
+other-found Kinds.Mask o other = absurd (other refl)
+other-found Kinds.Packet o other = refl
+other-found (Kinds.Masked l) o other = refl
+
+not-mask : (k : Kind) → (tagOf the-type k ≡ 0) ⊎ ((tagOf the-type k ≡ 2) ⊎ (tagOf the-type k ≡ 3)) → k ≡ Kinds.Mask → ⊥
+not-mask k keys e = go (rw e at keys)
+  where
+    go : (_≡_ {A = ℕ} 1 0) ⊎ ((_≡_ {A = ℕ} 1 2) ⊎ (_≡_ {A = ℕ} 1 3)) → ⊥
+    go (inl z) = omega arith
+    go (inr (inl z)) = omega arith
+    go (inr (inr z)) = omega arith
+
+-- a sub type was read
+module _ (c : tie.After-kind-of) where
+  abbrev o : tie.After-opening2
+  o = c .before .before
+
+  abbrev s : tie.Start
+  s = o .before .before .before .before
+
+  abbrev n : ℕ
+  n = o .opening2 .given .0 .0
+
+  ran : (taken : ℕ) × (run opening (bitsFrom (s .args .bytes .now) (s .args .end) (s .args .start)) ≡ well n taken)
+  ran = opened-well _ n (sym (o .before .before .open .ensures) ∙ o .opening2 .given .1)
+
+  told : Opened (s .args .bytes .now) (s .args .end) (s .pre .1) (s .args .start) (s .pre .3) n (ran .0)
+  told = opened (s .args .bytes .now) (s .args .end) (s .pre .1) (s .args .start) (s .pre .3) n (ran .0) (ran .1)
+
+  of-table : c .kind-of .result ≡ kindFor n
+  of-table = c .kind-of .ensures
+
+-- a mask is left to be read
 returns : tie.Need-returns
-unfolding foundBy sortedAt
+unfolding openingBy foundBy foundAs
 returns c =
-    let s = c .before .before .before .before .before .before in
-    let x = s .args in
-    let o = sym (c .before .before .before .before .open .ensures) ∙ c .before .before .opening .given .1 in
-    let one = eq-eqb (c .before .before .opening .given .0 .0) 1 (c .if1 .taken) in
-    rw (o, one, read-opened (x .holding) (s .pre .0) (x .bytes .now) (x .end) (x .start) (s .pre .1) (s .pre .3) _ o, one)
-    (refl, adopted-rows (maskOf (x .holding)) _ _ (x .rows .now))
+    let k = c .before .before in
+    let x = s k .args in
+    let masked : kindFor (n k) ≡ Kinds.Mask = sym (of-table k) ∙ c .enum-told .given .1 in
+    let same =
+    read-sorted (x .holding) (s k .pre .0) (x .bytes .now) (x .end) (s k .pre .1) (x .start) (s k .pre .3) (n k) (ran k .0) (ran k .1)
+    ∙ sorted-adopted (x .holding) (s k .pre .0) (x .bytes .now) (x .end) (s k .pre .1) (x .start + 16) (n k) masked in
+    (rw (ran k .1, masked), adopted-rows (maskOf (x .holding)) (x .start + 16) _ (x .rows .now) ∙ ap (λ (w : Outcome). rowsAfter w (x .rows .now)) (sym same))
 
-rowed-requires : tie.Need-rowed-requires
-rowed-requires c κs =
-    let s = c .before .before .before .before .before .before .before in
-    let x = s .args in
-    let o = c .before .before .before .opening .given in
-    let told = sub-type-told (x .bytes .now) (x .end) (x .start) (o .0 .0) (s .pre .3) (sym (c .before .before .before .before .before .open .ensures) ∙ o .1) in
-    (s .pre .0, s .pre .1, s .pre .2, told .0, told .1, s .pre .4, c .before .if1 .left)
+-- any other message has a heading
+of-requires : tie.Need-of-requires
+of-requires c κs =
+    let k = c .before in
+    let p = s k .pre in
+    (told k .small, sounds (s k .args .holding) (p .0) .few-satellites, rw (of-table k) (tabled (n k)), p .1, told k .there, omega (arith, p .2))
 
+module _ (c : tie.After-of) where
+  abbrev k : tie.After-kind-of
+  k = c .before .before
+
+  abbrev h : Holding
+  h = s k .args .holding
+
+  other : kindFor (n k) ≡ Kinds.Mask → ⊥
+  other e = not-mask (k .kind-of .result) (c .before .match2 .keys2) (of-table k ∙ e)
+
+  abbrev headed : Kind → Ended Messages.Heading
+  headed q =
+      later (s k .args .start + 16)
+      (run (headingFor q (record { held = h .held; iod = h .iod; n = h .nsat; subtype = n k }) (skyIn (viewOf h))) (bitsFrom (s k .args .bytes .now) (s k .args .end) (s k .args .start + 16)))
+
+  said : saidBy (viewOf h) (c .of .result) ≡ headed (kindFor (n k))
+  said = c .of .ensures .0 (viewOf h) (shows h (s k .pre .0) (s k .args .bytes .now) (s k .args .end) (s k .pre .1)) ∙ ap headed (of-table k)
+
+  reads : headedAt (maskOf h) (s k .args .bytes .now) (s k .args .end) (saidBy (viewOf h) (c .of .result)) ≡ readAt h (s k .args .bytes .now) (s k .args .end) (s k .args .start)
+  reads =
+      ap (headedAt (maskOf h) (s k .args .bytes .now) (s k .args .end)) said
+      ∙ sym (read-sorted h (s k .pre .0) (s k .args .bytes .now) (s k .args .end) (s k .pre .1) (s k .args .start) (s k .pre .3) (n k) (ran k .0) (ran k .1)
+      ∙ sorted-headed h (s k .pre .0) (s k .args .bytes .now) (s k .args .end) (s k .pre .1) (s k .args .start + 16) (n k) other)
+
+body-of-requires : tie.Need-body-of-requires
+body-of-requires c κs =
+    let q = c .before in
+    let p = s (k q) .pre in
+    let x = s (k q) .args in
+    (p .0, q .of .ensures .1, rw (said q) (begins (x .bytes .now) (x .end) (p .1) (x .start + 16) (told (k q) .there) _), p .1, p .2, p .4)
+
+-- refused before that: a stop
 returns-2 : tie.Need-returns-2
-unfolding foundBy
+unfolding openingBy foundBy
 returns-2 c =
-    let s = c .before .before .before .before .before .before .before .before .before in
-    let x = s .args in
-    let o = sym (c .before .before .before .before .before .before .before .open .ensures) ∙ c .before .before .before .before .before .opening .given .1 in
-    let other = ne-eqb (c .before .before .before .before .before .opening .given .0 .0) 1 (c .before .before .before .if1 .left) in
-    rw (o, other, read-opened (x .holding) (s .pre .0) (x .bytes .now) (x .end) (x .start) (s .pre .1) (s .pre .3) _ o)
-    (ap Answered (c .before .rowed .ensures .0), c .before .rowed .ensures .1)
+    let r = c .before .before in
+    let t = r .before .before .before .before in
+    let x = t .args in
+    let e = opened-badly _ _ _ (sym (r .before .before .open .ensures) ∙ r .opening .given .1) in
+    let stop = read-stopped (x .holding) (t .pre .0) (x .bytes .now) (x .end) (t .pre .1) (x .start) (t .pre .3) _ _ e in
+    (ap Answered (c .unopened .ensures ∙ stop .0) ∙ rw e, stop .2 (x .rows .now))
 
 returns-3 : tie.Need-returns-3
-unfolding foundBy
+unfolding openingBy foundBy
 returns-3 c =
-    let s = c .before .before .before .before .before .before in
-    let x = s .args in
-    let o = sym (c .before .before .before .before .open .ensures) ∙ c .before .before .opening2 .given .1 in
-    let stop = read-unopened (x .holding) (s .pre .0) (x .bytes .now) (x .end) (x .start) (s .pre .1) (s .pre .3) _ _ o in
-    rw (o, c .unopened .ensures) (ap Answered (stop .0), sym (stop-leaves _ (x .rows .now) (stop .1)))
+    let b = c .before in
+    let q = b .before .before in
+    let x = s (k q) .args in (
+      ap Answered (b .body-of .ensures .0 ∙ ap answerOf (reads q)) ∙ other-found (kindFor (n (k q))) _ (other q) ∙ rw (ran (k q) .1),
+      b .body-of .ensures .1 ∙ ap (λ (w : Outcome). rowsAfter w (x .rows .now)) (reads q),
+    )
 
 pub find-spec : {M : Type 1} → statement M
 find-spec =
     tie.close
-    (tie.spec (λ c κs. search needs) (λ c. search needs) returns (λ c. search needs) rowed-requires (λ c. search needs) (λ c κs. search needs)
-    (λ c. search needs) returns-2 returns-3)
+    (tie.spec (λ c κs. search needs) (λ c. search needs) (λ c κs. search needs) (λ c. search needs) (λ c κs. search needs) (λ c. search needs) returns (λ c. search needs) of-requires body-of-requires returns-2 (λ c. search needs) returns-3)

@@ -1,67 +1,45 @@
 -- `rows::row::wide` meets its contract. Assumes nothing.
 use mathlib.Core.Path.{refl, ap, _∙_}
 use mathlib.Core.List.{List, _∷_}
-use Prim.Native.Nat.{ℕ, _+_, _-_, _%_, _≤_}
-use native.Mathlib.Omega.{arith}
+use Prim.Native.Nat.{ℕ, _+_, _-_, _%_}
 use borrow.Author.Needs.{needs}
 use lib.IntN.{ℤ}
 use mir.Facts.{toZ-ofZ}
 use mir.Syntax.{w32}
-use Rattle.rows.proofs.Cuts.{half-lt, values-wide}
+use Rattle.rows.proofs.Cuts.{half-lt, moved-lt, values-wide}
 use Rattle.rows.proofs.row.wide.Statement.{statement}
 use Rattle.rows.proofs.row.wide.Tie as tie
 
 abbrev start : tie.After-eight → tie.Start
-start w = w .before .before .before .before .before .before
+start w = w .before .before .before .before .before
 
--- how many bits lie below the first column in the half window
+-- how many bits lie below the fourth column in the half window
 abbrev below : tie.Start → ℕ
-below s = 63 - s .args .at % 8 - s .args .shape .v1 .width
-
--- four columns lie in it
-room : (s : tie.Start) → s .args .at % 8 + s .args .shape .v1 .width + s .args .shape .v2 .width + s .args .shape .v3 .width + s .args .shape .v4 .width ≤ 63
-room s = omega (arith, s .pre .2 .window)
-
-sub-second : tie.Need-sub-second
-sub-second c = omega (arith, room (start (c .before .before)))
-
-sub-third : tie.Need-sub-third
-sub-third c = omega (arith, room (start (c .before .before .before)))
-
-sub-fourth : tie.Need-sub-fourth
-sub-fourth c = omega (arith, room (start (c .before .before .before .before)))
+below s = let h = s .args .s in 63 - s .args .at % 8 - (h .v1 .width + (h .v2 .width + (h .v3 .width + h .v4 .width)))
 
 value-requires : tie.Need-value-requires
 value-requires c κs =
-    let w = c .before .before .before .before .before in
+    let w = c .before in
     let s = start w in
-    (half-lt (s .args .bytes .now) (s .args .at) (w .eight .ensures) _, s .pre .2 .first)
+    (moved-lt (s .args .bytes .now) (s .args .at) (w .eight .ensures) (below s) _, s .pre .2 .first)
 
 value-requires-2 : tie.Need-value-requires-2
 value-requires-2 c κs =
-    let w = c .before .before .before .before .before .before in
+    let w = c .before .before in
     let s = start w in
-    (half-lt (s .args .bytes .now) (s .args .at) (w .eight .ensures) _, s .pre .2 .second)
+    (moved-lt (s .args .bytes .now) (s .args .at) (w .eight .ensures) (below s) _, s .pre .2 .second)
 
 value-requires-3 : tie.Need-value-requires-3
 value-requires-3 c κs =
-    let w = c .before .before .before .before .before .before .before in
+    let w = c .before .before .before in
     let s = start w in
-    (half-lt (s .args .bytes .now) (s .args .at) (w .eight .ensures) _, s .pre .2 .third)
+    (moved-lt (s .args .bytes .now) (s .args .at) (w .eight .ensures) (below s) _, s .pre .2 .third)
 
 value-requires-4 : tie.Need-value-requires-4
 value-requires-4 c κs =
-    let w = c .before .before .before .before .before .before .before .before in
+    let w = c .before .before .before .before in
     let s = start w in
     (half-lt (s .args .bytes .now) (s .args .at) (w .eight .ensures) _, s .pre .2 .fourth)
-
-alone-requires : tie.Need-alone-requires
-alone-requires c κs =
-    let s = start (c .before .before .before .before .before .before .before .before .before) in
-    (s .pre .2 .fifth, omega (arith, s .pre .2 .window, s .pre .3))
-
-store-requires : tie.Need-store-requires
-store-requires c κs = start (c .before .before .before .before .before .before .before .before .before .before) .pre .0
 
 returns : tie.Need-returns
 returns c =
@@ -70,17 +48,17 @@ returns c =
     let v3 = v4 .before in
     let v2 = v3 .before in
     let v1 = v2 .before in
-    let w = v1 .before .before .before .before .before .before in
+    let w = v1 .before .before in
     let s = start w in
     let x = s .args in
     c .before .store .ensures
     ∙ rw (toZ-ofZ (s .fits .system), toZ-ofZ (s .fits .satellite), toZ-ofZ (s .fits .signal), toZ-ofZ {w = w32} (record { sfits = v1 .value .ok }), toZ-ofZ {w = w32} (record { sfits = v2 .value2 .ok }), toZ-ofZ {w = w32} (record { sfits = v3 .value3 .ok }), toZ-ofZ {w = w32} (record { sfits = v4 .value4 .ok }), toZ-ofZ {w = w32} (record { sfits = v5 .alone .ok }))
     (ap (λ (l : List ℤ). x .system ∷ x .satellite ∷ x .signal ∷ l)
-    (values-wide (x .bytes .now) (x .at) (w .eight .ensures) (x .shape) (below s) refl (s .pre .2 .window) (v1 .value .ensures) (v2 .value2 .ensures) (v3 .value3 .ensures) (v4 .value4 .ensures) (v5 .alone .ensures)))
+    (values-wide (x .bytes .now) (x .at) (w .eight .ensures) (x .s) (s .pre .2) (below s) refl (v1 .value .ensures) (v2 .value2 .ensures) (v3 .value3 .ensures) (v4 .value4 .ensures) (v5 .alone .ensures)))
 
 pub wide-spec : {M : Type 1} → statement M
 wide-spec =
     tie.close
-    (tie.spec (λ c. search needs) (λ c. search needs) (λ c. search needs) (λ c. search needs) (λ c κs. search needs) (λ c. search needs)
-    (λ c. search needs) sub-second sub-third sub-fourth (λ c. search needs) value-requires (λ c. search needs) value-requires-2 (λ c. search needs)
-    value-requires-3 (λ c. search needs) value-requires-4 alone-requires store-requires (λ c. search needs) returns)
+    (tie.spec (λ c. search needs) (λ c. search needs) (λ c. search needs) (λ c κs. search needs) (λ c. search needs) (λ c. search needs) (λ c. search needs)
+    (λ c. search needs) value-requires (λ c. search needs) value-requires-2 (λ c. search needs) value-requires-3 value-requires-4
+    (λ c. search needs) (λ c κs. search needs) (λ c κs. search needs) (λ c. search needs) returns)

@@ -8,7 +8,7 @@ use Rattle.rows.proofs.Columns.{one-up}
 use Rattle.rows.proofs.shape.counts.Statement.{statement}
 use Rattle.rows.proofs.shape.counts.Tie as tie
 
-sub-mask : tie.Need-sub-t6
+sub-mask : tie.Need-sub-t7
 sub-mask c = rw (one-up (c .args .w) (omega arith)) (pow-pos (c .args .w))
 
 returns : tie.Need-returns

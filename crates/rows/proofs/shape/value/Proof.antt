@@ -18,13 +18,13 @@ limits c = bounded (c .args .c) (c .pre .1)
 masked-small : (c : tie.Start) → bitAnd (c .args .x + c .args .c .half) (c .args .c .mask) < 2 ^ 31
 masked-small c = omega (arith, masked-lt (c .args .c) (c .args .x) (c .pre .1))
 
-less-small : (c : tie.Start) → c .args .c .less < 2 ^ 31
-less-small c = omega (arith, limits c .less)
+half-small : (c : tie.Start) → c .args .c .half < 2 ^ 31
+half-small c = omega (arith, limits c .half)
 
 -- the difference, as code has it
-difference : (c : tie.Start) → toZ w32 (bitAnd (c .args .x + c .args .c .half) (c .args .c .mask)) -ℤ toZ w32 (c .args .c .less) ≡ computed (c .args .c) (c .args .x)
+difference : (c : tie.Start) → toZ w32 (bitAnd (c .args .x + c .args .c .half) (c .args .c .mask)) -ℤ toZ w32 (c .args .c .half) ≡ computed (c .args .c) (c .args .x)
 unfolding computed
-difference c = rw (toZ-pos w32 (masked-small c), toZ-pos w32 (less-small c))
+difference c = rw (toZ-pos w32 (masked-small c), toZ-pos w32 (half-small c))
 
 small : (c : tie.Start) → SFits w32 (computed (c .args .c) (c .args .x))
 small c = record { sfits = omega (arith, value-small (c .args .c) (c .args .x) (c .pre .1)) }

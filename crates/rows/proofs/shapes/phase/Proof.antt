@@ -3,12 +3,13 @@ use mathlib.Core.Path.{_∙_}
 use borrow.Author.Needs.{needs}
 use Rattle.format.specs.Messages.{phaseShape}
 use Rattle.rows.specs.Shapes.{shapeWith}
+use Rattle.rows.specs.Table.{shapes, shapeAt, shapeIn}
 use Rattle.rows.proofs.shapes.phase.Statement.{statement}
 use Rattle.rows.proofs.shapes.phase.Tie as tie
 
 returns : tie.Need-returns
-unfolding phaseShape shapeWith
-returns c = c .slim .ensures ∙ rw (c .before .plain .ensures, c .before .before .counts .ensures)
+unfolding phaseShape shapeWith shapes shapeAt shapeIn
+returns c = c .three .ensures ∙ rw (c .before .gap .ensures, c .before .before .plain .ensures, c .before .before .before .counts .ensures)
 
 pub phase-spec : {M : Type 1} → statement M
-phase-spec = tie.close (tie.spec (λ c κs. search needs) (λ c κs. search needs) (λ c κs. search needs) returns)
+phase-spec = tie.close (tie.spec (λ c κs. search needs) (λ c κs. search needs) (λ c κs. search needs) (λ c κs. search needs) returns)

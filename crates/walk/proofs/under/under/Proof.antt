@@ -1,5 +1,4 @@
--- `walk::under::under` meets its contract. The loop's invariant: it stands where the walk went.
--- Assumes nothing.
+-- `walk::under::under` meets its contract. The loop's invariant: it stands where the walk went. Assumes nothing.
 use mathlib.Core.Path.{_≡_, refl, sym, ap, subst, _∙_}
 use mathlib.Core.List.{List}
 use Prim.Native.Nat.{_+_, _-_}
@@ -8,20 +7,20 @@ use lib.IntN.{ℤ}
 use lib.ListN.{length}
 use borrow.Author.Needs.{needs}
 use Rattle.reader.specs.declared.message.Found.the-variants.{Mask, Answered}
-use Rattle.walk.specs.Standing.{Stand, stand, Stands, Gone, Halts}
+use Rattle.walk.specs.Standing.{Stand, standAt, Stands, Gone, Halts}
 use Rattle.walk.proofs.Found.{no-message, mask-tag, under-goes, came}
 use Rattle.walk.proofs.Going.{gone-nowhere, gone-on, Goes}
 use Rattle.walk.proofs.under.under.Statement.{statement}
 use Rattle.walk.proofs.under.under.Tie as tie
 
 abbrev Inv-loop : tie.InvT-loop
-Inv-loop holding bytes end from messages count rows₀ place₀ sum₀ total₀ rows place sum total =
-    Stands bytes end (stand holding place sum total rows)
-    × Gone bytes end (stand holding from messages count rows₀) (stand holding place sum total rows)
+Inv-loop holding bytes end rows₀ place₀ sum₀ total₀ rows place sum total =
+    Stands bytes end (standAt holding (record { place = place; messages = sum; rows = total }) rows)
+    × Gone bytes end (standAt holding (record { place = place₀; messages = sum₀; rows = total₀ }) rows₀) (standAt holding (record { place = place; messages = sum; rows = total }) rows)
     × (length rows ≡ length rows₀)
 
 abbrev μ-loop : tie.MeasureT-loop
-μ-loop holding bytes end from messages count rows₀ place₀ sum₀ total₀ rows place sum total = end - place
+μ-loop holding bytes end rows₀ place₀ sum₀ total₀ rows place sum total = end - place
 
 loop-holds : tie.Need-loop-holds Inv-loop μ-loop
 loop-holds c = (c .before .pre, gone-nowhere _ _ _, refl)
@@ -32,10 +31,10 @@ module _ (c : tie.At-loop Inv-loop μ-loop) where
   s = c .before .before
 
   abbrev here : Stand
-  here = stand (s .args .holding) (c .loop .place) (c .loop .sum) (c .loop .total) (c .loop .rows)
+  here = standAt (s .args .holding) (record { place = c .loop .place; messages = c .loop .sum; rows = c .loop .total }) (c .loop .rows)
 
   abbrev start : Stand
-  start = stand (s .args .holding) (s .args .from) (s .args .messages) (s .args .count) (s .args .rows .now)
+  start = standAt (s .args .holding) (s .args .from) (s .args .rows .now)
 
 find-requires : tie.Need-find-requires Inv-loop μ-loop
 find-requires c κs =
@@ -69,12 +68,12 @@ module _ (c : tie.After-known-told2 Inv-loop μ-loop) where
   l = f .before .before
 
   goes : Goes (s l .args .bytes .now) (s l .args .end) (here l)
-      (stand (s l .args .holding) (c .before .answer .given .0 .1 .0) (l .loop .sum + 1) (l .loop .total + c .before .answer .given .0 .1 .1 .0) (f .find .last .1 .1 .1 .1 .0))
+      (standAt (s l .args .holding) (record { place = c .before .answer .given .0 .1 .0; messages = l .loop .sum + 1; rows = l .loop .total + c .before .answer .given .0 .1 .1 .0 }) (f .find .last .1 .1 .1 .1 .0))
   goes =
       let a = c .before .answer .given in
       let g = c .before .before .before .before .found .given in
       let said = sym (f .find .ensures .0) ∙ g .1 ∙ ap Answered (a .1) in
-      subst (λ (rows : List ℤ). Goes (s l .args .bytes .now) (s l .args .end) (here l) (stand (s l .args .holding) (a .0 .1 .0) (l .loop .sum + 1) (l .loop .total + a .0 .1 .1 .0) rows))
+      subst (λ (rows : List ℤ). Goes (s l .args .bytes .now) (s l .args .end) (here l) (standAt (s l .args .holding) (record { place = a .0 .1 .0; messages = l .loop .sum + 1; rows = l .loop .total + a .0 .1 .1 .0 }) rows))
       (sym (f .find .ensures .1))
       (under-goes (s l .args .bytes .now) (s l .args .end) (here l) (l .loop .inv .0) (a .0 .0) (a .0 .1 .0) (a .0 .1 .1 .0) said)
 

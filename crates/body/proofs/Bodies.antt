@@ -1,0 +1,245 @@
+-- The lines of a body under a sound holding: how many they are, how wide, and that each makes eight numbers.
+-- Assumes nothing.
+use mathlib.Core.Path.{_≡_, refl, sym, ap, ap₂, _∙_}
+use mathlib.Core.Bool.{Bool, true, false}
+use mathlib.Core.List.{List, [], _∷_, map}
+use Prim.Native.Nat.{ℕ, zero, suc, _+_, _-_, _*_, _/_, _^_, _≤_, _<_}
+use native.Mathlib.Nat.{mul-comm, le-of-suc-le-suc}
+use native.Mathlib.Omega.{arith}
+use borrow.Author.Tests.{ltb-true}
+use lib.Count.{ones}
+use lib.Dec.{ltb}
+use lib.IntN.{ℤ, pos}
+use lib.ListN.{length, take, length-map, length-append}
+use lib.Seq.{length-take-le}
+use Rattle.bits.specs.BitLists.{spell}
+use Rattle.format.proofs.Bodies.{none, more}
+use Rattle.format.proofs.Lengths.{cell-width, total-same, packet-width}
+use Rattle.format.proofs.Sames.{and-true}
+use Rattle.format.proofs.Spells.{packet-count}
+use Rattle.format.specs.Lengths.{total}
+use Rattle.format.specs.Masks.{Satellite, Cell, pick}
+use Rattle.format.specs.Messages.{satelliteLines, cellLines, packetLines, packetShape, clockShape, codeShape, phaseShape, combinedShape}
+use Rattle.format.specs.Rows.{Column, absent, widthOf, shapeWidth, bodyWidth}
+use Rattle.holding.proofs.Sounds.{Sounds, sounds}
+use Rattle.holding.specs.Bounds.{below, narrow}
+use Rattle.holding.specs.declared.Holding.{Holding}
+use Rattle.holding.specs.Held.{View, stripCells, slotsOf, viewOf}
+use Rattle.holding.specs.Pictures.{maskOf, sound}
+use Rattle.rows.proofs.RowsAt.{Eights, rows-length}
+use Rattle.rows.proofs.Table.{in-table, five-at, columns-in}
+use Rattle.rows.specs.declared.shape.Shape.{Shape}
+use Rattle.rows.specs.Shapes.{columnsIn}
+use Rattle.rows.specs.Table.{shapes, shapeAt, shapeFor}
+use Rattle.table.specs.declared.Body.{Body}
+use Rattle.table.specs.declared.Keys.{Keys}
+use Rattle.table.specs.declared.Keys.the-variants.{Satellites, Cells, Parts}
+use Rattle.table.specs.Bodies.{linesOver, linesIn, FitsKeys, Fits}
+use Rattle.body.specs.Chosen.{alone, cellsIn, striped, chosenLines}
+use Rattle.body.specs.Written.{Room, Counts}
+use Rattle.body.proofs.Groups.{alone-chosen, striped-chosen}
+use Rattle.body.proofs.Picks.{pick-all}
+use Rattle.body.proofs.Sizes.{Few, few-satellites, total-most, satellites-alike}
+use Rattle.body.proofs.Slots.{count-of}
+
+-- ---- shapes
+
+-- without an IODE one is the same in every system
+pub one-shape : (system i : ℕ) → i < 8 → (i ≡ 2 → ⊥) → (i ≡ 3 → ⊥) → shapeAt i system ≡ shapeAt i 0
+unfolding shapeAt shapes combinedShape clockShape codeShape phaseShape
+one-shape system =
+    in-table (λ i. (i ≡ 2 → ⊥) → (i ≡ 3 → ⊥) → shapeAt i system ≡ shapeAt i 0) (λ _ _. refl) (λ _ _. refl) (λ h _. absurd (h refl)) (λ _ h. absurd (h refl)) (λ _ _. refl) (λ _ _. refl) (λ _ _. refl)
+    (λ _ _. refl)
+
+-- as the code has it
+made-columns : (shape : ℕ) (t : Shape) → shape < 8 → t ≡ shapeFor shape → columnsIn t ≡ shapeAt shape
+made-columns shape t some made = ap columnsIn made ∙ (λ i system. columns-in system shape some i)
+
+-- a cell's has 17 bits at most
+cell-most : (system i : ℕ) → 5 ≤ i → i < 7 → shapeWidth (shapeAt i system) ≤ 17
+unfolding shapeAt shapes codeShape phaseShape shapeWidth widthOf
+cell-most system i some few =
+    in-table (λ i. 5 ≤ i → i < 7 → shapeWidth (shapeAt i system) ≤ 17) (λ h _. absurd (omega arith)) (λ h _. absurd (omega arith)) (λ h _. absurd (omega arith)) (λ h _. absurd (omega arith))
+    (λ h _. absurd (omega arith)) (λ _ _. omega arith) (λ _ _. omega arith) (λ _ h. absurd (omega arith)) i (omega arith) some few
+
+-- ---- the cells of satellites that are chosen
+
+no-cells : (sats : List Satellite) → stripCells sats [] ≡ []
+unfolding stripCells
+no-cells [] = refl
+no-cells (sat ∷ sats) = refl
+
+cells-few : (bits : List Bool) (sats : List Satellite) (strips : List ℕ) → length (stripCells (pick bits sats) (pick bits strips)) ≤ length (stripCells sats strips)
+unfolding stripCells pick
+cells-few [] sats strips = omega arith
+cells-few (b ∷ bits) [] strips = omega arith
+cells-few (true ∷ bits) (sat ∷ sats) [] = omega arith
+cells-few (false ∷ bits) (sat ∷ sats) [] = rw (no-cells (pick bits sats)) (omega arith)
+cells-few (true ∷ bits) (sat ∷ sats) (strip ∷ strips) = simp length-append (omega (arith, cells-few bits sats strips))
+cells-few (false ∷ bits) (sat ∷ sats) (strip ∷ strips) = simp length-append (omega (arith, cells-few bits sats strips))
+
+-- as many as their strips have ones
+cells-count : (bits : List Bool) (sats : List Satellite) (strips : List ℕ) → narrow 16 strips ≡ true → length sats ≤ length strips
+    → length (stripCells (pick bits sats) (pick bits strips)) ≡ total ones (pick bits (take (length sats) strips))
+unfolding stripCells cellsIn pick total below
+cells-count [] sats strips thin covered = refl
+cells-count (b ∷ bits) [] strips thin covered = refl
+cells-count (b ∷ bits) (sat ∷ sats) [] thin covered = absurd (omega arith)
+cells-count (true ∷ bits) (sat ∷ sats) (strip ∷ strips) thin covered =
+    let parts = and-true (ltb strip (2 ^ 16)) _ thin in
+    length-append (cellsIn 16 sat strip) _ ∙ ap₂ _+_ (count-of sat strip (ltb-true strip (2 ^ 16) (parts .0))) (cells-count bits sats strips (parts .1) (le-of-suc-le-suc covered))
+cells-count (false ∷ bits) (sat ∷ sats) (strip ∷ strips) thin covered =
+    cells-count bits sats strips (and-true (ltb strip (2 ^ 16)) _ thin .1) (le-of-suc-le-suc covered)
+
+-- ---- lines made one from each, as satellites' and cells' are
+
+lines-eights : {A : Type 0} (keys : A → List ℤ) (shape : A → List Column) (xs : List A) → ((x : A) → length (keys x) ≡ 3) → ((x : A) → length (shape x) ≡ 5)
+    → Eights (map (λ x. record { keys = keys x; shape = shape x }) xs)
+lines-eights keys shape [] three five = none
+lines-eights keys shape (x ∷ xs) three five = more (three x, five x) (lines-eights keys shape xs three five)
+
+packet-eights : (k n : ℕ) → Eights (packetLines k n)
+unfolding packetLines packetShape
+packet-eights k zero = none
+packet-eights k (suc n) = more (refl, refl) (packet-eights (suc k) n)
+
+eights : (v : View) (keys : Keys) (shape : ℕ) → FitsKeys keys shape → Eights (linesOver v keys shape)
+unfolding linesOver FitsKeys satelliteLines cellLines
+eights v (Satellites chosen) shape fits =
+    lines-eights {A = Satellite} (λ s. pos (s .system) ∷ pos (s .number) ∷ absent ∷ []) (λ s. shapeAt shape (s .system)) (pick (spell 64 chosen) (v .satellites)) (λ _. refl) (λ s. five-at (s .system) shape (omega arith))
+eights v (Cells chosen) shape fits =
+    lines-eights {A = Cell} (λ c. pos (c .satellite .system) ∷ pos (c .satellite .number) ∷ pos (c .signal) ∷ []) (λ c. shapeAt shape (c .satellite .system))
+    (stripCells (pick (spell 64 chosen) (v .satellites)) (pick (spell 64 chosen) (v .strips))) (λ _. refl) (λ c. five-at (c .satellite .system) shape (omega arith))
+eights v (Parts n) shape fits = packet-eights 1 n
+
+-- how many they are and how wide, under so few satellites and cells
+pub few-lines : (v : View) (keys : Keys) (shape : ℕ) → length (v .satellites) ≤ 64 → length (stripCells (v .satellites) (v .strips)) ≤ 256 → FitsKeys keys shape → Few (linesOver v keys shape)
+unfolding linesOver FitsKeys satelliteLines cellLines
+few-lines v (Satellites chosen) shape sats cells fits = few-satellites shape chosen (v .satellites) (omega arith) sats
+few-lines v (Cells chosen) shape sats cells fits =
+    let some : List Cell = stripCells (pick (spell 64 chosen) (v .satellites)) (pick (spell 64 chosen) (v .strips)) in
+    let less = cells-few (spell 64 chosen) (v .satellites) (v .strips) in
+    record {
+      rows = rw length-map (omega arith);
+      bits = omega (arith, cell-width (shapeAt shape) some, total-most (λ (c : Cell). shapeWidth (shapeAt shape (c .satellite .system))) 17 some (λ c. cell-most (c .satellite .system) shape (fits .0) (fits .1)));
+    }
+few-lines v (Parts n) shape sats cells fits = record { rows = omega (arith, packet-count 1 n); bits = omega (arith, packet-width 1 n) }
+
+-- ---- what a body's keys say
+
+module _ (body : Body) (fits : Fits body) where
+  pub satellites-fit : {chosen : ℕ} → body .keys ≡ Satellites chosen → body .shape < 5
+  unfolding FitsKeys
+  satellites-fit known = rw known at fits
+
+  pub cells-fit : {chosen : ℕ} → body .keys ≡ Cells chosen → (5 ≤ body .shape) × (body .shape < 7)
+  unfolding FitsKeys
+  cells-fit known = rw known at fits
+
+  pub parts-fit : {n : ℕ} → body .keys ≡ Parts n → (n ≤ 4) × (body .shape ≡ 7)
+  unfolding FitsKeys
+  parts-fit known = rw known at fits
+
+pub lines-known : (v : View) (body : Body) {keys : Keys} → body .keys ≡ keys → linesOver v keys (body .shape) ≡ linesIn v body
+unfolding linesIn
+lines-known v body known = rw known
+
+-- ---- rows of one width
+
+pub cells-alike : (v : View) (chosen shape n width : ℕ) → 5 ≤ shape → shape < 7 → n ≡ length (stripCells (pick (spell 64 chosen) (v .satellites)) (pick (spell 64 chosen) (v .strips)))
+    → width ≡ shapeWidth (shapeAt shape 0) → Counts (linesOver v (Cells chosen) shape) (record { bits = n * width; rows = n })
+unfolding linesOver cellLines
+cells-alike v chosen shape n width some few many wide =
+    let cells : List Cell = stripCells (pick (spell 64 chosen) (v .satellites)) (pick (spell 64 chosen) (v .strips)) in
+    let same : (c : Cell) → shapeWidth (shapeAt shape (c .satellite .system)) ≡ width =
+    λ c. ap shapeWidth (one-shape (c .satellite .system) shape (omega arith) (λ e. omega arith) (λ e. omega arith)) ∙ sym wide in
+    record {
+      bits = ap (λ (k : ℕ). k * width) many ∙ mul-comm (length cells) width ∙ sym (cell-width (shapeAt shape) cells ∙ total-same _ width cells same);
+      rows = many ∙ sym (length-map cells _);
+    }
+
+pub parts-alike : (v : View) (n shape width : ℕ) → shape ≡ 7 → width ≡ shapeWidth (shapeAt shape 0) → Counts (linesOver v (Parts n) shape) (record { bits = n * width; rows = n })
+unfolding linesOver shapeAt shapes packetShape shapeWidth widthOf
+parts-alike v n shape width last wide =
+    let w : width ≡ 40 = wide ∙ rw last in
+    record { bits = rw w (omega (arith, packet-width 1 n)); rows = sym (packet-count 1 n) }
+
+-- ---- under a sound holding
+
+module _ (h : Holding) (e : sound h ≡ true) where
+  s : Sounds (maskOf h) h
+  s = sounds h e
+
+  pub counted : h .count ≤ length (h .ids)
+  counted = omega (arith, s .few-systems, s .shaped .ids)
+
+  pub prefix : h .count ≡ length (take (h .count) (h .ids))
+  prefix = sym (length-take-le (h .count) (h .ids) counted)
+
+  pub masked : (length (take (h .count) (h .ids)) ≤ length (h .satellites)) × (narrow 40 (h .satellites) ≡ true)
+  masked = (omega (arith, prefix, s .few-systems, s .shaped .satellites), s .satellites-narrow)
+
+  pub many : length (slotsOf h) ≡ h .nsat
+  many = ap length (s .slots) ∙ sym (s .nsat)
+
+  pub few : h .nsat ≤ 64
+  few = s .few-satellites
+
+  pub stripped : h .nsat ≤ length (h .strips)
+  stripped = omega (arith, few, s .shaped .strips)
+
+  pub covered : length (slotsOf h) ≤ length (h .strips)
+  covered = omega (arith, many, stripped)
+
+  all-cells : h .ncell ≡ length (stripCells (slotsOf h) (h .strips))
+  all-cells = s .ncell ∙ ap length (sym (ap (λ (l : List Satellite). stripCells l (h .strips)) (s .slots) ∙ s .strips))
+
+  -- ---- the cells that are chosen
+
+  pub every-cell : (chosen : ℕ) → chosen ≡ 2 ^ 64 - 1 → h .ncell ≡ length (stripCells (pick (spell 64 chosen) (slotsOf h)) (pick (spell 64 chosen) (h .strips)))
+  every-cell chosen all =
+      rw (all, pick-all (slotsOf h) (omega (arith, many, few)), pick-all (h .strips) (omega (arith, s .shaped .strips))) all-cells
+
+  pub some-cells : (chosen : ℕ) → total ones (pick (spell 64 chosen) (take (h .nsat) (h .strips))) ≡ length (stripCells (pick (spell 64 chosen) (slotsOf h)) (pick (spell 64 chosen) (h .strips)))
+  some-cells chosen = ap (λ (n : ℕ). total ones (pick (spell 64 chosen) (take n (h .strips)))) (sym many) ∙ sym (cells-count (spell 64 chosen) (slotsOf h) (h .strips) (s .shaped .strips-narrow) covered)
+
+  pub few-chosen : (chosen : ℕ) → length (stripCells (pick (spell 64 chosen) (slotsOf h)) (pick (spell 64 chosen) (h .strips))) ≤ 256
+  few-chosen chosen = omega (arith, all-cells, s .few-cells, cells-few (spell 64 chosen) (slotsOf h) (h .strips))
+
+  -- ---- the lines
+
+  pub by-shape : (chosen shape : ℕ) → chosenLines chosen (alone (shapeAt shape) (slotsOf h)) ≡ linesOver (viewOf h) (Satellites chosen) shape
+  unfolding linesOver
+  by-shape chosen shape = alone-chosen (shapeAt shape) chosen (slotsOf h)
+
+  pub by-satellites : (chosen shape : ℕ) (t : Shape) → shape < 8 → t ≡ shapeFor shape → chosenLines chosen (alone (columnsIn t) (slotsOf h)) ≡ linesOver (viewOf h) (Satellites chosen) shape
+  by-satellites chosen shape t some made = ap (λ (f : ℕ → List Column). chosenLines chosen (alone f (slotsOf h))) (made-columns shape t some made) ∙ by-shape chosen shape
+
+  pub by-cells : (chosen shape : ℕ) (t : Shape) → shape < 8 → t ≡ shapeFor shape → chosenLines chosen (striped (columnsIn t) (slotsOf h) (h .strips)) ≡ linesOver (viewOf h) (Cells chosen) shape
+  unfolding linesOver
+  by-cells chosen shape t some made =
+      ap (λ (f : ℕ → List Column). chosenLines chosen (striped f (slotsOf h) (h .strips))) (made-columns shape t some made) ∙ striped-chosen (shapeAt shape) chosen (slotsOf h) (h .strips)
+
+  -- ---- their bounds
+
+  pub few-in : (body : Body) → Fits body → Few (linesIn (viewOf h) body)
+  unfolding linesIn
+  few-in body fits = few-lines (viewOf h) (body .keys) (body .shape) (omega (arith, many, few)) (omega (arith, all-cells, s .few-cells)) fits
+
+  -- 2048 numbers are room for every body
+  pub roomy : (body : Body) {keys : Keys} (bytes : List ℕ) (at : ℕ) (rows : List ℤ) → body .keys ≡ keys → Fits body → at + bodyWidth (linesIn (viewOf h) body) < 2 ^ 32
+      → at + bodyWidth (linesIn (viewOf h) body) + 120 ≤ 8 * length bytes → 2048 ≤ length rows → Room (linesOver (viewOf h) keys (body .shape)) bytes at rows
+  unfolding linesIn
+  roomy body bytes at rows known fits near whole room =
+      let lines = linesIn (viewOf h) body in
+      let long = rows-length lines bytes at (eights (viewOf h) (body .keys) (body .shape) fits) in
+      let short = few-in body fits .rows in
+      rw (lines-known (viewOf h) body known) (record { room = omega (arith, long, short); few = omega (arith, long, short); near = near; whole = whole })
+
+  -- ---- satellites whose rows have no IODE
+
+  pub alike : (chosen shape width : ℕ) → chosen < 2 ^ 64 → shape < 8 → (shape ≡ 2 → ⊥) → (shape ≡ 3 → ⊥) → width ≡ shapeWidth (shapeAt shape 0)
+      → let some = ones (chosen / 2 ^ (64 - h .nsat)) in Counts (linesOver (viewOf h) (Satellites chosen) shape) (record { bits = some * width; rows = some })
+  unfolding linesOver
+  alike chosen shape width small some not-orbit not-both wide =
+      satellites-alike (shapeAt shape) width chosen (h .nsat) _ (slotsOf h) (λ system. ap shapeWidth (one-shape system shape some not-orbit not-both) ∙ sym wide) small many few refl

@@ -1,0 +1,26 @@
+-- The lines of a body satellite by satellite, and those of the satellites that a selection chooses.
+use mathlib.Core.List.{List, [], _∷_, map, flatten}
+use Prim.Native.Nat.{ℕ}
+use Rattle.bits.specs.BitLists.{spell}
+use Rattle.format.specs.Masks.{Satellite, Cell, placesFrom, pick}
+use Rattle.format.specs.Messages.{satelliteLines, cellLines}
+use Rattle.format.specs.Rows.{Column, Line}
+use Rattle.holding.specs.Held.{cellsAt}
+
+-- one for each satellite
+unfoldable pub alone : (ℕ → List Column) → List Satellite → List (List Line)
+alone shape sats = map (λ sat. satelliteLines shape (sat ∷ [])) sats
+
+-- the cells of one satellite, by a strip of w bits
+unfoldable pub cellsIn : ℕ → Satellite → ℕ → List Cell
+cellsIn w sat strip = cellsAt sat (placesFrom 0 (spell w strip))
+
+-- one for each cell of each satellite, by its strip
+unfoldable pub striped : (ℕ → List Column) → List Satellite → List ℕ → List (List Line)
+striped shape [] strips = []
+striped shape (sat ∷ sats) [] = []
+striped shape (sat ∷ sats) (strip ∷ strips) = cellLines shape (cellsIn 16 sat strip) ∷ striped shape sats strips
+
+-- of such lines those of the satellites that a selection chooses, the first one's bit being the highest of 64
+unfoldable pub chosenLines : ℕ → List (List Line) → List Line
+chosenLines chosen groups = flatten (pick (spell 64 chosen) groups)

@@ -1,0 +1,94 @@
+-- `heads::heading::by_flags` meets its contract. Assumes nothing.
+use mathlib.Core.Path.{_≡_, _∙_, sym, ap, refl}
+use mathlib.Core.Bool.{Bool}
+use mathlib.Core.List.{List}
+use Prim.Native.Nat.{ℕ, zero, suc, _+_, _-_, _*_, _/_, _%_, _≤_, _<_}
+use native.Mathlib.Nat.{add-zero}
+use native.Mathlib.Omega.{arith}
+use borrow.Author.Needs.{needs}
+use borrow.Author.Tests.{eq-eqb, ne-eqb}
+use lib.Dec.{eqb}
+use lib.IntN.{ℤ, pos}
+use mir.Facts.{toZ-pos}
+use mir.Syntax.{w32}
+use Rattle.bits.specs.BitLists.{digit}
+use Rattle.format.specs.declared.Head.{Head}
+use Rattle.format.specs.Messages as Messages
+use Rattle.format.specs.Messages.{selection, satelliteLines, headOf}
+use Rattle.format.specs.Masks.{Sky, Satellite}
+use Rattle.format.specs.Programs.{Program, _>>=_, well, later, run}
+use Rattle.format.specs.Reading.{bitsFrom}
+use Rattle.holding.specs.Held.{skyIn}
+use Rattle.format.specs.Rows.{absent}
+use Rattle.heads.specs.declared.CommonHead.{CommonHead}
+use Rattle.heads.specs.declared.heading.Under.{Under}
+use Rattle.heads.specs.Headings.{headWith, saidBy, FitsHeading, rowed, networked, networkBy, afterFlags}
+use Rattle.heads.proofs.Picked.{pick-all}
+use Rattle.heads.proofs.heading.by_flags.Statement.{statement}
+use Rattle.heads.proofs.heading.by_flags.Tie as tie
+use Rattle.rows.specs.Table.{shapeAt}
+use Rattle.table.specs.Bodies.{linesIn, linesOver, FitsKeys}
+use Rattle.table.specs.Shapes.{shapesFrom}
+
+-- the shape that two flags say, by half of the number that the three are
+bit : (n : ℕ) → n < 2 → digit (eqb n 1) ≡ n
+bit zero small = refl
+bit (suc zero) small = refl
+bit (suc (suc n)) small = absurd (omega arith)
+
+by-half : (shape flags : ℕ) → flags < 8 → shapesFrom shape (eqb (flags / 4) 1) (eqb (flags / 2 % 2) 1) ≡ shapeAt (shape + flags / 2)
+unfolding shapesFrom
+by-half shape flags small =
+    let first = bit (flags / 4) (omega arith) in
+    let second = bit (flags / 2 % 2) (omega arith) in
+    rw (first, second) (ap (λ (i : ℕ). shapeAt (shape + i)) (omega arith))
+
+-- with a network, and without
+module _ (u : Under) (h : CommonHead) (flags : ℕ) (small : flags < 8) (sky : Sky) where
+  abbrev numbers : Head
+  numbers = headWith (u .subtype) h (pos (flags / 4)) (pos (flags / 2 % 2)) absent
+
+  with-network : flags % 2 ≡ 1 → afterFlags u h flags sky ≡ networkBy (sky .satellites) numbers (shapeAt (u .layout .shape + flags / 2))
+  unfolding afterFlags networkBy rowed networked headWith headOf
+  with-network one = rw (one, by-half (u .layout .shape) flags small)
+
+  without : flags % 2 ≡ 0 → (l : List Bool)
+      → run (afterFlags u h flags sky) l ≡ well (record { head = numbers; lines = satelliteLines (shapeAt (u .layout .shape + flags / 2)) (sky .satellites) }) 0
+  unfolding afterFlags selection _>>=_ run headWith
+  without none l = rw (none, by-half (u .layout .shape) flags small)
+
+-- the head that was made
+module _ (c : tie.After-head) where
+  abbrev start : tie.Start
+  start = c .before .before .before
+
+  made : c .head .result ≡ headWith (start .args .under .subtype) (start .args .h) (pos (start .args .flags / 4)) (pos (start .args .flags / 2 % 2)) absent
+  made =
+      let flags = start .args .flags in
+      rw (toZ-pos w32 {n = flags / 4} (omega (arith, start .pre .3)), toZ-pos w32 {n = flags / 2 % 2} (omega arith)) at (c .head .ensures)
+
+returns : tie.Need-returns
+unfolding skyIn
+returns c =
+    let p = c .before .before in
+    let s = start p in
+    let x = s .args in
+    let one : x .flags % 2 ≡ 1 = omega (arith, c .before .if1 .taken) in
+    let said = rw (made p) at (c .selection .ensures .0) in (
+      λ v shows. said v shows ∙ ap (λ (q : Program Messages.Heading). later (x .place) (run q (bitsFrom (x .bytes .now) (x .end) (x .place)))) (sym (with-network (x .under) (x .h) (x .flags) (s .pre .3) (skyIn v) one)),
+      c .selection .ensures .1,
+    )
+
+returns-2 : tie.Need-returns-2
+unfolding saidBy FitsHeading FitsKeys linesIn linesOver skyIn later
+returns-2 c =
+    let p = c .before in
+    let s = start p in
+    let x = s .args in (
+      λ v shows.
+          rw (made p, without (x .under) (x .h) (x .flags) (s .pre .3) (skyIn v) (c .if1 .left) _, pick-all (v .satellites) (omega (arith, shows .count, shows .few)), add-zero (x .place)),
+      omega (arith, s .pre .2, s .pre .3),
+    )
+
+pub by-flags-spec : {M : Type 1} → statement M
+by-flags-spec = tie.close (tie.spec (λ c. search needs) (λ c. search needs) (λ c. search needs) (λ c κs. search needs) (λ c κs. search needs) returns returns-2)

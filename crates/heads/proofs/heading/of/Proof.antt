@@ -1,0 +1,43 @@
+-- `heads::heading::of` meets its contract. Assumes nothing.
+use mathlib.Core.Path.{_≡_, sym, ap}
+use borrow.Author.Needs.{needs}
+use Rattle.format.specs.Programs.{later, run}
+use Rattle.format.proofs.Runs.{badly-later}
+use Rattle.heads.specs.Headings.{saidBy, FitsHeading}
+use Rattle.heads.specs.Sorting.{OfTable, headingFor, underWith}
+use Rattle.heads.proofs.heading.of.Statement.{statement}
+use Rattle.heads.proofs.heading.of.Tie as tie
+use Rattle.table.specs.declared.Kind.the-variants.{Masked}
+use Rattle.table.specs.declared.Layout.{Layout}
+use Rattle.table.specs.Kinds.{LaidOut}
+
+laid : (l : Layout) → OfTable (Masked l) → LaidOut l
+unfolding OfTable
+laid l h = h
+
+masked-requires : tie.Need-masked-requires
+masked-requires c κs =
+    let pre = c .before .before .before .before .pre in
+    let known = c .before .kind .given in
+    (pre .0, pre .1, laid (known .0 .0) (rw (known .1) at (pre .2)), pre .3, pre .4, pre .5)
+
+returns : tie.Need-returns
+unfolding saidBy FitsHeading headingFor run later
+returns c = (λ v shows. rw (c .enum-told .given .1), tt)
+
+returns-2 : tie.Need-returns-2
+unfolding saidBy FitsHeading headingFor run later
+returns-2 c = (λ v shows. rw (c .enum-told2 .given .1), tt)
+
+returns-3 : tie.Need-returns-3
+unfolding headingFor
+returns-3 c = (λ v shows. rw (c .before .enum-told3 .given .1) (c .packet .ensures .0 v), c .packet .ensures .1)
+
+returns-4 : tie.Need-returns-4
+unfolding headingFor
+returns-4 c = (λ v shows. rw (c .before .before .kind .given .1) (c .masked .ensures .0 v shows), c .masked .ensures .1)
+
+pub of-spec : {M : Type 1} → statement M
+of-spec =
+    tie.close
+    (tie.spec (λ c. search needs) (λ c. search needs) (λ c. search needs) (λ c κs. search needs) (λ c. search needs) masked-requires returns returns-2 returns-3 returns-4)

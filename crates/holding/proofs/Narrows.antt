@@ -1,0 +1,56 @@
+-- How many bits the numbers of a good mask's picture have. Assumes nothing.
+use mathlib.Core.Path.{_≡_, refl, _∙_}
+use mathlib.Core.Bool.{Bool, true, false, cond}
+use mathlib.Core.List.{List, [], _∷_, _++_, map, flatMap}
+use Prim.Native.Nat.{ℕ, zero, suc, _^_, _<_}
+use borrow.Author.Tests.{lt-ltb}
+use lib.ListN.{length, drop, replicate}
+use Rattle.bits.proofs.BitLists.{number-lt}
+use Rattle.bits.specs.BitLists.{number}
+use Rattle.format.proofs.Sames.{and-true, true-and}
+use Rattle.format.specs.Good.{goodSystem, goodSystems}
+use Rattle.format.specs.Masks.{System, placesFrom}
+use Rattle.format.proofs.MakesBack.{good-system}
+use Rattle.holding.specs.Bounds.{below, narrow}
+use Rattle.holding.specs.Pictures.{stripsFrom, stripsOf}
+use Rattle.holding.specs.Spread.{spread}
+use Rattle.holding.proofs.Bounds.{below-append, below-replicate}
+use Rattle.holding.proofs.Spreads.{length-spread}
+
+-- the number of bits of a known length
+number-small : (w : ℕ) (l : List Bool) → length l ≡ w → number l < 2 ^ w
+number-small w l e = rw e at (number-lt l)
+
+-- ---- the strips of a system
+
+narrow-stripsFrom : (n : ℕ) (signals bits : List Bool) → length signals ≡ 16 → narrow 16 (stripsFrom n signals bits) ≡ true
+unfolding stripsFrom below
+narrow-stripsFrom zero signals bits long = refl
+narrow-stripsFrom (suc n) signals bits long =
+    true-and (lt-ltb _ _ (number-small 16 (spread signals bits) (length-spread signals bits ∙ long)))
+    (narrow-stripsFrom n signals (drop (length (placesFrom 0 signals)) bits) long)
+
+narrow-stripsBy : (flag : Bool) (n : ℕ) (signals bits : List Bool) → length signals ≡ 16
+    → narrow 16 (cond flag (stripsFrom n signals bits) (replicate n (number signals))) ≡ true
+narrow-stripsBy true n signals bits long = narrow-stripsFrom n signals bits long
+narrow-stripsBy false n signals bits long = below-replicate (2 ^ 16) n (number signals) (number-small 16 signals long)
+
+-- ---- good systems
+
+pub record Narrow (ss : List System) : Type 0 where
+  pub satellites : narrow 40 (map (λ s. number (s .satellites)) ss) ≡ true
+  pub signals : narrow 16 (map (λ s. number (s .signals)) ss) ≡ true
+  pub strips : narrow 16 (flatMap stripsOf ss) ≡ true
+
+pub narrow-systems : (before ss : List System) → goodSystems before ss ≡ true → Narrow ss
+unfolding goodSystems flatMap stripsOf below
+narrow-systems before [] e = record { satellites = refl; signals = refl; strips = refl }
+narrow-systems before (s ∷ ss) e =
+    let parts = and-true (goodSystem before s) _ e in
+    let z = good-system before s (parts .0) in
+    let more = narrow-systems (before ++ (s ∷ [])) ss (parts .1) in
+    record {
+      satellites = true-and (lt-ltb _ _ (number-small 40 (s .satellites) (z .whole))) (more .satellites);
+      signals = true-and (lt-ltb _ _ (number-small 16 (s .signals) (z .long))) (more .signals);
+      strips = below-append (2 ^ 16) (stripsOf s) (flatMap stripsOf ss) (narrow-stripsBy (s .flag) _ (s .signals) (s .cells) (z .long)) (more .strips);
+    }

@@ -1,0 +1,53 @@
+-- `holding::strips_empty::strips_empty` meets its contract. The loop's invariant: nothing is gathered just if none of the strips passed is used, nor one of
+-- the last four.
+-- Assumes nothing.
+use mathlib.Core.Path.{_≡_, sym, ap, _∙_}
+use mathlib.Core.Bool.{Bool, _&&_}
+use Prim.Native.Nat.{_-_, _≤_}
+use native.Mathlib.Nat.{sub-self}
+use native.Mathlib.Omega.{arith}
+use borrow.Author.Needs.{needs}
+use lib.Dec.{eqb}
+use lib.ListN.{take, drop, length-drop}
+use lib.Seq.{take-all}
+use Rattle.holding.specs.Testing.{emptyStrips}
+use Rattle.holding.proofs.EmptyFours.{empty-more, empty-last}
+use Rattle.holding.proofs.Tests.{and-swap}
+use Rattle.holding.proofs.strips_empty.strips_empty.Statement.{statement}
+use Rattle.holding.proofs.strips_empty.strips_empty.Tie as tie
+
+abbrev Inv-loop : tie.InvT-loop
+Inv-loop strips from any₀ i₀ any i =
+    (from ≤ i) × (i ≤ 64) × (eqb any 0 ≡ (emptyStrips (take (i - from) (drop from strips)) && emptyStrips (drop 60 strips)))
+
+abbrev μ-loop : tie.MeasureT-loop
+μ-loop strips from any₀ i₀ any i = 64 - i
+
+loop-holds : tie.Need-loop-holds Inv-loop μ-loop
+unfolding emptyStrips
+loop-holds c =
+    let x = c .before .before .before .args in
+    let four = take-all 4 (drop 60 (x .strips .now)) (omega (arith, length-drop 60 (x .strips .now))) in
+    (omega arith, omega arith, c .gathered .ensures ∙ rw (four, sub-self))
+
+loop-again : tie.Need-loop-again Inv-loop μ-loop
+loop-again c =
+    let x = c .before .before .before .before .before .before .args in
+    let s = c .before .before .loop in
+    let four = emptyStrips (take 4 (drop (s .i) (x .strips .now))) in
+    let more = empty-more (x .strips .now) (x .from) (s .i) 4 (s .inv .0) in
+    let last = emptyStrips (drop 60 (x .strips .now)) in
+    let swap = and-swap (emptyStrips (take (s .i - x .from) (drop (x .from) (x .strips .now)))) last four in
+    (omega arith, omega arith, c .gathered2 .ensures ∙ ap (λ (t : Bool). t && four) (s .inv .2) ∙ swap ∙ ap (λ (t : Bool). t && last) (sym more))
+
+returns-2 : tie.Need-returns-2 Inv-loop μ-loop
+returns-2 c =
+    let x = c .before .before .before .before .before .args in
+    let s = c .before .loop in
+    s .inv .2 ∙ empty-last (x .strips .now) (x .from) 60 (s .i) (omega arith) (omega arith)
+
+pub strips-empty-spec : {M : Type 1} → statement M
+strips-empty-spec =
+    tie.close
+    (tie.spec Inv-loop μ-loop (λ c κs. search needs) (λ c. c .each-empty .ensures) (λ c κs. omega arith) loop-holds (λ c κs. omega arith)
+    (λ c. omega arith) (λ c. omega arith) loop-again returns-2)

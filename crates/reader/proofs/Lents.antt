@@ -1,0 +1,36 @@
+-- What is lent as a struct, and what is lent after a reading as that struct again. Assumes nothing.
+use mathlib.Core.Path.{_≡_, refl, ap, _∙_}
+use mathlib.Core.Bool.{Bool, true, false, cond}
+use Rattle.format.specs.Good.{isHolding}
+use Rattle.format.specs.Masks.{Lent, stray, lent, heldIn}
+use Rattle.holding.specs.declared.Holding.{Holding}
+use Rattle.holding.specs.Pictures.{pictureOf, maskOf, sound}
+use Rattle.holding.proofs.Sounds.{sounds}
+use Rattle.reader.specs.Readings.{lentBy, structOf}
+
+module _ (h : Holding) where
+  pub sound-lent : sound h ≡ true → lentBy h ≡ lent (maskOf h)
+  unfolding lentBy
+  sound-lent e = rw e
+
+  -- it is a holding where the struct is sound
+  pub is-holding : isHolding (lentBy h) ≡ sound h
+  unfolding lentBy isHolding
+  is-holding = go (sound h) refl
+    where
+      go : (b : Bool) → sound h ≡ b → isHolding (cond b (lent (maskOf h)) stray) ≡ b
+      go true e = sounds h e .good-held
+      go false e = refl
+
+  -- there and back
+  pub lent-back : structOf h (lentBy h) ≡ h
+  unfolding lentBy structOf
+  lent-back = go (sound h) refl
+    where
+      go : (b : Bool) → sound h ≡ b → structOf h (cond b (lent (maskOf h)) stray) ≡ h
+      go true e = sounds h e .picture
+      go false e = refl
+
+  pub kept : sound h ≡ true → structOf h (lent (maskOf h)) ≡ h
+  unfolding structOf
+  kept e = sounds h e .picture

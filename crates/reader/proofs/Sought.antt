@@ -1,0 +1,74 @@
+-- What is found at a place, by the tests of what is lent. Assumes nothing.
+use mathlib.Core.Path.{_≡_, refl, sym, ap, _∙_}
+use mathlib.Core.List.{List}
+use Prim.Native.Nat.{ℕ, _+_}
+use lib.IntN.{ℤ}
+use lib.ListN.{length}
+use native.Mathlib.Omega.{arith}
+use denote.Enum.Declared.{tagOf}
+use Rattle.format.specs.declared.Answer.{Answer}
+use Rattle.format.specs.declared.Answer.the-variants as Answers
+use Rattle.format.specs.declared.Refusal.{Refusal}
+use Rattle.format.specs.Reading.{lentAfter, rowsAfter, answerOf}
+use Rattle.holding.specs.declared.Holding.{Holding}
+use Rattle.reader.specs.declared.message.Found.the-variants.{Mask, Answered}
+use Rattle.reader.specs.declared.Verdict.{Verdict}
+use Rattle.reader.specs.declared.Verdict.the-variants.{Good, Refused}
+use Rattle.reader.specs.Readings.{lentBy, outcomeAt, testsOf, testedBy, readAt, foundAt, soughtBy, soughtAt}
+use Rattle.reader.proofs.Findings.{FoundMask, FoundAnswer, found-mask, found-answer}
+use Rattle.reader.proofs.Lents.{sound-lent}
+use Rattle.reader.proofs.Outcomes.{Fine, tested-outcome, outcome-tested, all-good, begun}
+use Rattle.reader.proofs.message.Found.{the-type}
+
+module _ (h : Holding) (bs : List ℕ) (end start : ℕ) (rows : List ℤ) where
+  abbrev verdict : Verdict
+  verdict = testedBy (testsOf h bs end start (length rows))
+
+  -- ---- by the verdict
+
+  pub refused-lent : (r : Refusal) → verdict ≡ Refused r
+      → (Answers.Refused r 0 ≡ answerOf (outcomeAt h bs end start rows)) × (lentAfter (outcomeAt h bs end start rows) ≡ lentBy h) × (rows ≡ rowsAfter (outcomeAt h bs end start rows) rows)
+  unfolding tested-outcome answerOf lentAfter rowsAfter
+  refused-lent r e = rw (outcome-tested h bs end start rows, e) (refl, refl, refl)
+
+  pub good-lent : verdict ≡ Good → Fine h bs end start (length rows)
+  good-lent e = all-good h bs end start (length rows) (rw e refl)
+
+  pub good-reads : verdict ≡ Good → outcomeAt h bs end start rows ≡ readAt h bs end start
+  unfolding tested-outcome
+  good-reads e = outcome-tested h bs end start rows ∙ rw e (begun h (good-lent e .held) bs end start)
+
+  -- ---- by what was found
+
+  pub record SoughtMask : Type 0 where
+    pub fine : Fine h bs end start (length rows)
+    pub reads : outcomeAt h bs end start rows ≡ readAt h bs end start
+    pub found : FoundMask h (fine .held) bs end (fine .inside .lent) start (fine .inside .there)
+
+  pub record SoughtAnswer (a : Answer) : Type 0 where
+    pub says : a ≡ answerOf (outcomeAt h bs end start rows)
+    pub keeps : lentAfter (outcomeAt h bs end start rows) ≡ lentBy h
+
+  pub sought-mask : tagOf the-type (soughtAt h bs end start (length rows)) ≡ 0 → SoughtMask
+  unfolding soughtBy
+  sought-mask = go verdict refl
+    where
+      go : (v : Verdict) → verdict ≡ v → tagOf the-type (soughtBy v (foundAt h bs end start)) ≡ 0 → SoughtMask
+      go Good e tag =
+          let fine = good-lent e in
+          record { fine = fine; reads = good-reads e; found = found-mask h (fine .held) bs end (fine .inside .lent) start (fine .inside .there) tag }
+      go (Refused r) e tag = absurd (omega arith)
+
+  pub sought-answer : (a : Answer) → soughtAt h bs end start (length rows) ≡ Answered a → SoughtAnswer a
+  unfolding soughtBy
+  sought-answer a = go verdict refl
+    where
+      go : (v : Verdict) → verdict ≡ v → soughtBy v (foundAt h bs end start) ≡ Answered a → SoughtAnswer a
+      go Good e said =
+          let fine = good-lent e in
+          let it = found-answer h (fine .held) bs end (fine .inside .lent) start (fine .inside .there) a said in
+          record { says = it .says ∙ sym (ap answerOf (good-reads e)); keeps = ap lentAfter (good-reads e) ∙ it .keeps ∙ sym (sound-lent h (fine .held)) }
+      go (Refused r) e said =
+          let it = refused-lent r e in
+          let same : a ≡ Answers.Refused r 0 = cc in
+          record { says = same ∙ it .0; keeps = it .1 }

@@ -1,0 +1,67 @@
+-- The table of the code is the table of crate format: one computed law over its rows. Assumes nothing.
+use mathlib.Core.Path.{_≡_, refl, sym, ap, _∙_}
+use mathlib.Core.Bool.{Bool, true, false}
+use mathlib.Core.List.{List, [], _∷_}
+use Prim.Native.Nat.{ℕ, zero, suc, _+_}
+use native.Mathlib.Nat.{add-zero, zero-add}
+use native.Mathlib.Omega.{arith}
+use lib.ListN.{getD}
+use Rattle.format.specs.Messages.{combinedShape, orbitShape}
+use Rattle.format.specs.Rows.{Column}
+use Rattle.format.specs.Table as Table
+use Rattle.format.proofs.Tables.{Each, end, then, each-at}
+use Rattle.table.specs.declared.Kind.{Kind}
+use Rattle.table.specs.declared.Kind.the-variants.{Other}
+use Rattle.table.specs.Kinds.{codeKinds, kindFor, overBy, programBy, maskedBy, kindBy}
+use Rattle.rows.specs.Table.{shapes, shapeAt}
+use Rattle.table.specs.Shapes.{shapesFrom}
+
+-- the rows from a number on, by what they mean
+unfoldable kindsBy : ℕ → List Kind → List Table.Kind
+kindsBy n [] = []
+kindsBy n (k ∷ ks) = kindBy n k ∷ kindsBy (suc n) ks
+
+-- sub type 11's four shapes
+combined-shapes : shapesFrom 0 ≡ combinedShape
+unfolding shapesFrom shapeAt shapes
+combined-shapes = λ i a b. each a b i
+  where
+    each : (a b : Bool) → shapesFrom 0 a b ≡ combinedShape a b
+    each true true = refl
+    each true false = refl
+    each false true = refl
+    each false false = refl
+
+-- the computed law
+rows-mean : kindsBy 0 codeKinds ≡ Table.kinds
+unfolding kindsBy codeKinds kindBy maskedBy programBy overBy shapeAt shapes Table.kinds Table.alone orbitShape combinedShape
+rows-mean = rw combined-shapes
+
+at-row : (k n : ℕ) (ks : List Kind) → kindBy (k + n) (getD ks n Other) ≡ getD (kindsBy k ks) n Table.other
+unfolding kindsBy kindBy
+at-row k n [] = refl
+at-row k zero (x ∷ ks) = rw add-zero
+at-row k (suc n) (x ∷ ks) =
+    let next : k + suc n ≡ suc k + n = omega arith in
+    rw next (at-row (suc k) n ks)
+
+pub table-means : (n : ℕ) → kindBy n (kindFor n) ≡ Table.table n
+unfolding kindFor Table.table
+table-means n = rw zero-add at (at-row 0 n codeKinds) ∙ ap (λ (ks : List Table.Kind). getD ks n Table.other) rows-mean
+
+-- ---- which rows are of ours
+
+-- no number but these has a row
+abbrev pub Unlisted : ℕ → Type 0
+Unlisted n = ((((((Unit {0} × (n ≡ 1 → ⊥)) × (n ≡ 2 → ⊥)) × (n ≡ 3 → ⊥)) × (n ≡ 4 → ⊥)) × (n ≡ 5 → ⊥)) × (n ≡ 10 → ⊥)) × (n ≡ 11 → ⊥)
+
+unlisted-rows : Each (λ n k. Unlisted n → Other ≡ k) 0 codeKinds
+unfolding codeKinds
+unlisted-rows =
+    then (λ _. refl) (then (λ u. absurd (u .0 .0 .0 .0 .0 .0 .1 refl)) (then (λ u. absurd (u .0 .0 .0 .0 .0 .1 refl)) (then (λ u. absurd (u .0 .0 .0 .0 .1 refl))
+    (then (λ u. absurd (u .0 .0 .0 .1 refl)) (then (λ u. absurd (u .0 .0 .1 refl)) (then (λ _. refl) (then (λ _. refl) (then (λ _. refl) (then (λ _. refl)
+    (then (λ u. absurd (u .0 .1 refl)) (then (λ u. absurd (u .1 refl)) end)))))))))))
+
+pub unlisted-other : (n : ℕ) → Unlisted n → Other ≡ kindFor n
+unfolding kindFor
+unlisted-other n u = let it = each-at Other unlisted-rows (λ n _. refl) n in (rw zero-add at it) u

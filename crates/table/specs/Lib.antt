@@ -1,0 +1,3 @@
+pub mod Shapes
+pub mod Bodies
+pub mod Kinds
