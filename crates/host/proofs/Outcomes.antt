@@ -6,6 +6,7 @@ use mathlib.Core.Logic.{_⊎_, inl, inr}
 use Prim.Native.Nat.{ℕ, _≤_}
 use native.Mathlib.Omega.{arith}
 use lib.Dec.{leb}
+use lib.IntN.{ℤ}
 use lib.ListN.{length}
 use borrow.Author.Tests.{leb-true}
 use denote.Enum.Declared.{tagOf}
@@ -19,15 +20,16 @@ use Rattle.format.specs.Reading.{lentAfter, answerOf, over}
 use Rattle.heads.specs.Sorting.{adoptedBy}
 use Rattle.format.proofs.Answer.{the-type}
 use Rattle.format.proofs.Sames.{and-true}
+use Rattle.format.proofs.Stops.{Stopped, stop-holds}
 use Rattle.bits.proofs.Windows.{Bytes}
 use Rattle.holding.specs.declared.Holding.{Holding}
 use Rattle.holding.specs.Pictures.{maskOf, sound}
 use Rattle.holding.proofs.Pictured.{sound-picture}
 use Rattle.holding.proofs.Sounds.{sounds}
-use Rattle.host.specs.Handing.{bytesAfter}
+use Rattle.host.specs.Handing.{bytesAfter, holdingBytes, hostOutcome}
 use Rattle.passing.specs.Passing.{size, bytesOf, passes, holdingIn}
 use Rattle.passing.proofs.Returns.{stray-none, bytes-return}
-use Rattle.reader.specs.Readings.{lentBy, structOf}
+use Rattle.reader.specs.Readings.{lentBy, structOf, outcomeAt}
 
 -- ---- what is lent after a message, as a struct and as bytes
 
@@ -79,3 +81,10 @@ bytes-stay hb small = go (sound (holdingIn hb)) refl
     go : (b : Bool) → sound (holdingIn hb) ≡ b → hb ≡ bytesAfter (cond b (lent (maskOf (holdingIn hb))) stray) hb
     go true e = sym (rw (sounds (holdingIn hb) e .picture) (bytes-return hb small e))
     go false e = refl
+
+-- so idle and every refusal leave the holding's bytes as they were
+pub stop-bytes : (hb bs : List ℕ) (end start : ℕ) (rows : List ℤ) → Bytes hb → Stopped (hostOutcome hb bs end start rows)
+    → holdingBytes (hostOutcome hb bs end start rows) hb ≡ hb
+unfolding hostOutcome outcomeAt
+stop-bytes hb bs end start rows small stopped =
+    ap (λ (l : Lent). bytesAfter l hb) (stop-holds (lentBy (holdingIn hb)) bs end start rows stopped) ∙ sym (bytes-stay hb small)
