@@ -27,14 +27,6 @@ bool hundurzek_write_field(uint8_t *part, uint64_t count, uint64_t skip, uint64_
 /* Whether every bit from a place to end is zero. */
 bool hundurzek_zero_from(const uint8_t *bytes, uint64_t count, uint64_t end, uint64_t place);
 
-typedef struct {
-  bool good;
-  int32_t value;
-} hundurzek_meant;
-
-/* Two's complement of w bits, 1 to 32: not good, and 0, for another width or a number of more bits. */
-hundurzek_meant hundurzek_to_signed(uint64_t n, uint64_t w);
-
 /* The w bits, 1 to 32, that mean an integer; UINT64_MAX for another width or an integer out of their range. */
 uint64_t hundurzek_from_signed(int32_t z, uint64_t w);
 

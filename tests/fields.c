@@ -112,13 +112,10 @@ static void zero_one(void) {
   expect(hundurzek_zero_from(bytes, count, end, place) == zero, "zero_from");
 }
 
+/* the bits of every width, by what they mean */
 static void signed_one(void) {
-  uint64_t w = below(35);
-  uint64_t n = below(5) ? next() >> (w ? 64 - (w > 32 ? 32 : w) : 0) : next();
-  bool good = w >= 1 && w <= 32 && n >> w == 0;
-  hundurzek_meant got = hundurzek_to_signed(n, w);
-  expect(got.good == good && got.value == (good ? signed_of(n, w) : 0), "to_signed");
-  if (good) expect(hundurzek_from_signed(got.value, w) == n, "from_signed after to_signed");
+  uint64_t w = 1 + below(32), n = next() >> (64 - w);
+  expect(hundurzek_from_signed((int32_t)signed_of(n, w), w) == n, "from_signed of what bits mean");
 }
 
 static void unsigned_one(void) {
@@ -128,7 +125,6 @@ static void unsigned_one(void) {
   bool good = w >= 1 && w <= 32 && z >= -(INT64_C(1) << (w - 1)) && z < INT64_C(1) << (w - 1);
   uint64_t got = hundurzek_from_signed(z, w);
   expect(got == (good ? (uint64_t)(int64_t)z & ((UINT64_C(1) << w) - 1) : UINT64_MAX), "from_signed");
-  if (good) expect(hundurzek_to_signed(got, w).value == z, "to_signed after from_signed");
 }
 
 int main(void) {

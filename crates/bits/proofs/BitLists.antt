@@ -9,7 +9,7 @@ use native.Mathlib.Numerals.{one-add}
 use native.Mathlib.Omega.{arith}
 use lib.Dec.{eqb}
 use lib.ListN.{length, getD, take, drop, length-append, length-drop, take-append-drop}
-use lib.Seq.{take-at, drop-at, take-nil, drop-nil, take-append-add, drop-append-add, length-take-le}
+use lib.Seq.{take-at, drop-at, length-take-le}
 use lib.Pow.{high, pow-pos, pow-add, shr-shr, mod-pow-add}
 use Rattle.bits.specs.BitLists.{digit, number, spell, bits, bytes}
 use Rattle.bits.proofs.Windows.{Bytes}
@@ -35,7 +35,7 @@ length-spell zero n = refl
 length-spell (suc w) n = ap suc (length-spell w n)
 
 -- what stands for a bit's number
-digit-eqb : (x : ℕ) → x < 2 → digit (eqb x 1) ≡ x
+pub digit-eqb : (x : ℕ) → x < 2 → digit (eqb x 1) ≡ x
 digit-eqb zero h = refl
 digit-eqb (suc zero) h = refl
 digit-eqb (suc (suc x)) h = absurd (omega arith)
@@ -106,22 +106,6 @@ pub bits-append : (bs cs : List ℕ) → bits (bs ++ cs) ≡ bits bs ++ bits cs
 unfolding bits
 bits-append [] cs = refl
 bits-append (b ∷ bs) cs = ap (λ (l : List Bool). spell 8 b ++ l) (bits-append bs cs) ∙ sym (append-assoc (spell 8 b) (bits bs) (bits cs))
-
-pub bits-drop : (i : ℕ) (bs : List ℕ) → bits (drop i bs) ≡ drop (8 * i) (bits bs)
-unfolding bits
-bits-drop zero bs = refl
-bits-drop (suc i) [] = sym (drop-nil (8 * suc i))
-bits-drop (suc i) (b ∷ bs) =
-    let e : 8 * suc i ≡ length (spell 8 b) + 8 * i = omega (arith, length-spell 8 b) in
-    bits-drop i bs ∙ rw e (sym (drop-append-add (spell 8 b) (bits bs) (8 * i)))
-
-pub bits-take : (i : ℕ) (bs : List ℕ) → bits (take i bs) ≡ take (8 * i) (bits bs)
-unfolding bits
-bits-take zero bs = refl
-bits-take (suc i) [] = sym (take-nil (8 * suc i))
-bits-take (suc i) (b ∷ bs) =
-    let e : 8 * suc i ≡ length (spell 8 b) + 8 * i = omega (arith, length-spell 8 b) in
-    rw (bits-take i bs, e) (sym (take-append-add (spell 8 b) (bits bs) (8 * i)))
 
 pub length-bytes : (count : ℕ) (l : List Bool) → length (bytes count l) ≡ count
 unfolding bytes

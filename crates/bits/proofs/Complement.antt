@@ -1,18 +1,18 @@
 -- Two's complement: both ways are inverse to each other on their ranges, over the width; and the shifts and the sum by which code goes them.
 -- An integer is in the range of w bits where twice its magnitude (`mag`: n for n and for -(n + 1)) is below 2 ^ w.
 -- Assumes nothing.
-use mathlib.Core.Path.{_≡_, refl, sym, ap, _∙_}
+use mathlib.Core.Path.{_≡_, refl, ap, _∙_}
 use mathlib.Core.Bool.{true, false}
-use Prim.Native.Nat.{ℕ, suc, _+_, _-_, _*_, _/_, _%_, _^_, _≤_, _<_}
-use native.Mathlib.Nat.{pow-suc, mul-right-comm, mul-le-mul-right, add-mul, suc-mul, mod-eq-of-lt, add-mod-right, mul-lt-mul-of-pos-right}
+use Prim.Native.Nat.{ℕ, suc, _+_, _-_, _*_, _%_, _^_, _≤_, _<_}
+use native.Mathlib.Nat.{pow-suc, mod-eq-of-lt, add-mod-right}
 use native.Mathlib.Decide.{decLt}
 use native.Mathlib.Omega.{arith}
 use borrow.Author.Tests.{lt-ltb, le-ltb, ltb-true}
 use lib.Dec.{T}
 use lib.IntN.{natAbs, ℤ, pos, negsuc, _+ℤ_, _-ℤ_}
-use lib.Pow.{pow-pos, pow-mono, pow-add, high, shl-shr}
-use lib.Signed.{mag, ltZ, nonNeg, shrZ}
-use mir.Facts.{toZ-ofZ, toZ-pos, toZ-neg, sfits-widen}
+use lib.Pow.{pow-mono}
+use lib.Signed.{mag, ltZ, nonNeg}
+use mir.Facts.{toZ-ofZ, toZ-pos, sfits-widen}
 use mir.Syntax.{w32, w64}
 use mir.Val.{SFits, toZ, ofZ}
 use Rattle.bits.specs.Signed.{signed, unsigned}
@@ -60,45 +60,6 @@ unfolding unsigned
 signed-unsigned w (pos n) wide h = signed-pos w n h
 signed-unsigned w (negsuc n) wide h =
     signed-neg w (2 ^ w - suc n) (omega (arith, even w wide)) (omega arith) ∙ ap negsuc (omega arith)
-
--- ---- from w bits: the sign bit is moved to the highest place, and copied down
-
--- half of 2 ^ 64, as the two shifts see it
-power : (w up : ℕ) → w + up ≡ 64 → 2 ^ w * 2 ^ up ≡ 2 ^ 64
-power w up e = sym (pow-add 2 w up) ∙ ap (λ (k : ℕ). 2 ^ k) e
-
-scaled : (w up n : ℕ) → w + up ≡ 64 → n < 2 ^ w → n * 2 ^ up < 2 ^ 64
-scaled w up n e small = rw (power w up e) at (mul-lt-mul-of-pos-right small (pow-pos up))
-
--- the complement of the moved bits, moved back
-complement : (w up n : ℕ) → w + up ≡ 64 → n < 2 ^ w → (2 ^ 64 - suc (n * 2 ^ up)) / 2 ^ up ≡ 2 ^ w - suc n
-complement w up n e small =
-    let m : ℕ = 2 ^ w - suc n in
-    let u : ℕ = 2 ^ up in
-    let parts : m + suc n ≡ 2 ^ w = omega arith in
-    let sum : 2 ^ 64 ≡ m * u + (n * u + u) = sym (power w up e) ∙ ap (λ (x : ℕ). x * u) (sym parts) ∙ add-mul m (suc n) u ∙ ap (λ (x : ℕ). m * u + x) (suc-mul n u) in
-    let split : 2 ^ 64 - suc (n * u) ≡ m * u + (u - 1) = omega (arith, pow-pos up) in
-    rw split (high m up (omega (arith, pow-pos up)))
-
-pub moved : (w up n : ℕ) → w + up ≡ 64 → 1 ≤ w → n < 2 ^ w → shrZ (toZ w64 (n * 2 ^ up % 2 ^ 64)) (2 ^ up) ≡ signed w n
-moved w up n e wide small = rw (mod-eq-of-lt (scaled w up n e small)) (go (decLt (n * 2) (2 ^ w)))
-  where
-    doubled : n * 2 * 2 ^ up ≡ n * 2 ^ up * 2
-    doubled = mul-right-comm n 2 (2 ^ up)
-
-    not-lt : ¬ (n * 2 < 2 ^ w) → 2 ^ w ≤ n * 2
-    not-lt h = omega arith
-
-    go : Dec (n * 2 < 2 ^ w) → shrZ (toZ w64 (n * 2 ^ up)) (2 ^ up) ≡ signed w n
-    go (yes h) =
-        let below : n * 2 ^ up < 2 ^ 63 = omega (arith, doubled, scaled w up (n * 2) e h) in
-        rw (toZ-pos w64 below, shl-shr n up, signed-pos w n h)
-    go (no h) =
-        let k : ℕ = 2 ^ 64 - suc (n * 2 ^ up) in
-        let half : 2 ^ 64 ≤ n * 2 ^ up * 2 = omega (arith, doubled, power w up e, mul-le-mul-right (2 ^ up) (not-lt h)) in
-        let bits : 2 ^ 64 - suc k ≡ n * 2 ^ up = omega (arith, scaled w up n e small) in
-        ap (λ (x : ℕ). shrZ (toZ w64 x) (2 ^ up)) (sym bits) ∙ ap (λ (z : ℤ). shrZ z (2 ^ up)) (toZ-neg w64 k (omega arith))
-        ∙ ap negsuc (complement w up n e small) ∙ sym (signed-neg w n (not-lt h) small)
 
 -- ---- to w bits: 2 ^ w is added, and what reaches it taken off again
 

@@ -27,10 +27,6 @@ field-add bs place u (suc w) =
     rw (add-suc u w, pow-suc, ← mul-assoc)
     (omega (arith, field-add bs place u w, ap (bitAt bs) (add-assoc place u w)))
 
-pub field-one : (bs : List ℕ) (place : ℕ) → field bs place 1 ≡ bitAt bs place
-unfolding field
-field-one bs place = rw (add-zero place) (omega arith)
-
 -- the bit at k of the byte at i
 pub bit-in : (bs : List ℕ) (i k : ℕ) → k < 8 → bitAt bs (8 * i + k) ≡ getD bs i 0 / 2 ^ (7 - k) % 2
 unfolding bitAt

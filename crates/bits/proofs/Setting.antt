@@ -11,10 +11,10 @@ use lib.ListN.{length, getD, take, drop, length-append, length-take, length-drop
 use lib.Pow.{pow-mono}
 use lib.Seq.{take-at, drop-at, drop-drop, length-take-le, getD-take, getD-drop, drop-append-add, take-append-add, take-append-le, drop-append-le}
 use Rattle.bits.specs.Places.{bitAt, field}
-use Rattle.bits.specs.BitLists.{number, spell, bits, bytes, setBits, setBytes, setField}
+use Rattle.bits.specs.BitLists.{digit, number, spell, bits, bytes, setBits, setBytes, setField}
 use Rattle.bits.proofs.Fields.{bit-lt}
 use Rattle.bits.proofs.Windows.{Bytes}
-use Rattle.bits.proofs.BitLists.{number-lt, length-spell, number-spell, length-bits, length-bytes, bits-bytes, bytes-bits, bits-append}
+use Rattle.bits.proofs.BitLists.{digit-eqb, number-lt, length-spell, number-spell, length-bits, length-bytes, bits-bytes, bytes-bits, bits-append}
 use Rattle.bits.proofs.Bridge.{bit-bits, spell-field, field-number}
 
 -- ---- bit lists
@@ -85,10 +85,6 @@ bytes-small (suc count) l zero =
     lt-of-lt-of-le (number-lt (take 8 l)) (pow-mono few)
 bytes-small (suc count) l (suc k) = bytes-small count (drop 8 l) k
 
-pub setBytes-small : (bs : List ℕ) (place : ℕ) (new : List Bool) → Bytes (setBytes bs place new)
-unfolding setBytes
-setBytes-small bs place new = bytes-small (length bs) (setBits (bits bs) place new)
-
 module _ (bs : List ℕ) (place : ℕ) (new : List Bool) (room : place + length new ≤ 8 * length bs) where
   inside : place + length new ≤ length (bits bs)
   inside = rw (length-bits bs) room
@@ -150,13 +146,7 @@ setBytes-part bs i place new small room =
 -- ---- fields
 
 same-bit : (a b : ℕ) → a < 2 → b < 2 → eqb a 1 ≡ eqb b 1 → a ≡ b
-same-bit zero zero ha hb e = refl
-same-bit zero (suc zero) ha hb e = let z : _≡_ {A = ℕ} 0 1 = cc in z
-same-bit (suc zero) zero ha hb e = let z : _≡_ {A = ℕ} 1 0 = cc in z
-same-bit (suc zero) (suc zero) ha hb e = refl
-same-bit zero (suc (suc b)) ha hb e = absurd (omega arith)
-same-bit (suc zero) (suc (suc b)) ha hb e = absurd (omega arith)
-same-bit (suc (suc a)) b ha hb e = absurd (omega arith)
+same-bit a b ha hb e = sym (digit-eqb a ha) ∙ ap digit e ∙ digit-eqb b hb
 
 pub length-setField : (bs : List ℕ) (place w n : ℕ) → length (setField bs place w n) ≡ length bs
 unfolding setField

@@ -11,7 +11,6 @@ use borrow.Author.Tests.{lt-ltb, le-ltb}
 use Rattle.bits.specs.Places.{field}
 use Rattle.bits.specs.Short.{missing, unlessShort, takenAt, bitsOf, shortBy, widthsOf}
 use Rattle.bits.specs.declared.read.Widths.{Widths}
-use Rattle.bits.specs.declared.read.Taken.{Taken}
 use Rattle.bits.specs.declared.read.Taken.the-variants.{Whole, Short}
 
 pub taken-whole : (bs : List ℕ) (end place w : ℕ) → w ≤ end - place → takenAt bs end place w ≡ Whole (field bs place w)
@@ -25,18 +24,6 @@ unfolding takenAt missing unlessShort
 taken-short bs end place w over =
     let some : zero < w - (end - place) = omega arith in
     rw (← (suc-pred-eq-of-pos some))
-
-some-missing : (whole n m : ℕ) → unlessShort (Whole whole) n ≡ Short m → 0 < m
-unfolding unlessShort
-some-missing whole zero m e = absurd (let z : _≡_ {A = ℕ} 0 1 = cc in omega arith)
-some-missing whole (suc n) m e =
-    let same : suc n ≡ m = cc in
-    omega arith
-
--- what is short misses one bit at least
-pub short-some : (bs : List ℕ) (end place w m : ℕ) → takenAt bs end place w ≡ Short m → 0 < m
-unfolding takenAt
-short-some bs end place w m e = some-missing (field bs place w) (missing end place w) m e
 
 -- ---- fields one after the other
 
@@ -62,25 +49,26 @@ one-short (w ∷ ws) left over = go (decLt left w) (one-short ws (left - w))
 
 -- ---- back from what was taken
 
--- which of two answers it is, where one is known
-module _ (t : Taken) (whole short : ℕ) (left needed : ℕ) (there : needed ≤ left → t ≡ Whole whole) (over : left < needed → t ≡ Short short) where
-  is-whole : (n : ℕ) → t ≡ Whole n → (needed ≤ left) × (n ≡ whole)
-  is-whole n e = go (decLt left needed)
-    where
-      go : Dec (left < needed) → (needed ≤ left) × (n ≡ whole)
-      go (yes h) = let f = over h in absurd (let z : _≡_ {A = ℕ} 0 1 = cc in omega arith)
-      go (no h) = let f = there (omega arith) in (omega arith, cc)
+pub field-whole : (bs : List ℕ) (end place w n : ℕ) → takenAt bs end place w ≡ Whole n → (w ≤ end - place) × (n ≡ field bs place w)
+unfolding takenAt missing unlessShort
+field-whole bs end place w n e = go (w - (end - place)) refl e
+  where
+    go : (m : ℕ) → w - (end - place) ≡ m → unlessShort (Whole (field bs place w)) m ≡ Whole n → (w ≤ end - place) × (n ≡ field bs place w)
+    go zero none e = (omega arith, cc)
+    go (suc m) some e = absurd (let z : _≡_ {A = ℕ} 0 1 = cc in omega arith)
 
-  is-short : (m : ℕ) → t ≡ Short m → (left < needed) × (m ≡ short)
-  is-short m e = go (decLt left needed)
-    where
-      go : Dec (left < needed) → (left < needed) × (m ≡ short)
-      go (yes h) = let f = over h in (h, cc)
-      go (no h) = let f = there (omega arith) in absurd (let z : _≡_ {A = ℕ} 0 1 = cc in omega arith)
+pub field-short : (bs : List ℕ) (end place w m : ℕ) → takenAt bs end place w ≡ Short m → (end - place < w) × (m ≡ w - (end - place))
+unfolding takenAt missing unlessShort
+field-short bs end place w m e = go (w - (end - place)) refl e
+  where
+    go : (n : ℕ) → w - (end - place) ≡ n → unlessShort (Whole (field bs place w)) n ≡ Short m → (end - place < w) × (m ≡ w - (end - place))
+    go zero none e = absurd (let z : _≡_ {A = ℕ} 0 1 = cc in omega arith)
+    go (suc n) some e =
+        let same : suc n ≡ m = cc in
+        (omega arith, omega arith)
 
-module _ (bs : List ℕ) (end place : ℕ) where
-  pub field-whole : (w n : ℕ) → takenAt bs end place w ≡ Whole n → (w ≤ end - place) × (n ≡ field bs place w)
-  field-whole w = is-whole (takenAt bs end place w) (field bs place w) (w - (end - place)) (end - place) w (taken-whole bs end place w) (taken-short bs end place w)
-
-  pub field-short : (w m : ℕ) → takenAt bs end place w ≡ Short m → (end - place < w) × (m ≡ w - (end - place))
-  field-short w = is-short (takenAt bs end place w) (field bs place w) (w - (end - place)) (end - place) w (taken-whole bs end place w) (taken-short bs end place w)
+-- what is short misses one bit at least
+pub short-some : (bs : List ℕ) (end place w m : ℕ) → takenAt bs end place w ≡ Short m → 0 < m
+short-some bs end place w m e =
+    let short = field-short bs end place w m e in
+    omega arith

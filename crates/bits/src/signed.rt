@@ -3,17 +3,7 @@ ghost use mathlib.Core.Path.{_≡_};
 ghost use Prim.Native.Nat.{_*_, _^_, _≤_, _<_};
 ghost use lib.Dec.{ltb};
 ghost use lib.Signed.{mag};
-ghost use Rattle.bits.specs.Signed.{signed, unsigned};
-
-// The integer that w bits mean. The sign bit is moved to the highest place, and from there copied down.
-pub fn to_signed(n: u64, w: usize) -> i32
-    requires { ⌜ (1 ≤ w) × (w ≤ 32) × (n < 2 ^ w) ⌝ }
-    ensures { λ r. ⌜ r ≡ signed w n ⌝ }
-{
-    let up = 64 - w;
-    let z = ((n as i64) << up) >> up;
-    z as i32
-}
+ghost use Rattle.bits.specs.Signed.{unsigned};
 
 // How far an integer lies from zero, counted so that n and -(n + 1) are both n.
 fn magnitude(z: i32) -> u64

@@ -1,7 +1,7 @@
 -- The bench cases that document 01 marks P, with 8 and 9 and two of the ways in which trainees break it, as one table: walks over bits, each with what it must say.
 -- Assumes nothing.
 use mathlib.Core.Path.{_≡_, refl}
-use mathlib.Core.Bool.{Bool, true, false}
+use mathlib.Core.Bool.{Bool, true}
 use mathlib.Core.List.{List, [], _∷_, _++_, map, flatMap, flatten}
 use Prim.Native.Nat.{ℕ, _+_, _/_}
 use lib.IntN.{ℤ, pos, negℤ}

@@ -9,11 +9,10 @@ use lib.Dec.{eqb}
 use lib.IntN.{ℤ, pos, natAbs}
 use lib.ListN.{length, getD, drop, length-append}
 use Rattle.bits.proofs.BitLists.{length-spell}
-use Rattle.format.specs.declared.Head.{Head}
-use Rattle.format.specs.declared.Refusal.the-variants.{SubType, OtherIssue}
+use Rattle.format.specs.declared.Refusal.the-variants.{SubType}
 use Rattle.format.specs.Lengths.{total, orbitBits, combinedBits, lengths, maskOr, lengthOf}
 use Rattle.format.specs.Masks.{System, Mask, Held, nothing, mask, Satellite, Cell, satellites, cells, skyOf, Sky}
-use Rattle.format.specs.Messages.{Content, Heading, bodied, overSatellites, overCells, Common, common, headOf, satelliteLines, cellLines, iodeWidth, orbitShape, clockShape, codeShape, phaseShape, combinedShape, packetShape, packetLines, packet, rowsAlone, flagged, selection, system, systems, maskMessage}
+use Rattle.format.specs.Messages.{Content, Heading, overSatellites, overCells, Common, common, headOf, satelliteLines, cellLines, iodeWidth, orbitShape, clockShape, codeShape, phaseShape, combinedShape, packetShape, packetLines, packet, rowsAlone, flagged, selection, system, systems, maskMessage}
 use Rattle.format.specs.Programs.{Program}
 use Rattle.format.specs.Rows.{Line, Column, gap, plain, counts, absent, bodyWidth, shapeWidth, widthOf, rowsOf}
 use Rattle.format.specs.Same.{sameℤ}

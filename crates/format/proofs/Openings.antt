@@ -13,7 +13,7 @@ use Rattle.format.specs.Masks.{Held}
 use Rattle.format.specs.Messages.{Content, bodied, packet}
 use Rattle.format.specs.Programs.{Program, done, refuse, field, _>>=_, _>>_, numbered, require, Ended, well, badly, later, unlessShort, run}
 use Rattle.format.specs.Reading.{subTypeIn}
-use Rattle.format.specs.Table.{Kind, free, adopts, Message, table, kinds, keeping, byKind, opening, messageBy, message}
+use Rattle.format.specs.Table.{Kind, Message, table, kinds, keeping, byKind, opening, messageBy, message}
 
 -- 3 for the number, 4, 3 for the sub type, and then the rest's end
 unfoldable pub opened : {A : Type 0} → List Bool → Ended A → Ended A

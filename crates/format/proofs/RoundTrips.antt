@@ -13,23 +13,23 @@ use lib.Seq.{length-take-le, take-length}
 use Rattle.bits.specs.BitLists.{spell}
 use Rattle.bits.specs.Signed.{unsigned}
 use Rattle.format.specs.declared.Head.{Head}
-use Rattle.format.specs.declared.Refusal.the-variants.{SubType, OtherIssue}
+use Rattle.format.specs.declared.Refusal.the-variants.{SubType}
 use Rattle.format.specs.Good.{good}
 use Rattle.format.specs.Masks.{Held, nothing, mask, Sky, skyOf}
-use Rattle.format.specs.Messages.{Common, headOf, orbitShape, clockShape, codeShape, phaseShape, overSatellites, Heading, overCells, bodied, combinedShape}
-use Rattle.format.specs.Programs.{Ended, well, badly, run, Program}
+use Rattle.format.specs.Messages.{Common, headOf, orbitShape, clockShape, codeShape, phaseShape, overSatellites, overCells, combinedShape}
+use Rattle.format.specs.Programs.{Ended, well, badly, run}
 use Rattle.format.specs.Rows.{Line}
 use Rattle.format.specs.Same.{sameList, sameℤ, sameHead}
 use Rattle.format.specs.Spelling.{put, putCommon}
-use Rattle.format.specs.Table.{Message, Kind, other, free, masked, adopts, alone, kinds, table, gate, byKind, opening, messageBy, message, kindOf, spellKind, spelledBy, spelled, underMask}
+use Rattle.format.specs.Table.{Message, Kind, other, free, masked, adopts, alone, kinds, table, byKind, opening, messageBy, message, kindOf, spellKind, spelledBy, spelled, underMask}
 use Rattle.format.specs.Writing.{endedWith, exact}
-use Rattle.format.proofs.Bodies.{Threes, bodied-gives}
+use Rattle.format.proofs.Bodies.{Threes}
 use Rattle.format.proofs.Makes.{common-gives, mask-spelled}
 use Rattle.format.proofs.Runs.{taken-le, run-append}
 use Rattle.format.proofs.Sames.{and-true, sameList-sound, sameList-refl, sameℤ-sound, sameℤ-refl, sameHead-sound, sameHead-refl, sameHeld-sound, sameHeld-refl, eqb-refl}
 use Rattle.format.proofs.Selections.{Distinct, satellites-distinct}
 use Rattle.format.proofs.Spells.{satellite-threes, cell-threes, alone-spelled, packet-spelled, flagged-spelled, Spells}
-use Rattle.format.proofs.Steps.{Gives, gives-done, gives-refuse, gives-require, gives-bind, gives-so, gives-both, gives-itself, Reads, reads-require, reads-numbered, reads-bind, reads-end, reads-done}
+use Rattle.format.proofs.Steps.{Gives, gives-done, gives-refuse, gives-bind, gives-so, gives-both, gives-itself, Reads, reads-require, reads-numbered, reads-bind, reads-end, reads-done}
 use Rattle.format.proofs.Tables.{Each, end, then, in-table, gives-message, keeping-gives, keeps, under-nothing, under-gives}
 
 -- What a kind promises at a sub type n: what its program reads is of that sub type, and its spelling of that is the bits taken.

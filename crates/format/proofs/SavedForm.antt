@@ -1,19 +1,18 @@
 -- The saved form: a good holding's line loads to it, and a line loads only to the holding whose line it is.
 -- Assumes nothing.
 use mathlib.Core.Path.{_≡_, refl, sym, ap, ap₂, _∙_}
-use mathlib.Core.Bool.{Bool, true, false, cond, not, _&&_, and-eq-true-iff}
+use mathlib.Core.Bool.{Bool, true, false, cond, _&&_, and-eq-true-iff}
 use mathlib.Core.List.{List, [], _∷_, _++_, flatMap, append-assoc, append-nil}
 use Prim.Native.Nat.{ℕ, _+_, _*_, _/_, _%_, _≤_, _<_}
 use native.Mathlib.Omega.{arith}
-use lib.Dec.{leb, ltb, eqb}
+use lib.Dec.{ltb, eqb}
 use lib.ListN.{length, getD, take}
 use borrow.Author.Tests.{ltb-true, ltb-false, leb-true, eqb-true, lt-ltb, le-ltb, ne-eqb}
 use Rattle.bits.specs.BitLists.{number, spell}
 use Rattle.bits.proofs.BitLists.{number-lt, spell-number}
-use Rattle.format.specs.Assigned.{known, assigned, satellitePlaces, signalPlaces}
+use Rattle.format.specs.Assigned.{known}
 use Rattle.format.specs.Good.{good, goodSystem, goodSystems}
 use Rattle.format.specs.Masks.{System, Held, nothing, mask, placesFrom, satellites}
-use Rattle.format.specs.Messages.{named}
 use Rattle.format.specs.Same.{sameList}
 use Rattle.format.specs.Saved.{tab, lineFeed, dash, letterS, digitChar, charDigit, decimal, decimalValue, hex, hexBits, cellText, flagText, systemText, heldText, lineOf, fieldsFrom, systemFrom, systemsFrom, heldFrom, loaded, unloaded, load}
 use Rattle.format.proofs.MakesBack.{good-system}

@@ -1,7 +1,7 @@
 -- What a message after its sub type was read to spells the very bits that were taken: one law for each kind of message but the mask.
 -- Assumes nothing.
 use mathlib.Core.Path.{_≡_, refl, ap, _∙_}
-use mathlib.Core.Bool.{true, Bool}
+use mathlib.Core.Bool.{Bool}
 use mathlib.Core.List.{List, _++_, append-nil, append-assoc}
 use Prim.Native.Nat.{ℕ, zero, suc, _<_}
 use native.Mathlib.Omega.{arith}
@@ -10,16 +10,15 @@ use lib.IntN.{ℤ, pos}
 use lib.ListN.{length}
 use Rattle.bits.specs.BitLists.{spell}
 use Rattle.bits.specs.Signed.{unsigned}
-use Rattle.format.specs.Good.{good}
 use Rattle.format.specs.declared.Head.{Head}
-use Rattle.format.specs.Masks.{Mask, mask, Satellite, Cell, satellites, Sky}
-use Rattle.format.specs.Messages.{Common, headOf, body, rowsAlone, packet, packetLines, satelliteLines, cellLines, combinedShape, selection, Heading, flagged}
-use Rattle.format.specs.Rows.{absent, Column, Line, rowsOf, spellRows, bodyWidth}
+use Rattle.format.specs.Masks.{Satellite, Cell, satellites, Sky}
+use Rattle.format.specs.Messages.{Common, headOf, rowsAlone, packet, packetLines, satelliteLines, cellLines, selection, Heading, flagged}
+use Rattle.format.specs.Rows.{absent, Column, Line, rowsOf, bodyWidth}
 use Rattle.format.specs.Same.{sameℤ}
 use Rattle.format.specs.Spelling.{put, putRows, putSelection, chosenBy, putFlagged, putPacket}
-use Rattle.format.proofs.Bodies.{body-gives, none, more, all-map, Threes, rows-spelled, rows-count}
-use Rattle.format.proofs.Selections.{Distinct, satellites-distinct, Keyed, rows-keyed, marks-pick}
-use Rattle.format.proofs.Steps.{Gives, gives-done, gives-require, gives-taking, gives-numbered, gives-bind, gives-so}
+use Rattle.format.proofs.Bodies.{none, more, all-map, Threes, rows-spelled, rows-count}
+use Rattle.format.proofs.Selections.{Distinct, Keyed, rows-keyed, marks-pick}
+use Rattle.format.proofs.Steps.{Gives, gives-done, gives-require, gives-taking, gives-numbered, gives-bind}
 
 -- ---- lines have three keys each
 

@@ -1,6 +1,6 @@
 -- What is known of a walk under a holding lent as bytes. Assumes nothing.
 use mathlib.Core.Path.{_≡_, refl, sym, ap, subst, _∙_}
-use mathlib.Core.Bool.{Bool, true, false, cond}
+use mathlib.Core.Bool.{Bool, true, false}
 use mathlib.Core.List.{List}
 use Prim.Native.Nat.{ℕ, zero, suc, _≤_}
 use native.Mathlib.Omega.{arith}
@@ -12,7 +12,7 @@ use Rattle.bits.proofs.Windows.{Bytes}
 use Rattle.format.specs.declared.Answer.{Answer}
 use Rattle.format.specs.declared.Answer.the-variants as Answers
 use Rattle.format.specs.Good.{isHolding}
-use Rattle.format.specs.Masks.{Lent, stray, lent}
+use Rattle.format.specs.Masks.{Lent, lent}
 use Rattle.format.specs.Reading.{Outcome, accepted, idle, refused, reading, lentAfter, rowsAfter}
 use Rattle.format.specs.Table.{table}
 use Rattle.format.specs.Walking.{Walk, hand, goOn, walkOn, walk, messages}
@@ -21,10 +21,9 @@ use Rattle.format.proofs.Walks.{walk-step, stop-ends, walk-good, walk-stray}
 use Rattle.format.proofs.Stops.{Stopped, stop-holds}
 use Rattle.holding.specs.declared.Holding.{Holding}
 use Rattle.holding.specs.Pictures.{sound}
-use Rattle.holding.proofs.Pictured.{sound-picture}
 use Rattle.host.specs.Handing.{messageNumber, answerNumber, walkedTo, bytesAfter, leftBytes, walkBytes}
 use Rattle.host.proofs.Outcomes.{bytes-pass, bytes-stay, after-sound, after-bytes}
-use Rattle.passing.specs.Passing.{size, holdingIn, bytesOf}
+use Rattle.passing.specs.Passing.{size, holdingIn}
 use Rattle.reader.specs.Readings.{lentBy, structOf}
 use Rattle.reader.proofs.Lents.{is-holding}
 use Rattle.walk.specs.declared.Halt.{Halt}

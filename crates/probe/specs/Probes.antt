@@ -1,19 +1,18 @@
 -- What the functions for C answer for every number there is.
-use mathlib.Core.Bool.{Bool, true, false, cond, _&&_}
+use mathlib.Core.Bool.{Bool, cond, _&&_}
 use mathlib.Core.List.{List}
 use Prim.Native.Nat.{ℕ, _+_, _-_, _*_, _^_}
 use lib.Dec.{leb, ltb}
-use lib.IntN.{ℤ, pos}
+use lib.IntN.{ℤ}
 use lib.ListN.{length}
 use lib.Signed.{mag}
 use Rattle.bits.specs.Places.{field}
 use Rattle.bits.specs.BitLists.{setField}
-use Rattle.bits.specs.Signed.{signed, unsigned}
+use Rattle.bits.specs.Signed.{unsigned}
 use Rattle.bits.specs.Short.{takenAt}
 use Rattle.bits.specs.declared.read.Taken.{Taken}
 use Rattle.bits.specs.declared.read.Taken.the-variants.{Whole, Short}
 use Rattle.probe.specs.declared.Probed.{Probed}
-use Rattle.probe.specs.declared.Meant.{Meant}
 
 -- all ones
 abbrev pub none : ℕ
@@ -34,10 +33,6 @@ writable count skip w n = ltb skip 8 && (leb w 56 && (leb (skip + w) (8 * count)
 
 abbrev pub writtenOr : List ℕ → ℕ → ℕ → ℕ → List ℕ
 writtenOr bs skip w n = cond (writable (length bs) skip w n) (setField bs skip w n) bs
-
-abbrev pub meantOr : ℕ → ℕ → Meant
-meantOr n w =
-    cond (leb 1 w && (leb w 32 && ltb n (2 ^ w))) (record { good = true; value = signed w n }) (record { good = false; value = pos 0 })
 
 abbrev pub bitsOr : ℤ → ℕ → ℕ
 bitsOr z w = cond (leb 1 w && (leb w 32 && ltb (mag z * 2) (2 ^ w))) (unsigned w z) none

@@ -6,7 +6,7 @@ ghost use Prim.Native.Nat.{_-_};
 ghost use lib.Dec.{eqb};
 ghost use lib.ListN.{length};
 ghost use Rattle.bits.specs.Places.{field};
-ghost use Rattle.probe.specs.Probes.{readOr, takenOr, writable, writtenOr, meantOr, bitsOr};
+ghost use Rattle.probe.specs.Probes.{readOr, takenOr, writable, writtenOr, bitsOr};
 
 // The number in w bits at a place; all ones, which no field of 56 bits or fewer is, for a wider one.
 // The width comes before the place, which leaves x86-64 fewer moves.
@@ -80,40 +80,6 @@ pub extern "C" fn hundurzek_zero_from(bytes: &[u8], end: usize, place: usize) ->
     ensures { λ r. ⌜ r ≡ eqb (field (now (bytes .entry)) place (end - place)) 0 ⌝ }
 {
     bits::rest::zero_from(bytes, end, place)
-}
-
-// The integer that w bits mean; not good, and 0, where the width is not from 1 to 32 or the number
-// has more bits.
-#[repr(C)]
-pub struct Meant {
-    pub good: bool,
-    pub value: i32,
-}
-
-#[no_mangle]
-pub extern "C" fn hundurzek_to_signed(n: u64, w: usize) -> Meant
-    ensures { λ r. ⌜ r ≡ meantOr n w ⌝ }
-{
-    if w < 1 {
-        return Meant {
-            good: false,
-            value: 0,
-        };
-    }
-    if 32 < w {
-        return Meant {
-            good: false,
-            value: 0,
-        };
-    }
-    if (1u64 << w) <= n {
-        return Meant {
-            good: false,
-            value: 0,
-        };
-    }
-    let value = bits::signed::to_signed(n, w);
-    Meant { good: true, value }
 }
 
 // The w bits that mean an integer; all ones where the width is not from 1 to 32 or they cannot.

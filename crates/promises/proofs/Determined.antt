@@ -93,11 +93,7 @@ pub zero-from-determined : Determined probe.hundurzek_zero_from.Kinds.ps probe.h
 unfolding Determined DeterminedBy
 zero-from-determined κs args x y v w p q = (alike p q, refl)
 
--- the integer that some bits mean in two's complement, and back
-pub to-signed-determined : Determined probe.hundurzek_to_signed.Kinds.ps probe.hundurzek_to_signed.Kinds.r probe.hundurzek_to_signed.Reads.Learnt
-unfolding Determined DeterminedBy
-to-signed-determined κs args x y v w p q = (alike p q, refl)
-
+-- the bits that mean an integer in two's complement
 pub from-signed-determined : Determined probe.hundurzek_from_signed.Kinds.ps probe.hundurzek_from_signed.Kinds.r probe.hundurzek_from_signed.Reads.Learnt
 unfolding Determined DeterminedBy
 from-signed-determined κs args x y v w p q = (alike p q, refl)

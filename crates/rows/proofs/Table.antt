@@ -7,7 +7,7 @@ use mathlib.Core.Logic.{inl, inr}
 use Prim.Native.Nat.{ℕ, zero, suc, _+_, _≤_, _<_}
 use native.Mathlib.Omega.{arith}
 use lib.ListN.{length}
-use Rattle.format.specs.Messages.{iodeWidth, orbitShape, clockShape, codeShape, phaseShape, combinedShape, packetShape}
+use Rattle.format.specs.Messages.{iodeWidth, clockShape, codeShape, phaseShape, combinedShape, packetShape}
 use Rattle.format.specs.Rows.{Column, gap, counts, widthOf, shapeWidth}
 use Rattle.rows.specs.declared.shape.Shape.{Shape}
 use Rattle.rows.specs.Shapes.{columnOf, columnFor, columnsOf, columnsIn, shapeWith, orbitOf, lastOf, FormedShape, Laid, Narrow}
@@ -136,8 +136,3 @@ narrow i some few =
     in-table (λ i. 4 ≤ i → i < 7 → Narrow (shapeFor i)) (λ h _. absurd (omega arith)) (λ h _. absurd (omega arith)) (λ h _. absurd (omega arith)) (λ h _. absurd (omega arith))
     (λ _ _. record { iode = refl; fourth = refl; fifth = refl }) (λ _ _. record { iode = refl; fourth = refl; fifth = refl })
     (λ _ _. record { iode = refl; fourth = refl; fifth = refl }) (λ _ h. absurd (omega arith)) i (omega arith) some few
-
--- sub type 2's rows are sub type 11's with the orbit flag alone
-pub orbit-at : (system : ℕ) → shapeAt 2 system ≡ orbitShape system
-unfolding shapes shapeAt orbitShape combinedShape
-orbit-at system = refl
