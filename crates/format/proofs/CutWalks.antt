@@ -3,29 +3,27 @@
 use mathlib.Core.Path.{_≡_, refl, sym, ap, _∙_}
 use mathlib.Core.Bool.{Bool, true, false, false≢true}
 use mathlib.Core.List.{List, [], _∷_, flatten}
-use Prim.Native.Nat.{ℕ, zero, suc, _+_, _-_, _*_, _≤_}
+use Prim.Native.Nat.{ℕ, zero, suc, _+_, _-_, _≤_}
 use native.Mathlib.Nat.{le-refl}
 use native.Mathlib.Omega.{arith}
-use lib.Dec.{leb}
 use lib.IntN.{ℤ}
 use lib.ListN.{length, take, length-append, length-drop, length-take, drop-of-length-le}
-use borrow.Author.Tests.{leb-true, le-leb}
+use borrow.Author.Tests.{le-leb}
 use Rattle.bits.specs.BitLists.{number, bits}
 use Rattle.format.specs.Assigned.{blank}
 use Rattle.format.specs.Good.{good, isHolding}
 use Rattle.format.specs.Masks.{Held, Lent, stray, lent, heldIn}
 use Rattle.format.specs.Programs.{well, badly, later, unlessShort, run}
-use Rattle.format.specs.Reading.{stretchLimit, rowRoom, Outcome, accepted, idle, refused, endedAt, lentTests, readFrom, bitsFrom, placed, readingBy, reading, lentAfter, over, rowsAfter}
+use Rattle.format.specs.Reading.{rowRoom, Outcome, accepted, idle, refused, endedAt, lentTests, readFrom, bitsFrom, readingBy, reading, lentAfter, over, rowsAfter}
 use Rattle.format.specs.Table.{Message, Kind, table, messageBy, message}
 use Rattle.format.specs.declared.Refusal.{Refusal}
 use Rattle.format.specs.declared.Refusal.the-variants.{Number}
 use Rattle.format.specs.Tests.{Test, verdict}
 use Rattle.format.specs.Walking.{Walk, hand, goOn, walkOn, walk}
 use Rattle.format.proofs.HeldGood.{stays-good}
-use Rattle.format.proofs.Placed.{length-from, take-from}
+use Rattle.format.proofs.Placed.{Inside, inside, is-placed, length-from, take-from}
 use Rattle.format.proofs.Openings.{opened, run-opened}
 use Rattle.format.proofs.Runs.{run-agree}
-use Rattle.format.proofs.Sames.{and-true, true-and}
 use Rattle.format.proofs.Stops.{Stopped, stop-holds}
 use Rattle.format.proofs.Walks.{ends-inside, walk-step, stop-ends, Law, every-walk, Within, all-within}
 
@@ -54,25 +52,7 @@ message-bits t held l m taken e = go (blank l) refl
     go true blanks = absurd (unnumbered (12 - length l) m taken (rw (blank-take 12 l blanks) at (sym (run-opened t held l) ∙ e)))
     go false some = refl
 
--- ---- a stretch and a start in it
-
--- what the test says
-pub record Fits (bytes : List ℕ) (end start : ℕ) : Type 0 where
-  pub short : end ≤ stretchLimit
-  pub inside : end ≤ 8 * length bytes
-  pub order : start ≤ end
-
-pub placed-fits : (bytes : List ℕ) (end start : ℕ) → placed bytes end start ≡ true → Fits bytes end start
-unfolding placed
-placed-fits bytes end start e =
-    let a = and-true (leb end stretchLimit) _ e in
-    let b = and-true (leb end (8 * length bytes)) _ (a .1) in
-    record { short = leb-true _ _ (a .0); inside = leb-true _ _ (b .0); order = leb-true _ _ (b .1) }
-
--- and back
-pub is-placed : (bytes : List ℕ) (end start : ℕ) → Fits bytes end start → placed bytes end start ≡ true
-unfolding placed
-is-placed bytes end start f = true-and (le-leb _ _ (f .short)) (true-and (le-leb _ _ (f .inside)) (le-leb _ _ (f .order)))
+-- ---- in a stretch
 
 -- of a verdict with a test that comes out true where it is fine
 test-held : {A : Type 0} (refusal : Refusal → A) (fine x : A) (t : Test) (ts : List Test) → ((r : Refusal) → refusal r ≡ x → ⊥)
@@ -86,12 +66,12 @@ test-held refusal fine x t ts never e = go (t .holds) e
 
 -- a reading accepts in a stretch only
 accepts-placed : (t : ℕ → Kind) (holding : Lent) (bytes : List ℕ) (end start : ℕ) (rows : List ℤ) (m : Message) (next : ℕ)
-    → readingBy t holding bytes end start rows ≡ accepted m next → Fits bytes end start
+    → readingBy t holding bytes end start rows ≡ accepted m next → Inside bytes end start
 unfolding readingBy lentTests
 accepts-placed t holding bytes end start rows m next e =
     let never : (r : Refusal) → refused r 0 holding ≡ accepted m next → ⊥ = λ r f. let z : _≡_ {A = ℕ} 0 1 = cc in omega arith in
     let roomy = test-held (λ r. refused r 0 holding) _ (accepted m next) _ _ never e in
-    placed-fits bytes end start (test-held (λ r. refused r 0 holding) _ (accepted m next) _ _ never (roomy .1) .0)
+    inside bytes end start (test-held (λ r. refused r 0 holding) _ (accepted m next) _ _ never (roomy .1) .0)
 
 -- ---- the same reading in a shorter stretch
 
@@ -102,24 +82,24 @@ none-left bytes end = drop-of-length-le (take end (bits bytes)) {i = end} (simp 
 
 module _ (t : ℕ → Kind) (held : Held) (fine : good held ≡ true) (bytes : List ℕ) (start : ℕ) (rows : List ℤ) (room : rowRoom ≤ length rows) where
   -- in a stretch a reading is what its bits say
-  pub reads-from : (end : ℕ) → Fits bytes end start → readingBy t (lent held) bytes end start rows ≡ readFrom t held start (bitsFrom bytes end start)
+  pub reads-from : (end : ℕ) → Inside bytes end start → readingBy t (lent held) bytes end start rows ≡ readFrom t held start (bitsFrom bytes end start)
   unfolding readingBy lentTests verdict isHolding heldIn
   reads-from end f = rw (le-leb _ _ room, is-placed bytes end start f, fine)
 
   -- it is idle at the end
-  idle-there : Fits bytes start start → readingBy t (lent held) bytes start start rows ≡ idle (lent held)
+  idle-there : Inside bytes start start → readingBy t (lent held) bytes start start rows ≡ idle (lent held)
   unfolding readFrom blank
   idle-there f = reads-from start f ∙ rw none-left
 
   -- a message that the cut leaves whole is read as before
-  reads-cut : (end cut : ℕ) (m : Message) (taken : ℕ) → Fits bytes end start → run (messageBy t held) (bitsFrom bytes end start) ≡ well m taken
+  reads-cut : (end cut : ℕ) (m : Message) (taken : ℕ) → Inside bytes end start → run (messageBy t held) (bitsFrom bytes end start) ≡ well m taken
       → start + taken ≤ cut → cut ≤ end → readingBy t (lent held) bytes cut start rows ≡ accepted m (start + taken)
   unfolding readFrom endedAt
   reads-cut end cut m taken f ran whole order =
-      let g : Fits bytes cut start = record { short = omega arith; inside = omega arith; order = omega arith } in
-      let same = take-from bytes end (f .inside) start taken (omega arith) ∙ sym (take-from bytes cut (g .inside) start taken whole) in
+      let g : Inside bytes cut start = record { limit = omega arith; lent = omega arith; there = omega arith } in
+      let same = take-from bytes end (f .lent) start taken (omega arith) ∙ sym (take-from bytes cut (g .lent) start taken whole) in
       let again = run-agree (messageBy t held) (bitsFrom bytes end start) (bitsFrom bytes cut start) m taken ran same
-      (rw (length-from bytes cut (g .inside) start) (omega arith)) in
+      (rw (length-from bytes cut (g .lent) start) (omega arith)) in
       reads-from cut g ∙ rw (message-bits t held (bitsFrom bytes cut start) m taken again, again)
 
 -- ---- the cut walk
@@ -132,7 +112,7 @@ over-long new old = simp (length-append, length-drop) (omega arith)
 -- the walk over the stretch cut where the walk w from a place stopped hands out the same, leaves and holds the same, and is idle there
 abbrev Cut : List ℕ → Lent → ℕ → List ℤ → Walk → Type 0
 Cut bytes holding place rows w =
-    isHolding holding ≡ true → rowRoom ≤ length rows → Fits bytes place place
+    isHolding holding ≡ true → rowRoom ≤ length rows → Inside bytes place place
     → walkOn table holding bytes (w .place) place rows
     ≡ record { handed = w .handed; stop = idle (lentAfter (w .stop)); place = w .place; rows = w .rows }
 
@@ -157,7 +137,7 @@ cut-goes bytes end stray place rows m taken w e ran within more fine room f = ab
 cut-goes bytes end (lent held) place rows m taken w e ran within more fine room f =
     let g = accepts-placed table (lent held) bytes end place rows m (place + taken) e in
     let inside = ends-inside table (lent held) bytes end place m taken ran in
-    let there : Fits bytes (place + taken) (place + taken) = record { short = omega arith; inside = omega arith; order = le-refl (place + taken) } in
+    let there : Inside bytes (place + taken) (place + taken) = record { limit = omega arith; lent = omega arith; there = le-refl (place + taken) } in
     let again = reads-cut table held fine bytes place rows room end (w .place) m taken g ran (omega (arith, within .0)) (within .1 (inside .1)) in
     let rest = more (stays-good held fine (bitsFrom bytes end place) m taken ran) (omega (arith, over-long (flatten (m .content .rows)) rows)) there in
     walk-step table (lent held) bytes (w .place) place rows ∙ rw again (ap (hand (m .content)) rest)
@@ -176,5 +156,5 @@ pub walk-before :
     → let w = walk holding bytes end rows in
     walk holding bytes (w .place) rows ≡ record { handed = w .handed; stop = idle (lentAfter (w .stop)); place = w .place; rows = w .rows }
 walk-before holding bytes end rows fine room =
-    let f : Fits bytes 0 0 = record { short = omega arith; inside = omega arith; order = omega arith } in
+    let f : Inside bytes 0 0 = record { limit = omega arith; lent = omega arith; there = omega arith } in
     every-walk table bytes end _ (all-cut bytes end) holding 0 rows .1 fine room f

@@ -1,16 +1,16 @@
--- Programs run over the bits of a byte string from a place on: a field is the number at that place, or short by what lies past the end.
+-- A start in a stretch; programs run over the bits of a byte string from a place on: a field is the number at that place, or short by what lies past the end.
 -- Assumes nothing.
 use mathlib.Core.Path.{_≡_, refl, sym, ap, _∙_}
-use mathlib.Core.Bool.{Bool, true, false}
+use mathlib.Core.Bool.{Bool, true, false, and-eq-true-iff}
 use mathlib.Core.List.{List, [], _∷_}
 use Prim.Native.Nat.{ℕ, _+_, _-_, _*_, _^_, _≤_, _<_}
 use native.Mathlib.Nat.{le-refl, mod-eq-of-lt}
 use native.Mathlib.Omega.{arith}
-use lib.Dec.{eqb}
+use lib.Dec.{eqb, leb}
 use lib.ListN.{length, take, drop, length-drop}
 use lib.Pow.{pow-pos}
 use lib.Seq.{drop-drop, take-all, take-take, length-take-le}
-use borrow.Author.Tests.{ne-eqb}
+use borrow.Author.Tests.{ne-eqb, leb-true, le-leb}
 use Rattle.bits.specs.BitLists.{number, spell, bits}
 use Rattle.bits.specs.Places.{field}
 use Rattle.bits.proofs.BitLists.{length-bits, number-spell}
@@ -19,12 +19,34 @@ use Rattle.bits.proofs.Fields.{field-lt}
 use Rattle.format.specs.declared.Refusal.the-variants.{Short}
 use Rattle.format.specs.Assigned.{blank}
 use Rattle.format.specs.Programs.{Program, _>>=_, taking, numbered, badly, later, run}
-use Rattle.format.specs.Reading.{bitsFrom}
+use Rattle.format.specs.Reading.{stretchLimit, placed, bitsFrom}
 use Rattle.format.proofs.Runs.{run-field, run-short, drop-take}
 
-module _ (bs : List ℕ) (end : ℕ) (inside : end ≤ 8 * length bs) where
+-- ---- a start in a stretch
+
+-- what the test of them says
+pub record Inside (bs : List ℕ) (end start : ℕ) : Type 0 where
+  pub limit : end ≤ stretchLimit
+  pub lent : end ≤ 8 * length bs
+  pub there : start ≤ end
+
+pub inside : (bs : List ℕ) (end start : ℕ) → placed bs end start ≡ true → Inside bs end start
+unfolding placed
+inside bs end start e =
+    let first = and-eq-true-iff (leb end stretchLimit) _ .0 e in
+    let second = and-eq-true-iff (leb end (8 * length bs)) _ .0 (first .1) in
+    record { limit = leb-true _ _ (first .0); lent = leb-true _ _ (second .0); there = leb-true _ _ (second .1) }
+
+-- and back
+pub is-placed : (bs : List ℕ) (end start : ℕ) → Inside bs end start → placed bs end start ≡ true
+unfolding placed
+is-placed bs end start i = rw (le-leb _ _ (i .limit), le-leb _ _ (i .lent), le-leb _ _ (i .there))
+
+-- ---- the bits there
+
+module _ (bs : List ℕ) (end : ℕ) (there : end ≤ 8 * length bs) where
   whole : length (take end (bits bs)) ≡ end
-  whole = length-take-le end (bits bs) (rw (length-bits bs) inside)
+  whole = length-take-le end (bits bs) (rw (length-bits bs) there)
 
   pub length-from : (place : ℕ) → length (bitsFrom bs end place) ≡ end - place
   unfolding bitsFrom

@@ -1,6 +1,6 @@
 -- Laws of the walk: what a message takes at the least, that the fuel suffices, how a walk goes on, and where it stops.
 -- Assumes nothing.
-use mathlib.Core.Path.{_≡_, refl, sym, ap, subst, _∙_}
+use mathlib.Core.Path.{_≡_, refl, sym, ap, _∙_}
 use mathlib.Core.Bool.{Bool, true}
 use mathlib.Core.List.{List, []}
 use Prim.Native.Nat.{ℕ, zero, suc, _+_, _-_, _*_, _≤_, _<_}
@@ -262,22 +262,29 @@ module _ (holding : Lent) (bytes : List ℕ) (end : ℕ) (rows : List ℤ) where
 
 -- ---- what is held after a walk
 
+-- where no message was handed out, what was lent
+all-kept : (bytes : List ℕ) (end : ℕ) → Law table bytes end (λ holding place rows w. messages w ≡ 0 → lentAfter (w .stop) ≡ holding)
+unfolding hand messages
+all-kept bytes end = record {
+  stops = λ holding place rows o e stopped none. rw e at (stop-holds holding bytes end place rows (rw e stopped));
+  goes = λ holding place rows m taken w e ran it none. absurd (omega arith);
+}
+
+pub none-kept : (holding : Lent) (bytes : List ℕ) (end : ℕ) (rows : List ℤ) → messages (walk holding bytes end rows) ≡ 0 → lentAfter (walk holding bytes end rows .stop) ≡ holding
+none-kept holding bytes end rows = every-walk table bytes end _ (all-kept bytes end) holding 0 rows
+
 -- what it leaves is good where what it found was
 all-good : (bytes : List ℕ) (end : ℕ) → Law table bytes end (λ holding place rows w. isHolding holding ≡ true → isHolding (lentAfter (w .stop)) ≡ true)
-unfolding hand isHolding heldIn
+unfolding hand messages isHolding heldIn
 all-good bytes end = record {
-  stops = λ holding place rows o e stopped fine.
-      subst (λ (p : Outcome). isHolding (lentAfter p) ≡ true) e (rw (stop-holds holding bytes end place rows (subst Stopped (sym e) stopped)) fine);
+  stops = λ holding place rows o e stopped fine. rw (all-kept bytes end .stops holding place rows o e stopped refl) fine;
   goes = λ holding place rows m taken w e ran it fine. it (stays-good (heldIn holding) (held-good holding fine) (bitsFrom bytes end place) m taken ran);
 }
 
 pub walk-good : (holding : Lent) (bytes : List ℕ) (end : ℕ) (rows : List ℤ) → isHolding holding ≡ true → isHolding (lentAfter (walk holding bytes end rows .stop)) ≡ true
-walk-good holding bytes end rows fine = every-walk table bytes end _ (all-good bytes end) holding 0 rows fine
+walk-good holding bytes end rows = every-walk table bytes end _ (all-good bytes end) holding 0 rows
 
 -- under what is no holding nothing is handed out
-stray-stops : (bytes : List ℕ) (end : ℕ) (rows : List ℤ) → Stopped (readingBy table stray bytes end 0 rows)
-stray-stops bytes end rows = stray-refused Stopped table bytes end 0 rows (λ r. tt)
-
 pub walk-stray : (bytes : List ℕ) (end : ℕ) (rows : List ℤ) → messages (walk stray bytes end rows) ≡ 0
 unfolding messages
-walk-stray bytes end rows = rw (stop-ends table stray bytes end 0 rows _ refl (stray-stops bytes end rows)) refl
+walk-stray bytes end rows = rw (stop-ends table stray bytes end 0 rows _ refl (stray-refused Stopped table bytes end 0 rows (λ r. tt)))

@@ -1,5 +1,5 @@
 -- What is known of a walk under a holding lent as bytes. Assumes nothing.
-use mathlib.Core.Path.{_≡_, refl, sym, ap, subst, _∙_}
+use mathlib.Core.Path.{_≡_, refl, sym, ap, _∙_}
 use mathlib.Core.Bool.{Bool, true, false}
 use mathlib.Core.List.{List}
 use Prim.Native.Nat.{ℕ, zero, suc, _≤_}
@@ -12,13 +12,11 @@ use Rattle.bits.proofs.Windows.{Bytes}
 use Rattle.format.specs.declared.Answer.{Answer}
 use Rattle.format.specs.declared.Answer.the-variants as Answers
 use Rattle.format.specs.Good.{isHolding}
-use Rattle.format.specs.Masks.{Lent, lent}
-use Rattle.format.specs.Reading.{Outcome, accepted, idle, refused, reading, lentAfter, rowsAfter}
-use Rattle.format.specs.Table.{table}
-use Rattle.format.specs.Walking.{Walk, hand, goOn, walkOn, walk, messages}
+use Rattle.format.specs.Masks.{Lent}
+use Rattle.format.specs.Reading.{lentAfter}
+use Rattle.format.specs.Walking.{Walk, messages}
 use Rattle.format.proofs.Answer.{the-type}
-use Rattle.format.proofs.Walks.{walk-step, stop-ends, walk-good, walk-stray}
-use Rattle.format.proofs.Stops.{Stopped, stop-holds}
+use Rattle.format.proofs.Walks.{none-kept, walk-good, walk-stray}
 use Rattle.holding.specs.declared.Holding.{Holding}
 use Rattle.holding.specs.Pictures.{sound}
 use Rattle.host.specs.Handing.{messageNumber, answerNumber, walkedTo, bytesAfter, leftBytes, walkBytes}
@@ -35,22 +33,6 @@ unfolding answerNumber
 message-number (Answers.Message h next rows) e = refl
 message-number Answers.Idle e = absurd (omega arith)
 message-number (Answers.Refused r missing) e = absurd (omega arith)
-
--- ---- where no message was accepted, what was lent stays
-
-none-kept : (holding : Lent) (bs : List ℕ) (end : ℕ) (rows : List ℤ) → messages (walk holding bs end rows) ≡ 0 → lentAfter (walk holding bs end rows .stop) ≡ holding
-unfolding messages goOn hand
-none-kept holding bs end rows none = go (reading holding bs end 0 rows) refl
-  where
-    stops : (o : Outcome) → reading holding bs end 0 rows ≡ o → Stopped o → lentAfter (walk holding bs end rows .stop) ≡ holding
-    stops o e stopped = ap (λ (w : Walk). lentAfter (w .stop)) (stop-ends table holding bs end 0 rows o e stopped) ∙ ap lentAfter (sym e) ∙ stop-holds holding bs end 0 rows (subst Stopped (sym e) stopped)
-
-    go : (o : Outcome) → reading holding bs end 0 rows ≡ o → lentAfter (walk holding bs end rows .stop) ≡ holding
-    go (accepted m next) e =
-        let some = sym none ∙ ap messages (walk-step table holding bs end 0 rows ∙ ap (λ (o : Outcome). goOn o 0 rows (λ n to. walkOn table (lent (n .after)) bs end to (rowsAfter (accepted n to) rows))) e) in
-        absurd (omega arith)
-    go (idle l) e = stops (idle l) e tt
-    go (refused r missing l) e = stops (refused r missing l) e tt
 
 module _ (hb bs : List ℕ) (end : ℕ) (rows : List ℤ) where
   abbrev h : Holding

@@ -20,7 +20,7 @@ use Rattle.promises.proofs.LateRuns.{opening, maskOf, one-and-three, by
 
 -- ---- what is read: stretches from place 0, with nothing held and room enough
 
--- a packet of sub type 10, of 62 bits: one number is its counter and its row's last byte
+-- a packet of 62 bits: one number is its counter and its row's last byte
 packet : ℕ → List Bool
 packet n = opening 10 ++ flatten (spell 1 1 ∷ spell 3 n ∷ spell 2 0 ∷ spell 40 n ∷ [])
 

@@ -2,7 +2,7 @@
 use mathlib.Core.Path.{_≡_, refl, sym, _∙_}
 use mathlib.Core.Bool.{Bool, true, false}
 use mathlib.Core.List.{List, [], _∷_}
-use Prim.Native.Nat.{ℕ, _*_, _≤_}
+use Prim.Native.Nat.{ℕ, _≤_}
 use native.Mathlib.Omega.{arith}
 use lib.Dec.{leb}
 use lib.IntN.{ℤ}
@@ -15,7 +15,7 @@ use Rattle.format.specs.Masks.{Lent, heldIn}
 use Rattle.format.specs.Reading.{rowRoom, Outcome, refused, bitsFrom, readFrom, placed, lentTests, readingBy}
 use Rattle.format.specs.Table.{table}
 use Rattle.format.specs.Tests.{Test, verdict}
-use Rattle.format.proofs.Sames.{and-true}
+use Rattle.format.proofs.Placed.{Inside, inside}
 use Rattle.holding.specs.declared.Holding.{Holding}
 use Rattle.holding.specs.Pictures.{sound}
 use Rattle.reader.specs.declared.Verdict.{Verdict}
@@ -23,19 +23,6 @@ use Rattle.reader.specs.declared.Verdict.the-variants.{Good, Refused}
 use Rattle.reader.specs.Readings.{lentBy, outcomeAt, testsOf, testedBy, readAt}
 use Rattle.reader.proofs.Verdict.{the-type}
 use Rattle.reader.proofs.Lents.{is-holding, sound-lent}
-
--- what a place in a stretch is known to be
-pub record Inside (bs : List ℕ) (end start : ℕ) : Type 0 where
-  pub limit : end ≤ 50850
-  pub lent : end ≤ 8 * length bs
-  pub there : start ≤ end
-
-pub inside : (bs : List ℕ) (end start : ℕ) → placed bs end start ≡ true → Inside bs end start
-unfolding placed
-inside bs end start e =
-    let first = and-true (leb end 50850) _ e in
-    let second = and-true (leb end (8 * length bs)) (leb start end) (first .1) in
-    record { limit = leb-true end 50850 (first .0); lent = leb-true end (8 * length bs) (second .0); there = leb-true start end (second .1) }
 
 -- ---- by the tests
 

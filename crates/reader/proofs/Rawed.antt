@@ -1,6 +1,6 @@
 -- The raw part of an answer: a stop's is empty, a message's reaches from its first bit to its last. Assumes nothing.
 use mathlib.Core.Path.{_≡_, refl}
-use mathlib.Core.Bool.{Bool, true, false, cond}
+use mathlib.Core.Bool.{Bool, true, false}
 use mathlib.Core.List.{List}
 use Prim.Native.Nat.{ℕ, suc, _+_, _-_, _*_, _≤_}
 use native.Mathlib.Nat.{le-refl}
@@ -20,11 +20,10 @@ use Rattle.format.specs.Tests.{verdict}
 use Rattle.format.specs.Reading.{Outcome, refused, bitsFrom, placed, lentTests, readingBy, reading, rawEnd, answerOf}
 use Rattle.format.specs.Table.{table, message}
 use Rattle.format.proofs.Answer.{the-type}
-use Rattle.format.proofs.Placed.{length-from}
+use Rattle.format.proofs.Placed.{Inside, inside, length-from}
 use Rattle.format.proofs.Runs.{taken-le}
 use Rattle.format.proofs.Stops.{reading-ends}
 use Rattle.reader.specs.Readings.{rawTo}
-use Rattle.reader.proofs.Outcomes.{Inside, inside}
 
 -- ---- an empty part is the same at every place
 

@@ -1,4 +1,4 @@
--- The table of the rows' shapes by number (document 01, sub types 2, 3, 4, 5, 10 and 11), and each as the code has it.
+-- The table of the rows' shapes by number (document 01, "Message layouts"), and each as the code has it.
 use mathlib.Core.Bool.{false, true, _||_}
 use mathlib.Core.List.{List, [], _∷_}
 use Prim.Native.Nat.{ℕ}
@@ -9,7 +9,7 @@ use Rattle.format.specs.Rows.{Column}
 use Rattle.rows.specs.declared.shape.Shape.{Shape}
 use Rattle.rows.specs.Shapes.{shapeWith}
 
--- sub type 11's by its flags, of which the third is sub type 2's too, then those of 3, 4, 5 and 10
+-- a combined message's by its flags, of which the third is an orbit message's too, then those of clock, code bias, phase bias and packet
 unfoldable pub shapes : List (ℕ → List Column)
 shapes =
     combinedShape false false ∷ combinedShape false true ∷ combinedShape true false ∷ combinedShape true true ∷ clockShape ∷ codeShape ∷ phaseShape ∷ (λ _. packetShape) ∷ []

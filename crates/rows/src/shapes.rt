@@ -1,5 +1,5 @@
-// The table of the rows' shapes (document 01, sub types 2, 3, 4, 5, 10 and 11), by number: those of sub type 11 first,
-// by its flags.
+// The table of the rows' shapes (document 01, "Message layouts"), by number: those of a combined message first, by its
+// flags.
 ghost use mathlib.Core.Path.{_≡_};
 ghost use mathlib.Core.Bool.{false};
 ghost use Prim.Native.Nat.{_≤_, _<_};
@@ -11,28 +11,28 @@ use crate::shape;
 use crate::shape::Column;
 use crate::shape::Shape;
 
-// Sub type 11's by its flags: neither is set.
+// A combined message's by its flags: neither is set.
 pub const NONE: usize = 0;
 
 // The clock's alone.
 pub const LAST: usize = 1;
 
-// The orbit's alone, which is sub type 2's shape too.
+// The orbit's alone, which is an orbit message's shape too.
 pub const ORBIT: usize = 2;
 
 // Both.
 pub const COMBINED: usize = 3;
 
-// Sub type 3.
+// Clocks.
 pub const CLOCK: usize = 4;
 
-// Sub type 4.
+// Code biases.
 pub const CODE: usize = 5;
 
-// Sub type 5.
+// Phase biases.
 pub const PHASE: usize = 6;
 
-// Sub type 10.
+// Parts of a packet.
 pub const PACKET: usize = 7;
 
 // How many bits an IODE has: 10 for Galileo.

@@ -3,8 +3,8 @@
 use mathlib.Core.Path.{_∙_, sym}
 use borrow.Author.Needs.{needs}
 use borrow.Author.Tests.{not-true, not-false}
+use Rattle.format.proofs.Placed.{inside}
 use Rattle.reader.specs.Readings.{rawTo}
-use Rattle.reader.proofs.Outcomes.{inside}
 use Rattle.reader.proofs.Rawed.{empty-part, not-message}
 use Rattle.reader.proofs.raw.raw.Statement.{statement}
 use Rattle.reader.proofs.raw.raw.Tie as tie
