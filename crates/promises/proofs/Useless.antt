@@ -1,34 +1,32 @@
 -- Document 01, "How far the promises go": the useless builds are shut out, by small stretches whose readings and walks are computed.
 -- Assumes nothing.
 use mathlib.Core.Path.{_≡_, refl, sym, ap, _∙_}
-use mathlib.Core.Bool.{Bool}
 use mathlib.Core.List.{List, [], _∷_, _++_, flatten}
 use Prim.Native.Nat.{ℕ}
 use native.Mathlib.Omega.{arith}
 use lib.IntN.{ℤ, pos}
 use lib.ListN.{length, replicate, getD}
-use Rattle.bits.specs.BitLists.{spell}
 use Rattle.format.specs.declared.Head.{Head}
 use Rattle.format.specs.Masks.{nothing, lent}
-use Rattle.format.specs.Messages as Messages
 use Rattle.format.specs.Reading.{rowRoom, Outcome, reading, rowsAfter}
 use Rattle.format.specs.Rows.{absent}
 use Rattle.format.specs.Walking.{Walk, walk, messages, rowCount}
+use Rattle.format.proofs.Cases.{Field, _∶_, spellAll, bytesOf, opening, computing}
 use Rattle.promises.specs.LateJoiners.{heldAfter}
 use Rattle.promises.specs.Useless.{Inputs, Reader, reads, IsReading, NoMessage, Blind, Alike, LeavesRows, LeavesHolding, Walker, IsWalk, Invents}
-use Rattle.promises.proofs.LateRuns.{opening, maskOf, one-and-three, bytesOf, numberAt, computing}
+use Rattle.promises.proofs.LateRuns.{maskOf, one-and-three, numberAt}
 
 -- ---- what is read: stretches from place 0, with nothing held and room enough
 
 -- a packet of 62 bits: one number is its counter and its row's last byte
-packet : ℕ → List Bool
-packet n = opening 10 ++ flatten (spell 1 1 ∷ spell 3 n ∷ spell 2 0 ∷ spell 40 n ∷ [])
+packet : ℕ → List Field
+packet n = opening 10 ++ (1 ∶ 1 ∷ 3 ∶ n ∷ 2 ∶ 0 ∷ 40 ∶ n ∷ [])
 
 buffer : List ℤ
 buffer = replicate rowRoom (pos 5)
 
-inputs : List Bool → Inputs
-inputs l = record { holding = lent nothing; bytes = bytesOf l; end = length l; start = 0; rows = buffer }
+inputs : List Field → Inputs
+inputs fs = record { holding = lent nothing; bytes = bytesOf fs; end = length (spellAll fs); start = 0; rows = buffer }
 
 five : Inputs
 five = inputs (packet 5)
@@ -38,7 +36,7 @@ six = inputs (packet 6)
 
 -- what these compute with
 packets : Unit {0}
-unfolding computing packet buffer inputs five six messages rowCount Messages.packetLines Messages.packet Messages.packetShape
+unfolding computing maskOf one-and-three numberAt heldAfter packet buffer inputs five six messages rowCount
 packets = tt
 
 -- two numbers that differ
@@ -101,12 +99,12 @@ invented-messages f invents is =
 pub invented-count : (f : Walker) → Invents messages f → IsWalk f → ⊥
 unfolding packets
 invented-count f invents is =
-    let e : _≡_ {A = ℕ} 2 1 = same-part messages f invents is (bytesOf (packet 1 ++ packet 1)) (bytesOf (packet 1 ++ spell 62 0)) refl in
+    let e : _≡_ {A = ℕ} 2 1 = same-part messages f invents is (bytesOf (packet 1 ++ packet 1)) (bytesOf (packet 1 ++ (62 ∶ 0 ∷ []))) refl in
     omega arith
 
 -- one that makes up how many rows there are
 pub invented-rows : (f : Walker) → Invents (λ w. rowCount (w .handed)) f → IsWalk f → ⊥
 unfolding packets
 invented-rows f invents is =
-    let e : _≡_ {A = ℕ} 2 1 = same-part (λ w. rowCount (w .handed)) f invents is (bytesOf (packet 1 ++ packet 1)) (bytesOf (packet 1 ++ spell 62 0)) refl in
+    let e : _≡_ {A = ℕ} 2 1 = same-part (λ w. rowCount (w .handed)) f invents is (bytesOf (packet 1 ++ packet 1)) (bytesOf (packet 1 ++ (62 ∶ 0 ∷ []))) refl in
     omega arith
