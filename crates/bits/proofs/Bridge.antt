@@ -33,7 +33,7 @@ bit-bits (b ∷ bs) place = go (bit-bits bs (place - 8)) (decLt place 8)
         ap (λ (p : ℕ). getD (spell 8 b ++ bits bs) p false) (sym n) ∙ getD-append-add (spell 8 b) (bits bs) (place - 8) false ∙ later
         ∙ ap (λ (x : ℕ). eqb x 1) next
 
-spell-bit : (x : ℕ) → x < 2 → spell 1 x ≡ eqb x 1 ∷ []
+pub spell-bit : (x : ℕ) → x < 2 → spell 1 x ≡ eqb x 1 ∷ []
 unfolding spell
 spell-bit x small =
     let e : x / 1 % 2 ≡ x = omega arith in

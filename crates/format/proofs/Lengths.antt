@@ -68,18 +68,6 @@ orbit-width system = go (eqb system 2)
     go true = refl
     go false = refl
 
-clock-width : (system : ℕ) → shapeWidth (clockShape system) ≡ 15
-unfolding shapeWidth clockShape widthOf
-clock-width system = refl
-
-code-width : (system : ℕ) → shapeWidth (codeShape system) ≡ 11
-unfolding shapeWidth codeShape widthOf
-code-width system = refl
-
-phase-width : (system : ℕ) → shapeWidth (phaseShape system) ≡ 17
-unfolding shapeWidth phaseShape widthOf
-phase-width system = refl
-
 pub packet-width : (k n : ℕ) → bodyWidth (packetLines k n) ≡ 40 * n
 unfolding bodyWidth packetLines packetShape shapeWidth widthOf
 packet-width k zero = refl
@@ -96,14 +84,6 @@ LongWith before n held d b =
 at-number : (held : Held) (c : Content) (n : ℕ) → c .head .subtype ≡ pos n → lengthOf held c ≡ getD (lengths (maskOr held) c) n 0
 unfolding lengthOf
 at-number held c n e = ap (λ (z : ℤ). getD (lengths (maskOr held) c) (natAbs z) 0) e
-
-packet-long : (held : Held) → Gives packet (LongWith 16 10 held)
-unfolding packet lengthOf lengths
-packet-long held =
-    gives-numbered _ _ λ indicator _.
-    gives-numbered _ _ λ counter _.
-    gives-numbered _ _ λ size _.
-    gives-done (refl, λ l whole. simp (length-append, length-spell) (omega (arith, packet-width 1 (suc size))))
 
 -- the width of a combined row, by the flags
 combined-width : (orbit clock : Bool) (system : ℕ) → shapeWidth (combinedShape orbit clock system) ≡ cond orbit (orbitBits system) 0 + cond clock 15 0
@@ -216,8 +196,13 @@ mask-at held =
     gives-done {a = record { content = c; after = mask (d .made) }} (it .0, rw append-nil (omega (arith, it .1, at-number (mask (d .made)) c 1 (it .0))))
 
 packet-at : LongAt 10 (free (record { program = packet; spelling = putPacket }))
-unfolding byKind
-packet-at held = body-long 10 held (packet-long held)
+unfolding byKind packet lengthOf lengths
+packet-at held =
+    body-long 10 held
+    (gives-numbered _ _ λ indicator _.
+    gives-numbered _ _ λ counter _.
+    gives-numbered _ _ λ size _.
+    gives-done (refl, λ l whole. simp (length-append, length-spell) (omega (arith, packet-width 1 (suc size)))))
 
 -- rows over satellites, and over cells, by what each takes
 over-satellites : (shape : ℕ → List Column) (bits : ℕ → ℕ) → ((system : ℕ) → shapeWidth (shape system) ≡ bits system) → (m : Mask)
@@ -231,14 +216,14 @@ unfolding overCells skyOf
 over-cells shape bits each m = ap (λ (k : ℕ). 37 + k) (cell-width shape (cells (m .systems)) ∙ total-same _ bits (cells (m .systems)) (λ c. each (c .satellite .system)))
 
 kinds-long : Each LongAt 0 kinds
-unfolding kinds lengths
+unfolding kinds lengths shapeWidth clockShape codeShape phaseShape widthOf
 kinds-long =
     then (other-long 0)
     (then mask-at
     (then (alone-at 2 (overSatellites orbitShape) λ m c. over-satellites orbitShape orbitBits orbit-width m)
-    (then (alone-at 3 (overSatellites clockShape) λ m c. over-satellites clockShape (λ _. 15) clock-width m ∙ ap (λ (k : ℕ). 37 + k) (total-same _ 15 (satellites (m .systems)) (λ s. refl)))
-    (then (alone-at 4 (overCells codeShape) λ m c. over-cells codeShape 11 code-width m)
-    (then (alone-at 5 (overCells phaseShape) λ m c. over-cells phaseShape 17 phase-width m)
+    (then (alone-at 3 (overSatellites clockShape) λ m c. over-satellites clockShape (λ _. 15) (λ _. refl) m ∙ ap (λ (k : ℕ). 37 + k) (total-same _ 15 (satellites (m .systems)) (λ s. refl)))
+    (then (alone-at 4 (overCells codeShape) λ m c. over-cells codeShape 11 (λ _. refl) m)
+    (then (alone-at 5 (overCells phaseShape) λ m c. over-cells phaseShape 17 (λ _. refl) m)
     (then (other-long 6) (then (other-long 7) (then (other-long 8) (then (other-long 9)
     (then packet-at
     (then (masked-long 11 (record { program = flagged 11 combinedShape; spelling = putFlagged combinedShape }) combined-long) end)))))))))))

@@ -12,6 +12,7 @@ use lib.Seq.{append-snoc}
 use borrow.Author.Tests.{lt-ltb, eq-eqb}
 use Rattle.bits.specs.BitLists.{spell}
 use Rattle.bits.specs.Signed.{unsigned}
+use Rattle.bits.proofs.Bridge.{spell-bit}
 use Rattle.format.specs.Assigned.{known, assigned, satellitePlaces, signalPlaces}
 use Rattle.format.specs.Good.{goodSystem, goodSystems, good}
 use Rattle.format.specs.Masks.{System, mask, satellites, placesFrom}
@@ -21,13 +22,7 @@ use Rattle.format.specs.Spelling.{put, putCommon, putSystem, putMask}
 use Rattle.format.proofs.Sames.{and-true, true-and}
 use Rattle.format.proofs.Steps.{Gives, gives-done, gives-require, gives-taking, gives-numbered, gives-bind, gives-so}
 
--- ---- the flag: its number, its bit, and how many bits the cell mask has
-
-flag-bit : (f : ℕ) → f < 2 → spell 1 f ≡ eqb f 1 ∷ []
-unfolding spell
-flag-bit zero h = refl
-flag-bit (suc zero) h = refl
-flag-bit (suc (suc f)) h = absurd (omega arith)
+-- ---- the flag's number, and how many bits the cell mask has
 
 pub flag-width : (f n : ℕ) → f < 2 → f * n ≡ cond (eqb f 1) n 0
 flag-width zero n h = omega arith
@@ -74,7 +69,7 @@ system-gives before =
     gives-done (
       true-and (new .0) (true-and (new .1) (true-and (eq-eqb _ _ (f .whole)) (true-and (f .placed) (true-and (f .few) (true-and (eq-eqb _ _ (f .long)) (true-and (f .given)
           (true-and (eq-eqb _ _ (width ∙ flag-width flag _ bit)) held))))))),
-      rw (fresh .1, fit .1, flag-bit flag bit, append-nil bits, append-assoc),
+      rw (fresh .1, fit .1, spell-bit flag bit, append-nil bits, append-assoc),
     )
 
 systems-give : (n : ℕ) (before : List System)

@@ -8,8 +8,8 @@ use native.Mathlib.Omega.{arith}
 use borrow.Author.Tests.{eqb-true}
 use lib.Dec.{eqb}
 use lib.IntN.{ℤ, pos}
-use lib.ListN.{length, take, drop, take-append-drop}
-use lib.Seq.{length-take-le, take-length}
+use lib.ListN.{length, take}
+use lib.Seq.{take-length}
 use Rattle.bits.specs.BitLists.{spell}
 use Rattle.bits.specs.Signed.{unsigned}
 use Rattle.format.specs.declared.Head.{Head}
@@ -25,7 +25,7 @@ use Rattle.format.specs.Table.{Message, Kind, other, free, masked, adopt
 use Rattle.format.specs.Writing.{endedWith, exact}
 use Rattle.format.proofs.Bodies.{Threes}
 use Rattle.format.proofs.Makes.{common-gives, mask-spelled}
-use Rattle.format.proofs.Runs.{taken-le, run-append}
+use Rattle.format.proofs.Runs.{run-append}
 use Rattle.format.proofs.Sames.{and-true, sameList-sound, sameList-refl, sameℤ-sound, sameℤ-refl, sameHead-sound, sameHead-refl, sameHeld-sound, sameHeld-refl, eqb-refl}
 use Rattle.format.proofs.Selections.{Distinct, satellites-distinct}
 use Rattle.format.proofs.Spells.{satellite-threes, cell-threes, alone-spelled, packet-spelled, flagged-spelled, Spells}
@@ -93,13 +93,6 @@ message-again t held =
     gives-message t held λ n small.
     gives-so (gives-both (kind-again (t n) held) (gives-itself (byKind (t n) held))) λ m b it.
     rw (← append-assoc) (reads-bind _ (opening-reads n small) (rw (it .0) (it .1)))
-
-pub read-again : (t : ℕ → Kind) (held : Held) (l : List Bool) (m : Message) (taken : ℕ) → run (messageBy t held) l ≡ well m taken
-    → run (messageBy t (m .after)) l ≡ well m taken
-read-again t held l m taken e =
-    let size : length (take taken l) ≡ taken = length-take-le taken l (taken-le (messageBy t held) l m taken e) in
-    let again = run-append (messageBy t (m .after)) (take taken l) (drop taken l) m (length (take taken l)) (message-again t held .gives l m taken e .reads) in
-    rw (take-append-drop, size) at again
 
 -- ---- writing
 

@@ -9,10 +9,9 @@ use native.Mathlib.Decide.{decLt}
 use native.Mathlib.Omega.{arith}
 use lib.ListN.{length, take, drop, length-append, length-drop}
 use lib.Seq.{drop-drop, drop-at, take-add, take-append-le, take-take, length-take-le}
-use Rattle.bits.specs.BitLists.{number}
 use Rattle.format.specs.declared.Refusal.{Refusal}
 use Rattle.format.specs.declared.Refusal.the-variants.{Short}
-use Rattle.format.specs.Programs.{Program, done, refuse, field, _>>=_, _>>_, taking, numbered, require, Ended, well, badly, later, unlessShort, run}
+use Rattle.format.specs.Programs.{Program, done, refuse, field, _>>=_, _>>_, require, Ended, well, badly, later, unlessShort, run}
 
 -- ---- a field is there, or short
 
@@ -192,16 +191,7 @@ run-take p l a taken e =
     let h = taken-le p l a taken e in
     run-agree p l (take taken l) a taken e (sym (take-take taken taken l (le-refl taken))) (rw (length-take-le taken l h) (le-refl taken))
 
--- ---- a field, a test
-
-pub numbered-began : {B : Type 0} (w : ℕ) (k : ℕ → Program B) (l : List Bool) (b : B) (taken : ℕ) → run (numbered w >>= k) l ≡ well b taken
-    → Began w (λ bs. k (number bs)) l b taken
-unfolding numbered _>>=_
-numbered-began w k l b taken e = began w (λ bs. k (number bs)) l b taken e
-
-pub taking-began : {B : Type 0} (w : ℕ) (k : List Bool → Program B) (l : List Bool) (b : B) (taken : ℕ) → run (taking w >>= k) l ≡ well b taken → Began w k l b taken
-unfolding taking _>>=_
-taking-began w k l b taken e = began w k l b taken e
+-- ---- a test
 
 pub required : {B : Type 0} (test : Bool) (r : Refusal) (p : Program B) (l : List Bool) (b : B) (taken : ℕ) → run (require test r >> p) l ≡ well b taken
     → (test ≡ true) × (run p l ≡ well b taken)

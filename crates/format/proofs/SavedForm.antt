@@ -3,7 +3,7 @@
 use mathlib.Core.Path.{_≡_, refl, sym, ap, ap₂, _∙_}
 use mathlib.Core.Bool.{Bool, true, false, cond, _&&_, and-eq-true-iff}
 use mathlib.Core.List.{List, [], _∷_, _++_, flatMap, append-assoc, append-nil}
-use Prim.Native.Nat.{ℕ, _+_, _*_, _/_, _%_, _≤_, _<_}
+use Prim.Native.Nat.{ℕ, _+_, _/_, _%_, _≤_, _<_}
 use native.Mathlib.Omega.{arith}
 use lib.Dec.{ltb, eqb}
 use lib.ListN.{length, getD, take}
@@ -12,10 +12,10 @@ use Rattle.bits.specs.BitLists.{number, spell}
 use Rattle.bits.proofs.BitLists.{number-lt, spell-number}
 use Rattle.format.specs.Assigned.{known}
 use Rattle.format.specs.Good.{good, goodSystem, goodSystems}
-use Rattle.format.specs.Masks.{System, Held, nothing, mask, placesFrom, satellites}
+use Rattle.format.specs.Masks.{System, Held, nothing, mask, satellites}
 use Rattle.format.specs.Same.{sameList}
 use Rattle.format.specs.Saved.{tab, lineFeed, dash, letterS, digitChar, charDigit, decimal, decimalValue, hex, hexBits, cellText, flagText, systemText, heldText, lineOf, fieldsFrom, systemFrom, systemsFrom, heldFrom, loaded, unloaded, load}
-use Rattle.format.proofs.MakesBack.{good-system}
+use Rattle.format.proofs.MakesBack.{GoodSystem, good-system}
 use Rattle.format.proofs.Sames.{sameList-sound, sameList-refl, eqb-refl}
 
 -- ---- digits
@@ -175,29 +175,16 @@ fields-line held = ap (fieldsFrom []) (line-joined held) ∙ fields-joined (lett
 
 -- ---- the fields of a good holding are its own
 
--- the sizes of a good system's parts
-record Sized (s : System) : Type 0 where
-  id : s .id ≤ 4
-  satellites : length (s .satellites) ≡ 40
-  signals : length (s .signals) ≡ 16
-  cells : length (s .cells) ≡ cond (s .flag) (length (placesFrom 0 (s .satellites)) * length (placesFrom 0 (s .signals))) 0
-
-sized : (before : List System) (s : System) → goodSystem before s ≡ true → Sized s
-unfolding known
-sized before s e =
-    let g = good-system before s e in
-    record { id = leb-true (s .id) 4 (g .known-id); satellites = g .whole; signals = g .long; cells = g .width }
-
-systemFrom-sized : (s : System) → Sized s
+systemFrom-good : (before : List System) (s : System) → GoodSystem before s
     → systemFrom (decimal (s .id)) (hex (s .satellites)) (hex (s .signals)) (flagText (s .flag)) (cellText (s .cells)) ≡ s
-unfolding systemFrom
-systemFrom-sized s z =
-    let id = decimalValue-decimal (s .id) (omega arith) in
-    let satellites : take 40 (hexBits (hex (s .satellites))) ≡ s .satellites = rw (z .satellites) at (hexBits-hex (s .satellites)) in
-    let signals : take 16 (hexBits (hex (s .signals))) ≡ s .signals = rw (z .signals) at (hexBits-hex (s .signals)) in
+unfolding systemFrom known
+systemFrom-good before s g =
+    let id = decimalValue-decimal (s .id) (omega (arith, leb-true (s .id) 4 (g .known-id))) in
+    let satellites : take 40 (hexBits (hex (s .satellites))) ≡ s .satellites = rw (g .whole) at (hexBits-hex (s .satellites)) in
+    let signals : take 16 (hexBits (hex (s .signals))) ≡ s .signals = rw (g .long) at (hexBits-hex (s .signals)) in
     let flag = flag-flagText (s .flag) in
     let cells : systemFrom (decimal (s .id)) (hex (s .satellites)) (hex (s .signals)) (flagText (s .flag)) (cellText (s .cells)) .cells ≡ s .cells =
-    rw (satellites, signals, flag) (cells-cellText (s .flag) _ (s .cells) (z .cells)) in
+    rw (satellites, signals, flag) (cells-cellText (s .flag) _ (s .cells) (g .width)) in
     λ i. record { id = id i; satellites = satellites i; signals = signals i; flag = flag i; cells = cells i }
 
 systemsFrom-good : (before ss : List System) → goodSystems before ss ≡ true → systemsFrom (flatMap systemFields ss) ≡ ss
@@ -205,7 +192,7 @@ unfolding goodSystems systemsFrom flatMap systemFields
 systemsFrom-good before [] g = refl
 systemsFrom-good before (s ∷ ss) g =
     let h = and-eq-true-iff (goodSystem before s) (goodSystems (before ++ (s ∷ [])) ss) .0 g in
-    ap₂ _∷_ (systemFrom-sized s (sized before s (h .0))) (systemsFrom-good (before ++ (s ∷ [])) ss (h .1))
+    ap₂ _∷_ (systemFrom-good before s (good-system before s (h .0))) (systemsFrom-good (before ++ (s ∷ [])) ss (h .1))
 
 heldFrom-good : (held : Held) → good held ≡ true → heldFrom ((letterS ∷ []) ∷ heldFields held) ≡ held
 unfolding good heldFrom heldFields

@@ -1,7 +1,7 @@
 -- No two satellites of a good mask are the same, so the rows of those that were selected show the selection.
 -- Assumes nothing.
 use mathlib.Core.Path.{_≡_, refl, sym}
-use mathlib.Core.Bool.{Bool, true, false, cond, not, false≢true}
+use mathlib.Core.Bool.{Bool, true, false, cond, false≢true, not-eq-not}
 use mathlib.Core.List.{List, [], _∷_, _++_, map, flatMap}
 use Prim.Native.Nat.{ℕ, suc, _<_}
 use native.Mathlib.Omega.{arith}
@@ -9,7 +9,6 @@ use borrow.Author.Tests.{not-true, eqb-false}
 use lib.Dec.{eqb, ltb}
 use lib.IntN.{ℤ, pos}
 use lib.ListN.{length, take, drop}
-use Rattle.format.specs.Assigned.{known}
 use Rattle.format.specs.Good.{goodSystem, goodSystems, good}
 use Rattle.format.specs.Masks.{System, Mask, mask, Satellite, placesFrom, pick, satellitesOf, satellites}
 use Rattle.format.specs.Messages.{satelliteLines, named, idsOf}
@@ -17,6 +16,7 @@ use Rattle.format.specs.Rows.{Column, shapeWidth, rowsOf}
 use Rattle.format.specs.Same.{sameℤ, sameList}
 use Rattle.format.specs.Spelling.{marks}
 use Rattle.format.proofs.Bodies.{All, none, more, all-weaken, all-append}
+use Rattle.format.proofs.MakesBack.{good-system}
 use Rattle.format.proofs.Sames.{and-true, sameℤ-sound, sameℤ-refl, sameList-sound, sameList-refl}
 
 -- ---- no two satellites of a good mask are the same
@@ -69,10 +69,6 @@ named-before id (b ∷ before) s e =
     let later = named-before id before s (here .1) in
     (rw (here .0) (later .0), later .1)
 
-new-id : (before : List System) (s : System) → goodSystem before s ≡ true → named (s .id) (idsOf before) ≡ false
-unfolding goodSystem
-new-id before s e = not-true (named (s .id) (idsOf before)) (and-true (not (named (s .id) (idsOf before))) _ (and-true (known (s .id)) _ e .1) .0)
-
 -- satellites of systems after others: none of a system named before, and no two the same
 distinct-from : (before ss : List System) → goodSystems before ss ≡ true → All (λ t. named (t .system) (idsOf before) ≡ false) (satellites ss) × Distinct (satellites ss)
 unfolding goodSystems satellites satellitesOf flatMap
@@ -81,7 +77,7 @@ distinct-from before (s ∷ ss) e =
     let parts = and-true (goodSystem before s) _ e in
     let here = system-distinct (s .id) 0 (s .satellites) in
     let others = distinct-from (before ++ (s ∷ [])) ss (parts .1) in (
-      all-append (all-weaken (λ t p. rw (p .0) (new-id before s (parts .0))) (here .0)) (all-weaken (λ t unnamed. named-before (t .system) before s unnamed .0) (others .0)),
+      all-append (all-weaken (λ t p. rw (p .0) (not-true _ (good-system before s (parts .0) .fresh))) (here .0)) (all-weaken (λ t unnamed. named-before (t .system) before s unnamed .0) (others .0)),
       distinct-append (here .1) (others .1)
           (all-weaken (λ t p. all-weaken (λ u unnamed same. eqb-false (u .system) (s .id) (named-before (u .system) before s unnamed .1) (cc (p .0))) (others .0)) (here .0)),
     )
@@ -111,16 +107,12 @@ all-pick (true ∷ bits) (x ∷ xs) (more p ps) = more p (all-pick bits xs ps)
 all-pick (false ∷ bits) (x ∷ xs) (more p ps) = all-pick bits xs ps
 
 -- a row tells whose keys it begins with
-never-true : (t : Bool) → (t ≡ true → ⊥) → t ≡ false
-never-true true never = absurd (never refl)
-never-true false never = refl
-
 own-key : (s : Satellite) (r : List ℤ) → take 2 r ≡ keyOf s → sameList sameℤ (take 2 r) (keyOf s) ≡ true
 own-key s r e = rw e (sameList-refl sameℤ sameℤ-refl (keyOf s))
 
 other-key : (s : Satellite) (r : List ℤ) {ts : List Satellite} {rows : List (List ℤ)} → All (Apart s) ts → Keyed ts (r ∷ rows)
     → sameList sameℤ (take 2 r) (keyOf s) ≡ false
-other-key s r (more apart ps) (keyed e k) = never-true _ λ same. apart (cc (sameList-sound sameℤ sameℤ-sound (take 2 r) (keyOf s) same))
+other-key s r (more apart ps) (keyed e k) = not-eq-not .0 λ same. apart (cc (sameList-sound sameℤ sameℤ-sound (take 2 r) (keyOf s) same))
 
 -- so the rows of those selected show the selection
 pub marks-pick : (sats : List Satellite) (bits : List Bool) (rows : List (List ℤ)) → Distinct sats → length bits ≡ length sats → Keyed (pick bits sats) rows

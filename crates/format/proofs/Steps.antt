@@ -12,7 +12,7 @@ use Rattle.bits.specs.BitLists.{number, spell}
 use Rattle.bits.proofs.BitLists.{number-lt, number-spell, spell-number, length-spell}
 use Rattle.format.specs.declared.Refusal.{Refusal}
 use Rattle.format.specs.Programs.{Program, done, refuse, field, _>>=_, _>>_, taking, numbered, require, well, later, run}
-use Rattle.format.proofs.Runs.{run-field, run-bind, run-append, run-take, taken-le, both, numbered-began, taking-began, required, require-true}
+use Rattle.format.proofs.Runs.{run-field, run-bind, run-append, run-take, taken-le, began, both, required, require-true}
 
 -- ---- the bits of a field
 
@@ -55,16 +55,18 @@ module _ {A : Type 0} {P : A → List Bool → Type 0} where
   }
 
   pub gives-taking : (w : ℕ) (k : List Bool → Program A) → ((b : List Bool) → length b ≡ w → Gives (k b) (λ a m. P a (b ++ m))) → Gives (taking w >>= k) P
+  unfolding taking _>>=_
   gives-taking w k h = record {
     gives = λ l a taken e.
-        let b = taking-began w k l a taken e in
+        let b = began w k l a taken e in
         rw (cut w l taken (b .rest) (b .sum)) (h (take w l) (length-take-le w l (b .room)) .gives (drop w l) a (b .rest) (b .goes));
   }
 
   pub gives-numbered : (w : ℕ) (k : ℕ → Program A) → ((n : ℕ) → n < 2 ^ w → Gives (k n) (λ a m. P a (spell w n ++ m))) → Gives (numbered w >>= k) P
+  unfolding numbered _>>=_
   gives-numbered w k h = record {
     gives = λ l a taken e.
-        let b = numbered-began w k l a taken e in
+        let b = began w (λ bs. k (number bs)) l a taken e in
         let whole : length (take w l) ≡ w = length-take-le w l (b .room) in
         rw (cut w l taken (b .rest) (b .sum), ← (field-spelled w (take w l) whole))
         (h (number (take w l)) (field-lt w (take w l) whole) .gives (drop w l) a (b .rest) (b .goes));
