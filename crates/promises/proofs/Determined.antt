@@ -2,45 +2,58 @@
 -- `Learnt` is what a caller learns by the contract, as the check reads it off the source; what the function has to show, `Post`, computes to the same.
 -- Assumes nothing.
 use mathlib.Core.Path.{_≡_, refl, sym, _∙_}
+use mathlib.Core.List.{List}
+use Prim.Native.Nat.{ℕ}
+use contract.Lifetimes.{Lfts}
+use denote.Triple.Clauses.{atExit}
+use borrow.Fn.Kinds.{PK, RK, Out, Dens, endedOf}
 use Rattle.holding.proofs.Holding as holding
 use Rattle.host.proofs as host
 use Rattle.probe.proofs as probe
 use Rattle.reader.proofs as reader
 use Rattle.walk.proofs as walk
-use Rattle.promises.specs.Determination.{DeterminedBy, Determined, SamePart}
+use Rattle.promises.specs.Determination.{Result, Content, DeterminedBy, Determined, SamePart}
 
 -- two values that are equal to a third are equal
 alike : {A : Type 0} {x y z : A} → x ≡ z → y ≡ z → x ≡ y
 alike p q = p ∙ sym q
 
+module _ {n : ℕ} (ps : List (PK n)) (r : RK n) (P : Out n ps r) where
+  -- where a contract says what the result is, and what each lent buffer then holds, both are determined
+  says :
+      {result : (κs : Lfts n) → Dens κs ps → Result ps r κs} {content : (κs : Lfts n) (args : Dens κs ps) → Content ps r κs args}
+      → ((κs : Lfts n) (args : Dens κs ps) (x : Result ps r κs) (v : Content ps r κs args) → P κs args x (atExit (endedOf n ps r) κs args v)
+      → (x ≡ result κs args) × (v ≡ content κs args))
+      → Determined ps r P
+  unfolding Determined DeterminedBy
+  says h κs args x y v w p q =
+      let one = h κs args x v p in
+      let two = h κs args y w q in
+      (alike (one .0) (two .0), alike (one .1) (two .1))
+
 -- ---- holding
 
 -- "A fresh receiver starts from the empty holding"
 pub empty-determined : Determined holding.empty.Kinds.ps holding.empty.Kinds.r holding.empty.Reads.Learnt
-unfolding Determined DeterminedBy
-empty-determined κs args x y v w p q = (alike p q, refl)
+empty-determined = says _ _ _ λ κs args x v p. (p, refl)
 
 -- whether it is "empty or what a good mask message makes"
 pub is-sound-determined : Determined holding.is_sound.Kinds.ps holding.is_sound.Kinds.r holding.is_sound.Reads.Learnt
-unfolding Determined DeterminedBy
-is-sound-determined κs args x y v w p q = (alike p q, refl)
+is-sound-determined = says _ _ _ λ κs args x v p. (p, refl)
 
 -- "adopting takes mut self and hands the new holding back"
 pub adopt-determined : Determined holding.adopt.Kinds.ps holding.adopt.Kinds.r holding.adopt.Reads.Learnt
-unfolding Determined DeterminedBy
-adopt-determined κs args x y v w p q = (alike p q, refl)
+adopt-determined = says _ _ _ λ κs args x v p. (p, refl)
 
 -- ---- reader
 
 -- reading one message: the answer with the holding, and the row buffer
 pub read-determined : Determined reader.read.Kinds.ps reader.read.Kinds.r reader.read.Reads.Learnt
-unfolding Determined DeterminedBy
-read-determined κs args x y v w p q = (alike (p .0) (q .0), λ i. (tt, (tt, (tt, (tt, (alike (p .1) (q .1) i, tt))))))
+read-determined = says _ _ _ λ κs args x v p. (p .0, λ i. (tt, (tt, (tt, (tt, (p .1 i, tt))))))
 
 -- the same where a mask is left to be adopted: what is found, and the row buffer
 pub seek-determined : Determined reader.seek.Kinds.ps reader.seek.Kinds.r reader.seek.Reads.Learnt
-unfolding Determined DeterminedBy
-seek-determined κs args x y v w p q = (alike (p .0) (q .0), λ i. (tt, (tt, (tt, (tt, (alike (p .1) (q .1) i, tt))))))
+seek-determined = says _ _ _ λ κs args x v p. (p .0, λ i. (tt, (tt, (tt, (tt, (p .1 i, tt))))))
 
 -- "the message's raw bytes as a part of the caller's own stretch"
 pub raw-determined : DeterminedBy reader.raw.raw.Kinds.ps reader.raw.raw.Kinds.r (λ κs x y. SamePart x y) reader.raw.raw.Reads.Learnt
@@ -51,49 +64,40 @@ raw-determined κs args x y v w p q = ((alike (p .bytes) (q .bytes), λ i. (alik
 
 -- reading a stretch: the stop with the counts and the holding, and the row buffer
 pub walk-determined : Determined walk.walk.Kinds.ps walk.walk.Kinds.r walk.walk.Reads.Learnt
-unfolding Determined DeterminedBy
-walk-determined κs args x y v w p q = (alike (p .0) (q .0), λ i. (tt, (tt, (tt, (alike (p .1) (q .1) i, tt)))))
+walk-determined = says _ _ _ λ κs args x v p. (p .0, λ i. (tt, (tt, (tt, (p .1 i, tt)))))
 
 -- ---- host: "numbers and byte slices"
 
 -- the empty holding over the lent bytes
 pub hundurzek-empty-determined : Determined host.hundurzek_empty.Kinds.ps host.hundurzek_empty.Kinds.r host.hundurzek_empty.Reads.Learnt
-unfolding Determined DeterminedBy
-hundurzek-empty-determined κs args x y v w p q = (alike (p .0) (q .0), λ i. (alike (p .1) (q .1) i, tt))
+hundurzek-empty-determined = says _ _ _ λ κs args x v p. (p .0, λ i. (p .1 i, tt))
 
 -- reading one message: the numbers handed out, the holding's bytes, and the row buffer
 pub hundurzek-read-determined : Determined host.hundurzek_read.Kinds.ps host.hundurzek_read.Kinds.r host.hundurzek_read.Reads.Learnt
-unfolding Determined DeterminedBy
-hundurzek-read-determined κs args x y v w p q = (alike (p .0) (q .0), λ i. (alike (p .1 .0) (q .1 .0) i, (tt, (tt, (tt, (alike (p .1 .1) (q .1 .1) i, tt))))))
+hundurzek-read-determined = says _ _ _ λ κs args x v p. (p .0, λ i. (p .1 .0 i, (tt, (tt, (tt, (p .1 .1 i, tt))))))
 
 -- reading a stretch: the numbers handed out, the holding's bytes, and the row buffer
 pub hundurzek-walk-determined : Determined host.hundurzek_walk.Kinds.ps host.hundurzek_walk.Kinds.r host.hundurzek_walk.Reads.Learnt
-unfolding Determined DeterminedBy
-hundurzek-walk-determined κs args x y v w p q = (alike (p .0) (q .0), λ i. (alike (p .1 .0) (q .1 .0) i, (tt, (tt, (alike (p .1 .1) (q .1 .1) i, tt)))))
+hundurzek-walk-determined = says _ _ _ λ κs args x v p. (p .0, λ i. (p .1 .0 i, (tt, (tt, (p .1 .1 i, tt)))))
 
 -- ---- probe: fields of a byte string, for comparing
 
 -- the number in a field
 pub read-field-determined : Determined probe.hundurzek_read_field.Kinds.ps probe.hundurzek_read_field.Kinds.r probe.hundurzek_read_field.Reads.Learnt
-unfolding Determined DeterminedBy
-read-field-determined κs args x y v w p q = (alike p q, refl)
+read-field-determined = says _ _ _ λ κs args x v p. (p, refl)
 
 -- the number in a field that the bits' end may cut, and how many bits are missing
 pub take-field-determined : Determined probe.hundurzek_take_field.Kinds.ps probe.hundurzek_take_field.Kinds.r probe.hundurzek_take_field.Reads.Learnt
-unfolding Determined DeterminedBy
-take-field-determined κs args x y v w p q = (alike p q, refl)
+take-field-determined = says _ _ _ λ κs args x v p. (p, refl)
 
 -- whether a field was written, and the lent part
 pub write-field-determined : Determined probe.hundurzek_write_field.Kinds.ps probe.hundurzek_write_field.Kinds.r probe.hundurzek_write_field.Reads.Learnt
-unfolding Determined DeterminedBy
-write-field-determined κs args x y v w p q = (alike (p .0) (q .0), λ i. (alike (p .1) (q .1) i, (tt, (tt, (tt, tt)))))
+write-field-determined = says _ _ _ λ κs args x v p. (p .0, λ i. (p .1 i, (tt, (tt, (tt, tt)))))
 
 -- whether "all remaining bits are zero, or none remain"
 pub zero-from-determined : Determined probe.hundurzek_zero_from.Kinds.ps probe.hundurzek_zero_from.Kinds.r probe.hundurzek_zero_from.Reads.Learnt
-unfolding Determined DeterminedBy
-zero-from-determined κs args x y v w p q = (alike p q, refl)
+zero-from-determined = says _ _ _ λ κs args x v p. (p, refl)
 
 -- the bits that mean an integer in two's complement
 pub from-signed-determined : Determined probe.hundurzek_from_signed.Kinds.ps probe.hundurzek_from_signed.Kinds.r probe.hundurzek_from_signed.Reads.Learnt
-unfolding Determined DeterminedBy
-from-signed-determined κs args x y v w p q = (alike p q, refl)
+from-signed-determined = says _ _ _ λ κs args x v p. (p, refl)

@@ -1,10 +1,9 @@
 -- The receivers of demand 3 are those of the code: one that keeps the walk's holding from stretch to stretch, and one in C that keeps its bytes.
 -- Assumes nothing.
 use mathlib.Core.Path.{_≡_, refl, ap, _∙_}
-use mathlib.Core.Bool.{true}
+use mathlib.Core.Bool.{true, false≢true}
 use mathlib.Core.List.{List}
 use Prim.Native.Nat.{ℕ, _≤_}
-use native.Mathlib.Omega.{arith}
 use lib.IntN.{ℤ}
 use lib.ListN.{length}
 use borrow.Author.Tests.{le-leb}
@@ -13,6 +12,7 @@ use Rattle.format.specs.Masks.{Held, nothing, Lent, stray, lent, heldIn}
 use Rattle.format.specs.Reading.{lentAfter}
 use Rattle.format.specs.Table.{table}
 use Rattle.format.specs.Walking.{walkOn}
+use Rattle.format.proofs.HeldGood.{held-good}
 use Rattle.format.proofs.Walks.{walk-good}
 use Rattle.holding.specs.declared.Holding.{Holding}
 use Rattle.holding.specs.Pictures.{pictureOf}
@@ -27,19 +27,14 @@ use Rattle.walk.specs.Walks.{walkAt, walkedOf}
 
 -- ---- what is lent, where it is a holding: as it is held, as a struct and as bytes
 
-holding-good : (l : Lent) → isHolding l ≡ true → good (heldIn l) ≡ true
-unfolding isHolding heldIn
-holding-good stray e = absurd (let z : _≡_ {A = ℕ} 0 1 = cc in omega arith)
-holding-good (lent held) e = e
-
 struct-held : (h : Holding) (l : Lent) → isHolding l ≡ true → structOf h l ≡ pictureOf (heldIn l)
 unfolding isHolding heldIn structOf
-struct-held h stray e = absurd (let z : _≡_ {A = ℕ} 0 1 = cc in omega arith)
+struct-held h stray e = absurd (false≢true e)
 struct-held h (lent held) e = refl
 
 bytes-say : (hb : List ℕ) (l : Lent) → isHolding l ≡ true → holdingIn (bytesAfter l hb) ≡ pictureOf (heldIn l)
 unfolding isHolding heldIn bytesAfter
-bytes-say hb stray e = absurd (let z : _≡_ {A = ℕ} 0 1 = cc in omega arith)
+bytes-say hb stray e = absurd (false≢true e)
 bytes-say hb (lent held) e = holding-returns (pictureOf held) (sound-picture held e) hb
 
 -- ---- in Rattle
@@ -64,7 +59,7 @@ module _ (held : Held) (fine : good held ≡ true) (bytes : List ℕ) (end : ℕ
 
   pub stays-good : good (heldAfter (received table held bytes end rows .stop)) ≡ true
   unfolding heldAfter
-  stays-good = holding-good (lentAfter (received table held bytes end rows .stop)) stays-holding
+  stays-good = held-good (lentAfter (received table held bytes end rows .stop)) stays-holding
 
 -- ---- in C
 

@@ -2,27 +2,23 @@
 -- Assumes nothing.
 use mathlib.Core.Path.{_≡_, refl, sym, ap₂}
 use mathlib.Core.Bool.{true}
-use mathlib.Core.List.{List, [], _∷_}
+use mathlib.Core.List.{List, [], _∷_, flatten}
 use mathlib.Core.Logic.{_⊎_, inl, inr, ⊎-elim}
 use Prim.Native.Nat.{ℕ, _≤_}
 use native.Mathlib.Omega.{arith}
 use lib.IntN.{ℤ}
-use lib.ListN.{length, length-append, length-drop}
+use lib.ListN.{length}
 use Rattle.format.specs.declared.Refusal.{Refusal}
 use Rattle.format.specs.Good.{good}
 use Rattle.format.specs.Masks.{Held, Lent, lent, heldIn}
-use Rattle.format.specs.Reading.{rowRoom, Outcome, accepted, bitsFrom, subTypeIn, lentAfter, over, rowsAfter}
+use Rattle.format.specs.Reading.{rowRoom, Outcome, accepted, bitsFrom, subTypeIn, lentAfter, rowsAfter}
 use Rattle.format.specs.Table.{Kind, Message}
 use Rattle.format.specs.Walking.{Walk, hand, goOn, walkOn}
+use Rattle.format.proofs.CutWalks.{over-long}
 use Rattle.format.proofs.Walks.{walk-step, Law, every-walk}
 use Rattle.promises.specs.LateJoiners.{IsIdle, OpeningPart, AtTheEnd, StoppedWith, TruthBut, heldAfter}
 use Rattle.promises.proofs.TwoReadings.{Abreast, first-refused, both-idle, both-read, second-refused, reading-abreast}
 use Rattle.promises.proofs.TwoTables.{Weaker, Near, Alike, Sure}
-
--- the lent buffer is never shorter after a message
-room-after : (m : Message) (next : ℕ) (rows : List ℤ) → rowRoom ≤ length rows → rowRoom ≤ length (rowsAfter (accepted m next) rows)
-unfolding rowsAfter over
-room-after m next rows room = simp (length-append, length-drop) (omega arith)
 
 -- what is said of a stretch, where `sure` says that the mask refuses nothing
 abbrev pub Along : (Refusal → Type 0) → Type 0 → Walk → Walk → Type 0
@@ -66,7 +62,7 @@ module _ (More : Refusal → Type 0) (t u : ℕ → Kind) (bytes : List ℕ) (en
 
   module _ (weak : (n : ℕ) → Weaker More (t n) (u n)) where
     all-joined : Law t bytes end Joined
-    unfolding heldIn hand
+    unfolding heldIn hand rowsAfter
     all-joined = record {
       stops = λ holding place rows o e _ s near others room ends.
           rw (walk-step u (lent s) bytes end place others)
@@ -74,7 +70,7 @@ module _ (More : Refusal → Type 0) (t u : ℕ → Kind) (bytes : List ℕ) (en
       goes = λ holding place rows m taken a e _ law s near others room ends.
           rw (walk-step u (lent s) bytes end place others)
           (went place others _ (rw e at (reading-abreast t u weak holding s near bytes end place rows others room))
-          λ n alike. ((λ yes. inl (alike .sure yes)), law (n .after) (alike .near) _ (room-after n _ others room) ends));
+          λ n alike. ((λ yes. inl (alike .sure yes)), law (n .after) (alike .near) _ (omega (arith, over-long (flatten (n .content .rows)) others)) ends));
     }
 
     -- so of every walk
