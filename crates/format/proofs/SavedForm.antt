@@ -15,6 +15,7 @@ use Rattle.format.specs.Good.{good, goodSystem, goodSystems}
 use Rattle.format.specs.Masks.{System, Held, nothing, mask, satellites}
 use Rattle.format.specs.Same.{sameList}
 use Rattle.format.specs.Saved.{tab, lineFeed, dash, letterS, digitChar, charDigit, decimal, decimalValue, hex, hexBits, cellText, flagText, systemText, heldText, lineOf, fieldsFrom, systemFrom, systemsFrom, heldFrom, loaded, unloaded, load}
+use Rattle.format.proofs.Bodies.{All, none, more}
 use Rattle.format.proofs.MakesBack.{GoodSystem, good-system}
 use Rattle.format.proofs.Sames.{sameList-sound, sameList-refl, eqb-refl}
 
@@ -89,12 +90,11 @@ flag-flagText false = refl
 
 -- ---- text without tab and line feed
 
-data Plain : List ℕ → Type 0 where
-  none : Plain []
-  more : {c : ℕ} {text : List ℕ} → lineFeed < c → Plain text → Plain (c ∷ text)
+abbrev Plain : List ℕ → Type 0
+Plain text = All (λ c. lineFeed < c) text
 
 plain-digit : (n : ℕ) {text : List ℕ} → Plain text → Plain (digitChar n ∷ text)
-plain-digit n p = more {c = digitChar n} (omega (arith, digitChar-above n)) p
+plain-digit n p = more {x = digitChar n} (omega (arith, digitChar-above n)) p
 
 plain-decimal : (n : ℕ) → Plain (decimal n)
 plain-decimal n = decimal-digits Plain n (λ h. plain-digit n none) (plain-digit (n / 10) (plain-digit (n % 10) none))
@@ -109,7 +109,7 @@ plain-hex (a ∷ b ∷ c ∷ d ∷ l) = plain-digit _ (plain-hex l)
 
 plain-cells : (l : List Bool) → Plain (cellText l)
 unfolding cellText
-plain-cells [] = more {c = dash} (omega arith) none
+plain-cells [] = more {x = dash} (omega arith) none
 plain-cells (b ∷ l) = plain-hex (b ∷ l)
 
 plain-flag : (flag : Bool) → Plain (flagText flag)
@@ -131,12 +131,8 @@ joined : List (List ℕ) → List ℕ
 joined [] = lineFeed ∷ []
 joined (f ∷ fs) = tab ∷ (f ++ joined fs)
 
-data Plains : List (List ℕ) → Type 0 where
-  none : Plains []
-  more : {f : List ℕ} {fs : List (List ℕ)} → Plain f → Plains fs → Plains (f ∷ fs)
-
 -- fields without tab and line feed are found again
-fields-joined : (before : List ℕ) (fs : List (List ℕ)) → Plains fs → fieldsFrom before (joined fs) ≡ before ∷ fs
+fields-joined : (before : List ℕ) (fs : List (List ℕ)) → All Plain fs → fieldsFrom before (joined fs) ≡ before ∷ fs
 unfolding fieldsFrom joined
 fields-joined before [] none = refl
 fields-joined before (f ∷ fs) (more p ps) = ap (_∷_ before) (fields-plain [] f (joined fs) p ∙ fields-joined f fs ps)
@@ -158,15 +154,15 @@ unfolding lineOf heldText heldFields joined
 line-joined nothing = refl
 line-joined (mask m) = simp (append-assoc, systems-joined)
 
-plain-systems : (ss : List System) → Plains (flatMap systemFields ss)
+plain-systems : (ss : List System) → All Plain (flatMap systemFields ss)
 unfolding flatMap systemFields
 plain-systems [] = none
 plain-systems (s ∷ ss) =
     more (plain-decimal (s .id)) (more (plain-hex (s .satellites)) (more (plain-hex (s .signals)) (more (plain-flag (s .flag)) (more (plain-cells (s .cells)) (plain-systems ss)))))
 
-plain-held : (held : Held) → Plains (heldFields held)
+plain-held : (held : Held) → All Plain (heldFields held)
 unfolding heldFields
-plain-held nothing = more (more {c = dash} (omega arith) none) none
+plain-held nothing = more (more {x = dash} (omega arith) none) none
 plain-held (mask m) = more (plain-decimal (m .iod)) (plain-systems (m .systems))
 
 fields-line : (held : Held) → fieldsFrom [] (lineOf held) ≡ (letterS ∷ []) ∷ heldFields held

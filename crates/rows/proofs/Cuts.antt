@@ -48,18 +48,15 @@ module _ (bs : List ℕ) (at : ℕ) {window : ℕ} (there : window ≡ field bs 
   pub moved-lt : (s k : ℕ) → window / 2 / 2 ^ s / 2 ^ k < 2 ^ 63
   moved-lt s k = omega (arith, half-lt s, shr-le (window / 2 / 2 ^ s) k)
 
-  -- a field from the place on, with s bits below it up to the window's last bit but one
-  field-cut : (w place s : ℕ) → at ≤ place → place + w + s ≡ 8 * (at / 8) + 63 → window / 2 / 2 ^ s % 2 ^ w ≡ field bs place w
-  field-cut w place s after whole =
+  -- the column at a place from there on, with s bits below it up to the window's last bit but one
+  pub column-cut : (c : CodeColumn) (place s : ℕ) → at ≤ place → place + c .width + s ≡ 8 * (at / 8) + 63 → cutBy c (window / 2 / 2 ^ s) ≡ columnAt c bs place
+  column-cut c place s after whole =
       let first : ℕ = 8 * (at / 8) in
       let back : first + (place - first) ≡ place = omega arith in
-      ap (λ (x : ℕ). x / 2 / 2 ^ s % 2 ^ w) there
-      ∙ ap (λ (x : ℕ). x % 2 ^ w) (shr-shr (field bs first 64) 1 s)
-      ∙ in-window bs first (place - first) w (1 + s) (omega arith)
-      ∙ ap (λ (p : ℕ). field bs p w) back
-
-  pub column-cut : (c : CodeColumn) (place s : ℕ) → at ≤ place → place + c .width + s ≡ 8 * (at / 8) + 63 → cutBy c (window / 2 / 2 ^ s) ≡ columnAt c bs place
-  column-cut c place s after whole = ap (valueOf (columnOf c)) (field-cut (c .width) place s after whole)
+      ap (λ (x : ℕ). cutBy c (x / 2 / 2 ^ s)) there
+      ∙ ap (cutBy c) (shr-shr (field bs first 64) 1 s)
+      ∙ ap (valueOf (columnOf c)) (in-window bs first (place - first) (c .width) (1 + s) (omega arith))
+      ∙ ap (columnAt c bs) back
 
   -- and where the half window was moved down before
   moved-cut : (c : CodeColumn) (place s k : ℕ) → at ≤ place → place + c .width + (s + k) ≡ 8 * (at / 8) + 63

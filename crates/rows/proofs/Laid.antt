@@ -1,7 +1,7 @@
 -- The shapes of satellites' rows: by their layout, the columns that a row of a system has. And how wide the rows of any shape are.
 -- Assumes nothing.
-use mathlib.Core.Path.{_≡_, refl, ap}
-use mathlib.Core.Bool.{Bool, true, false, cond}
+use mathlib.Core.Path.{_≡_, refl, sym, ap, _∙_}
+use mathlib.Core.Bool.{Bool, true, false, cond, false≢true}
 use mathlib.Core.List.{[], _∷_}
 use mathlib.Core.Logic.{_⊎_, ⊎-elim}
 use Prim.Native.Nat.{ℕ, _+_, _≤_}
@@ -26,7 +26,7 @@ iode-some system e = rw e (go (eqb system 2))
 -- ---- which shapes are laid
 
 never : {A : Type 0} {b : Bool} → b ≡ true → b ≡ false → A
-never p q = let z : true ≡ false = cc in let n : _≡_ {A = ℕ} 0 1 = ap (λ (b : Bool). cond b 0 1) z in absurd (omega arith)
+never p q = absurd (false≢true (sym q ∙ p))
 
 pub laid-orbit : (iode : ℕ) (c : CodeColumn) → Laid (orbitOf iode c)
 unfolding columnFor orbitOf

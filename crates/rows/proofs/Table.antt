@@ -57,9 +57,9 @@ abbrev Rest : ℕ → Type 0
 Rest i = ((((((Unit {0} × (i ≡ 0 → ⊥)) × (i ≡ 1 → ⊥)) × (i ≡ 2 → ⊥)) × (i ≡ 3 → ⊥)) × (i ≡ 4 → ⊥)) × (i ≡ 5 → ⊥)) × (i ≡ 6 → ⊥)
 
 pub seventh : (i : ℕ) → i < 8 → Rest i → i ≡ 7
-seventh =
-    in-table (λ i. Rest i → i ≡ 7) (λ h. absurd (h .0 .0 .0 .0 .0 .0 .1 refl)) (λ h. absurd (h .0 .0 .0 .0 .0 .1 refl)) (λ h. absurd (h .0 .0 .0 .0 .1 refl))
-    (λ h. absurd (h .0 .0 .0 .1 refl)) (λ h. absurd (h .0 .0 .1 refl)) (λ h. absurd (h .0 .1 refl)) (λ h. absurd (h .1 refl)) (λ h. refl)
+seventh i some h =
+    let large : 4 ≤ i = omega (arith, h .0 .0 .0) in
+    omega (arith, h .0 .0 .1, h .0 .1, h .1)
 
 fine-at : (system i : ℕ) → i < 8 → FineShape (shapeAt i system)
 unfolding shapes shapeAt combinedShape clockShape codeShape phaseShape packetShape widthOf

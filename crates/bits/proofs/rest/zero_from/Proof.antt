@@ -29,12 +29,6 @@ returns c =
     let at : ℕ = c .before .before .before .before .before .loop .at in
     sym (ne-eqb _ 0 (λ e. c .if1 .taken (c .before .read-field .ensures ∙ zero-part (x .bytes .now) (x .place) (x .end) at (c .before .before .stride .result) (omega arith) (omega arith) e)))
 
-add-at : tie.Need-add-at Inv-loop μ-loop
-add-at c = omega arith
-
-loop-less : tie.Need-loop-less Inv-loop μ-loop
-loop-less c = omega arith
-
 loop-again : tie.Need-loop-again Inv-loop μ-loop
 loop-again c =
     let x = c .before .before .before .before .before .before .before .args in
@@ -60,7 +54,7 @@ zero-from-spec =
     (λ c κs. search needs)
     (λ c κs. omega arith)
     returns
-    add-at
-    loop-less
+    (λ c. omega arith)
+    (λ c. omega arith)
     loop-again
     returns-2)

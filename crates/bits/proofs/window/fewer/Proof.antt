@@ -35,9 +35,6 @@ small c =
     let few : 8 * (c .before .loop .at - x .i) ≤ 48 = omega arith in
     omega (arith, field-lt (x .bytes .now) (8 * x .i) (8 * (c .before .loop .at - x .i)), pow-mono few)
 
-mul-sum : tie.Need-mul-sum Inv-loop μ-loop
-mul-sum c = omega (arith, small c)
-
 cast-sum : tie.Need-cast-sum Inv-loop μ-loop
 cast-sum c = omega (arith, c .shared-slice-known .given (c .before .before .loop .at))
 
@@ -73,7 +70,7 @@ fewer-spec =
     μ-loop
     returns
     loop-holds
-    mul-sum
+    (λ c. omega (arith, small c))
     (λ c. omega arith)
     cast-sum
     add-sum
