@@ -1,8 +1,8 @@
--- The bits that a message took are as many as its head and the masks fix. Assumes nothing.
+-- The bits that a message took are as many as its head and the masks fix, and 37 at the least. Assumes nothing.
 use mathlib.Core.Path.{_≡_, refl, sym, ap, ap₂, _∙_}
 use mathlib.Core.Bool.{Bool, true, false, cond}
 use mathlib.Core.List.{List, [], _∷_, _++_, append-nil, map}
-use Prim.Native.Nat.{ℕ, zero, suc, _+_, _*_}
+use Prim.Native.Nat.{ℕ, zero, suc, _+_, _*_, _≤_}
 use native.Mathlib.Nat.{zero-add, add-comm, add-assoc, mul-zero, mul-suc}
 use native.Mathlib.Omega.{arith}
 use lib.Dec.{eqb}
@@ -75,11 +75,15 @@ packet-width k (suc n) = ap (λ (w : ℕ). 40 + w) (packet-width (suc k) n) ∙ 
 
 -- ---- what follows the sub type
 
+-- so many bits are what the head and the masks fix, and enough
+abbrev Long : ℕ → Held → Content → Type 0
+Long n held c = (n ≡ lengthOf held c) × (37 ≤ n)
+
 -- how long a message is with its body, by the bits of its heading after so many others
 abbrev LongWith : ℕ → ℕ → Held → Heading → List Bool → Type 0
 LongWith before n held d b =
     (d .head .subtype ≡ pos n)
-    × ((l : List Bool) → length l ≡ bodyWidth (d .lines) → before + (length b + length l) ≡ lengthOf held (record { head = d .head; rows = rowsOf (d .lines) l }))
+    × ((l : List Bool) → length l ≡ bodyWidth (d .lines) → Long (before + (length b + length l)) held (record { head = d .head; rows = rowsOf (d .lines) l }))
 
 at-number : (held : Held) (c : Content) (n : ℕ) → c .head .subtype ≡ pos n → lengthOf held c ≡ getD (lengths (maskOr held) c) n 0
 unfolding lengthOf
@@ -126,7 +130,7 @@ combined-long m h =
     gives-numbered _ _ λ clock _.
     gives-numbered _ _ λ flag _.
     gives-bind (selection-long (satellites (m .systems)) flag) λ s b long.
-    gives-done (refl, λ l whole. simp (length-append, length-spell) (omega (arith, long, combined-rows orbit clock (s .chosen) l)))
+    gives-done (refl, λ l whole. (simp (length-append, length-spell) (omega (arith, long, combined-rows orbit clock (s .chosen) l)), omega arith))
 
 -- a mask's systems, one after the other
 system-long : (before : List System) → Gives (system before) (λ s b. length b ≡ 61 + length (s .cells))
@@ -158,7 +162,7 @@ mask-long =
 
 -- what a kind at a sub type takes, whatever is held, after the number and the sub type
 abbrev LongAt : ℕ → Kind → Type 0
-LongAt n k = (held : Held) → Gives (byKind k held) (λ m b. (m .content .head .subtype ≡ pos n) × (16 + length b ≡ lengthOf (m .after) (m .content)))
+LongAt n k = (held : Held) → Gives (byKind k held) (λ m b. (m .content .head .subtype ≡ pos n) × Long (16 + length b) (m .after) (m .content))
 
 other-long : (n : ℕ) → LongAt n other
 unfolding byKind
@@ -166,7 +170,7 @@ other-long n held = gives-refuse SubType
 
 -- with its body
 body-long : (n : ℕ) (held : Held) {p : Program Heading} → Gives p (LongWith 16 n held)
-    → Gives (keeping held p) (λ m b. (m .content .head .subtype ≡ pos n) × (16 + length b ≡ lengthOf (m .after) (m .content)))
+    → Gives (keeping held p) (λ m b. (m .content .head .subtype ≡ pos n) × Long (16 + length b) (m .after) (m .content))
 body-long n held law = keeping-gives held law λ d b l it whole. (it .0, rw length-append (it .1 l whole))
 
 masked-long : (n : ℕ) (k : MaskedKind) → ((m : Mask) (h : Common) → Gives (k .program (skyOf m) h) (LongWith 37 n (mask m))) → LongAt n (masked k)
@@ -175,7 +179,7 @@ masked-long n k law nothing = body-long n nothing (under-nothing k)
 masked-long n k law (mask m) =
     body-long n (mask m)
     (under-gives k m (common-long 12) λ h a long.
-    gives-so (law m h) λ d b it. (it .0, λ l whole. simp length-append (omega (arith, long, it .1 l whole))))
+    gives-so (law m h) λ d b it. (it .0, λ l whole. simp length-append (omega (arith, long, it .1 l whole .0), omega (arith, long))))
 
 alone-at : (n : ℕ) (over : Sky → List Line) → ((m : Mask) (c : Content) → 37 + bodyWidth (over (skyOf m)) ≡ getD (lengths m c) n 0) → LongAt n (alone n over)
 unfolding alone rowsAlone headOf maskOr
@@ -185,7 +189,7 @@ alone-at n over fits =
       refl,
       λ l whole.
           let c : Content = record { head = headOf n h absent absent absent; rows = rowsOf (over (skyOf m)) l } in
-          omega (arith, fits m c, at-number (mask m) c n refl),
+          (omega (arith, fits m c, at-number (mask m) c n refl), omega arith),
     )
 
 mask-at : LongAt 1 (adopts (record { program = maskMessage; spelling = putMask }))
@@ -193,7 +197,7 @@ unfolding byKind maskOr lengths
 mask-at held =
     gives-bind mask-long λ d b it.
     let c : Content = record { head = d .head; rows = [] } in
-    gives-done {a = record { content = c; after = mask (d .made) }} (it .0, rw append-nil (omega (arith, it .1, at-number (mask (d .made)) c 1 (it .0))))
+    gives-done {a = record { content = c; after = mask (d .made) }} (it .0, rw append-nil (omega (arith, it .1, at-number (mask (d .made)) c 1 (it .0)), omega (arith, it .1)))
 
 packet-at : LongAt 10 (free (record { program = packet; spelling = putPacket }))
 unfolding byKind packet lengthOf lengths
@@ -202,7 +206,7 @@ packet-at held =
     (gives-numbered _ _ λ indicator _.
     gives-numbered _ _ λ counter _.
     gives-numbered _ _ λ size _.
-    gives-done (refl, λ l whole. simp (length-append, length-spell) (omega (arith, packet-width 1 (suc size)))))
+    gives-done (refl, λ l whole. let body = packet-width 1 (suc size) in simp (length-append, length-spell) (omega arith, omega arith)))
 
 -- rows over satellites, and over cells, by what each takes
 over-satellites : (shape : ℕ → List Column) (bits : ℕ → ℕ) → ((system : ℕ) → shapeWidth (shape system) ≡ bits system) → (m : Mask)
@@ -228,7 +232,14 @@ kinds-long =
     (then packet-at
     (then (masked-long 11 (record { program = flagged 11 combinedShape; spelling = putFlagged combinedShape }) combined-long) end)))))))))))
 
+message-lengths : (held : Held) → Gives (message held) (λ m b. Long (length b) (m .after) (m .content))
+message-lengths held =
+    gives-message table held λ n _. gives-so (in-table kinds-long other-long n held) λ m b it. simp (length-append, length-spell) (omega (arith, it .1 .0), omega (arith, it .1 .1))
+
 -- the bits taken are the sum that head and masks fix
 pub message-long : (held : Held) → Gives (message held) (λ m b. length b ≡ lengthOf (m .after) (m .content))
-message-long held =
-    gives-message table held λ n _. gives-so (in-table kinds-long other-long n held) λ m b it. simp (length-append, length-spell) (omega (arith, it .1))
+message-long held = gives-so (message-lengths held) λ m b it. it .0
+
+-- and 37 or more
+pub message-enough : (held : Held) → Gives (message held) (λ m b. 37 ≤ length b)
+message-enough held = gives-so (message-lengths held) λ m b it. it .1

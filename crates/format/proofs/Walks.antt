@@ -10,22 +10,18 @@ use lib.ListN.{length, length-append, length-drop, length-take}
 use lib.Seq.{length-take-le}
 use Rattle.bits.proofs.BitLists.{length-spell}
 use Rattle.format.specs.declared.Refusal.{Refusal}
-use Rattle.format.specs.declared.Refusal.the-variants.{SubType}
 use Rattle.format.specs.Good.{isHolding}
-use Rattle.format.specs.Masks.{Held, nothing, mask, Lent, stray, lent, heldIn, skyOf}
-use Rattle.format.specs.Messages.{common, packet, packetLines, packetShape, systems, maskMessage}
+use Rattle.format.specs.Masks.{Held, Lent, stray, lent, heldIn}
 use Rattle.format.specs.Programs.{Program, well, run}
 use Rattle.format.specs.Reading.{Outcome, accepted, idle, refused, bitsFrom, readingBy, lentAfter, rowsAfter}
-use Rattle.format.specs.Rows.{bodyWidth, shapeWidth, widthOf}
-use Rattle.format.specs.Spelling.{putPacket, putMask}
-use Rattle.format.specs.Table.{Message, Kind, MaskedKind, other, free, masked, adopts, alone, kinds, table, byKind, messageBy, message}
+use Rattle.format.specs.Table.{Message, Kind, table, byKind, messageBy, message}
 use Rattle.format.specs.Walking.{Walk, hand, goOn, walkFrom, walkOn, walk, messages}
 use Rattle.format.proofs.HeldGood.{held-good, stays-good}
+use Rattle.format.proofs.Lengths.{message-enough}
 use Rattle.format.proofs.Runs.{taken-le}
-use Rattle.format.proofs.Steps.{Gives, gives-done, gives-refuse, gives-numbered, gives-bind, gives-so, gives-itself}
+use Rattle.format.proofs.Steps.{Gives, gives-so, gives-itself}
 use Rattle.format.proofs.Stops.{reading-ends, stray-refused, Stopped, stop-holds}
-use Rattle.format.proofs.Tables as Tables
-use Rattle.format.proofs.Tables.{Each, then, in-table, gives-message, keeping-gives, under-nothing, under-gives}
+use Rattle.format.proofs.Tables.{gives-message}
 
 -- ---- what a message takes at the least
 
@@ -38,73 +34,9 @@ pub message-takes : (t : ℕ → Kind) (held : Held) (l : List Bool) (m : Messag
 message-takes t held =
     least 16 (gives-message t held λ n _. gives-so (gives-itself (byKind (t n) held)) λ m b _. simp (length-append, length-spell) (omega arith))
 
--- a common head
-common-least : (w : ℕ) → Gives (common w) (λ h b. w + 9 ≤ length b)
-unfolding common
-common-least w =
-    gives-numbered _ _ λ epoch _.
-    gives-numbered _ _ λ interval _.
-    gives-numbered _ _ λ indicator _.
-    gives-numbered _ _ λ iod _.
-    gives-done (simp (length-append, length-spell) (omega arith))
-
--- what a kind takes at the least after the number and the sub type, whatever is held
-abbrev LeastAt : ℕ → Kind → Type 0
-LeastAt n k = (held : Held) → Gives (byKind k held) (λ m b. 21 ≤ length b)
-
--- none of ours takes nothing: it is refused
-other-least : (n : ℕ) → LeastAt n other
-unfolding byKind
-other-least n held = gives-refuse SubType
-
--- under a mask: the common head
-masked-least : (n : ℕ) (k : MaskedKind) → LeastAt n (masked k)
-unfolding byKind
-masked-least n k nothing = keeping-gives {P = λ d b. ⊥} nothing (under-nothing k) λ d b l none whole. absurd none
-masked-least n k (mask m) =
-    keeping-gives {P = λ d b. 21 ≤ length b} (mask m)
-    (under-gives k m (common-least 12) λ h a long.
-    gives-so (gives-itself (k .program (skyOf m) h)) λ d b _. simp length-append (omega arith))
-    λ d b l long whole. simp length-append (omega arith)
-
--- a mask: its common head, whose epoch is longer
-mask-least : LeastAt 1 (adopts (record { program = maskMessage; spelling = putMask }))
-unfolding byKind maskMessage
-mask-least held =
-    gives-bind {Q = λ d b. 21 ≤ length b}
-    (gives-bind (common-least 20) λ h b long.
-    gives-numbered _ _ λ count _.
-    gives-bind (gives-itself (systems count [])) λ all r _.
-    gives-done (simp length-append (omega arith)))
-    λ d b long. gives-done (simp length-append (omega arith))
-
--- a row of 40 bits
-packet-least : LeastAt 10 (free (record { program = packet; spelling = putPacket }))
-unfolding byKind packet packetLines packetShape bodyWidth shapeWidth widthOf
-packet-least held =
-    keeping-gives {P = λ d b. 40 ≤ bodyWidth (d .lines)} held
-    (gives-numbered _ _ λ indicator _.
-    gives-numbered _ _ λ counter _.
-    gives-numbered _ _ λ size _.
-    gives-done (omega arith))
-    λ d b l some whole. simp length-append (omega arith)
-
--- each kind of the table
-kinds-least : Each LeastAt 0 kinds
-unfolding kinds alone
-kinds-least =
-    then (other-least 0)
-    (then mask-least
-    (then (masked-least 2 _) (then (masked-least 3 _) (then (masked-least 4 _) (then (masked-least 5 _)
-    (then (other-least 6) (then (other-least 7) (then (other-least 8) (then (other-least 9)
-    (then packet-least
-    (then (masked-least 11 _) Tables.end)))))))))))
-
 -- by ours 37 bits or more
 pub message-least : (held : Held) (l : List Bool) (m : Message) (taken : ℕ) → run (message held) l ≡ well m taken → 37 ≤ taken
-message-least held =
-    least 37
-    (gives-message table held λ n _. gives-so (in-table kinds-least other-least n held) λ m b long. simp (length-append, length-spell) (omega arith))
+message-least held = least 37 (message-enough held)
 
 -- ---- the fuel suffices
 
