@@ -4,13 +4,12 @@ use mathlib.Core.Path.{_≡_, refl}
 use mathlib.Core.Bool.{Bool, true, false, cond, not}
 use mathlib.Core.List.{List, [], _∷_, _++_, append-nil, flatMap, append-assoc}
 use Prim.Native.Nat.{ℕ, zero, suc, _+_, _*_, _^_, _≤_, _<_}
-use native.Mathlib.Decide.{decLt}
 use native.Mathlib.Omega.{arith}
 use lib.Dec.{eqb, leb, ltb}
 use lib.IntN.{ℤ, pos}
 use lib.ListN.{length, length-append}
 use lib.Seq.{append-snoc}
-use borrow.Author.Tests.{ltb-true, leb-true, le-leb, eqb-true, not-true, eq-eqb, ne-eqb}
+use borrow.Author.Tests.{ltb-true, leb-true, le-leb, eqb-true, not-true}
 use Rattle.bits.specs.BitLists.{digit, spell}
 use Rattle.bits.specs.Signed.{unsigned}
 use Rattle.format.specs.Assigned.{satellitePlaces, signalPlaces, known, assigned}
@@ -113,78 +112,68 @@ common-reads w h epoch interval indicator iod subType a b c =
 
 -- ---- a good mask has at most five systems
 
--- how many numbers below n are names of systems
-names : ℕ → List System → ℕ
-names zero l = 0
-names (suc n) l = digit (named n (idsOf l)) + names n l
+-- what one more system names
+cond-swap : (a b c : Bool) → cond a true (cond b true c) ≡ cond b true (cond a true c)
+cond-swap true true c = refl
+cond-swap true false c = refl
+cond-swap false b c = refl
+
+pub named-snoc : (id : ℕ) (l : List System) (s : System) → named id (idsOf (l ++ (s ∷ []))) ≡ cond (eqb id (s .id)) true (named id (idsOf l))
+unfolding named
+named-snoc id [] s = refl
+named-snoc id (t ∷ l) s = rw (named-snoc id l s) (cond-swap (eqb id (t .id)) (eqb id (s .id)) (named id (idsOf l)))
+
+-- of how many numbers below 5 something is true
+abbrev count : (ℕ → Bool) → ℕ
+count f = digit (f 0) + digit (f 1) + digit (f 2) + digit (f 3) + digit (f 4)
 
 digit-le : (b : Bool) → digit b ≤ 1
 digit-le true = omega arith
 digit-le false = omega arith
 
-names-le : (n : ℕ) (l : List System) → names n l ≤ n
-unfolding names
-names-le zero l = omega arith
-names-le (suc n) l = omega (arith, digit-le (named n (idsOf l)), names-le n l)
+count-le : (f : ℕ → Bool) → count f ≤ 5
+count-le f = omega (arith, digit-le (f 0), digit-le (f 1), digit-le (f 2), digit-le (f 3), digit-le (f 4))
 
-either : (b : Bool) → cond b true true ≡ true
-either true = refl
-either false = refl
+count-more : (f : ℕ → Bool) (id : ℕ) → id < 5 → f id ≡ false → count (λ k. cond (eqb k id) true (f k)) ≡ suc (count f)
+count-more f zero h new = rw new (omega arith)
+count-more f (suc zero) h new = rw new (omega arith)
+count-more f (suc (suc zero)) h new = rw new (omega arith)
+count-more f (suc (suc (suc zero))) h new = rw new (omega arith)
+count-more f (suc (suc (suc (suc zero)))) h new = rw new (omega arith)
+count-more f (suc (suc (suc (suc (suc id))))) h new = absurd (omega arith)
 
--- what one more system names
-named-self : (l : List System) (s : System) → named (s .id) (idsOf (l ++ (s ∷ []))) ≡ true
-unfolding named
-named-self [] s = rw (eq-eqb (s .id) (s .id) refl)
-named-self (t ∷ l) s = rw (named-self l s) (either (eqb (s .id) (t .id)))
+-- how many of them are names of systems
+abbrev names : List System → ℕ
+names l = count (λ id. named id (idsOf l))
 
-named-other : (id : ℕ) (l : List System) (s : System) → (id ≡ s .id → ⊥) → named id (idsOf (l ++ (s ∷ []))) ≡ named id (idsOf l)
-unfolding named
-named-other id [] s h = rw (ne-eqb id (s .id) h)
-named-other id (t ∷ l) s h = rw (named-other id l s h)
-
--- one more system is one more name below n, if its own is below n and new
-names-same : (n : ℕ) (l : List System) (s : System) → n ≤ s .id → names n (l ++ (s ∷ [])) ≡ names n l
-unfolding names
-names-same zero l s h = refl
-names-same (suc n) l s h = rw (named-other n l s (λ e. omega arith), names-same n l s (omega arith))
-
-names-more : (n : ℕ) (l : List System) (s : System) → s .id < n → named (s .id) (idsOf l) ≡ false → names n (l ++ (s ∷ [])) ≡ suc (names n l)
-unfolding names
-names-more zero l s h new = absurd (omega arith)
-names-more (suc n) l s h new = go (names-more n l s) (decLt (s .id) n)
-  where
-    go : (s .id < n → named (s .id) (idsOf l) ≡ false → names n (l ++ (s ∷ [])) ≡ suc (names n l)) → Dec (s .id < n)
-        → digit (named n (idsOf (l ++ (s ∷ [])))) + names n (l ++ (s ∷ [])) ≡ suc (digit (named n (idsOf l)) + names n l)
-    go more (yes below) = rw (named-other n l s (λ e. omega arith), more below new) (omega arith)
-    go more (no above) =
-        let same : n ≡ s .id = omega arith in
-        rw (names-same n l s (omega arith), same, named-self l s, new) (omega arith)
+names-more : (l : List System) (s : System) → s .id < 5 → named (s .id) (idsOf l) ≡ false → names (l ++ (s ∷ [])) ≡ suc (names l)
+names-more l s small new = simp named-snoc (count-more (λ id. named id (idsOf l)) (s .id) small new)
 
 -- each system that follows has a name of its own below 5
-names-after : (before ss : List System) → length before ≡ names 5 before → goodSystems before ss ≡ true → length (before ++ ss) ≡ names 5 (before ++ ss)
+names-after : (before ss : List System) → length before ≡ names before → goodSystems before ss ≡ true → length (before ++ ss) ≡ names (before ++ ss)
 unfolding goodSystems known
 names-after before [] e all = rw append-nil e
 names-after before (s ∷ ss) e all =
     let parts = and-true (goodSystem before s) _ all in
     let g = good-system before s (parts .0) in
     let small : s .id < 5 = omega (arith, leb-true (s .id) 4 (g .known-id)) in
-    let more = names-more 5 before s small (not-true _ (g .fresh)) in
+    let more = names-more before s small (not-true _ (g .fresh)) in
     rw append-snoc at (names-after (before ++ (s ∷ [])) ss (rw length-append (omega arith)) (parts .1))
 
-own-names : (m : Mask) → good (mask m) ≡ true → length (m .systems) ≡ names 5 (m .systems)
-unfolding good names named
+own-names : (m : Mask) → good (mask m) ≡ true → length (m .systems) ≡ names (m .systems)
+unfolding good named
 own-names m e = names-after [] (m .systems) refl (and-true (ltb (m .iod) 16) _ e .1)
 
 pub few-systems : (m : Mask) → good (mask m) ≡ true → length (m .systems) ≤ 5
-few-systems m e = omega (arith, own-names m e, names-le 5 (m .systems))
+few-systems m e = omega (arith, own-names m e, count-le (λ id. named id (idsOf (m .systems))))
 
 -- and where an ID is not named yet, there is room for its system
 pub room-for : (m : Mask) (id : ℕ) → good (mask m) ≡ true → known id ≡ true → named id (idsOf (m .systems)) ≡ false → length (m .systems) < 5
 unfolding known
 room-for m id e small new =
     let s : System = record { id = id; satellites = []; signals = []; flag = false; cells = [] } in
-    let more = names-more 5 (m .systems) s (omega (arith, leb-true id 4 small)) new in
-    omega (arith, own-names m e, more, names-le 5 (m .systems ++ (s ∷ [])))
+    let more = names-more (m .systems) s (omega (arith, leb-true id 4 small)) new in
+    omega (arith, own-names m e, more, count-le (λ id. named id (idsOf (m .systems ++ (s ∷ [])))))
 
 -- ---- a good mask
 

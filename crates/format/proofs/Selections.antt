@@ -1,6 +1,6 @@
 -- No two satellites of a good mask are the same, so the rows of those that were selected show the selection.
 -- Assumes nothing.
-use mathlib.Core.Path.{_≡_, refl, sym}
+use mathlib.Core.Path.{_≡_, refl, sym, _∙_}
 use mathlib.Core.Bool.{Bool, true, false, cond, false≢true, not-eq-not}
 use mathlib.Core.List.{List, [], _∷_, _++_, map, flatMap}
 use Prim.Native.Nat.{ℕ, suc, _<_}
@@ -16,7 +16,7 @@ use Rattle.format.specs.Rows.{Column, shapeWidth, rowsOf}
 use Rattle.format.specs.Same.{sameℤ, sameList}
 use Rattle.format.specs.Spelling.{marks}
 use Rattle.format.proofs.Bodies.{All, none, more, all-weaken, all-append}
-use Rattle.format.proofs.MakesBack.{good-system}
+use Rattle.format.proofs.MakesBack.{good-system, named-snoc}
 use Rattle.format.proofs.Sames.{and-true, sameℤ-sound, sameℤ-refl, sameList-sound, sameList-refl}
 
 -- ---- no two satellites of a good mask are the same
@@ -62,12 +62,9 @@ cond-false true r e = absurd (false≢true (sym e))
 cond-false false r e = (refl, e)
 
 named-before : (id : ℕ) (before : List System) (s : System) → named id (idsOf (before ++ (s ∷ []))) ≡ false → (named id (idsOf before) ≡ false) × (eqb id (s .id) ≡ false)
-unfolding named
-named-before id [] s e = (refl, cond-false (eqb id (s .id)) false e .0)
-named-before id (b ∷ before) s e =
-    let here = cond-false (eqb id (b .id)) _ e in
-    let later = named-before id before s (here .1) in
-    (rw (here .0) (later .0), later .1)
+named-before id before s e =
+    let both = cond-false (eqb id (s .id)) _ (sym (named-snoc id before s) ∙ e) in
+    (both .1, both .0)
 
 -- satellites of systems after others: none of a system named before, and no two the same
 distinct-from : (before ss : List System) → goodSystems before ss ≡ true → All (λ t. named (t .system) (idsOf before) ≡ false) (satellites ss) × Distinct (satellites ss)
