@@ -61,24 +61,14 @@ content-cond false e f = refl
 
 content-opened : (l : List Bool) (e : Ended Message) → contentOf (opened l e) ≡ opened l (contentOf e)
 unfolding opened contentOf
-content-opened l e =
-    content-short (12 - length l) (later 12 (cond (eqb (number (take 12 l)) 4073) (unlessShort (4 - length (drop 12 l)) (later 4 e)) (badly Number 0)))
-    ∙ ap (unlessShort (12 - length l))
-    (content-later 12 (cond (eqb (number (take 12 l)) 4073) (unlessShort (4 - length (drop 12 l)) (later 4 e)) (badly Number 0))
-    ∙ ap (later 12)
-    (content-cond (eqb (number (take 12 l)) 4073) (unlessShort (4 - length (drop 12 l)) (later 4 e)) (badly Number 0)
-    ∙ ap (λ (x : Ended Content). cond (eqb (number (take 12 l)) 4073) x (badly Number 0))
-    (content-short (4 - length (drop 12 l)) (later 4 e) ∙ ap (unlessShort (4 - length (drop 12 l))) (content-later 4 e))))
+content-opened l e = simp (content-short, content-later, content-cond)
 
 -- a program that leaves the holding as it is
 content-held : (p : Program Content) (held : Held) (l : List Bool) → contentOf (run (p >>= (λ c. done (record { content = c; after = held }))) l) ≡ run p l
 unfolding contentOf run _>>=_
 content-held (done c) held l = refl
 content-held (refuse r) held l = refl
-content-held (field w next) held l =
-    content-short (w - length l) (later w (run (next (take w l) >>= (λ c. done (record { content = c; after = held }))) (drop w l)))
-    ∙ ap (unlessShort (w - length l))
-    (content-later w (run (next (take w l) >>= (λ c. done (record { content = c; after = held }))) (drop w l)) ∙ ap (later w) (content-held (next (take w l)) held (drop w l)))
+content-held (field w next) held l = simp (content-short, content-later, content-held (next (take w l)) held (drop w l))
 
 packet-alone : (held : Held) (l : List Bool) → subTypeIn l ≡ 10 → contentOf (run (message held) l) ≡ opened l (run (bodied packet) (drop 4 (drop 12 l)))
 unfolding table kinds byKind keeping
