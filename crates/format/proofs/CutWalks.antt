@@ -2,76 +2,57 @@
 -- Assumes nothing.
 use mathlib.Core.Path.{_≡_, refl, sym, ap, _∙_}
 use mathlib.Core.Bool.{Bool, true, false, false≢true}
-use mathlib.Core.List.{List, [], _∷_, flatten}
-use Prim.Native.Nat.{ℕ, zero, suc, _+_, _-_, _≤_}
+use mathlib.Core.List.{List, [], _++_, flatten}
+use Prim.Native.Nat.{ℕ, _+_, _-_, _≤_}
 use native.Mathlib.Nat.{le-refl}
 use native.Mathlib.Omega.{arith}
+use lib.Dec.{leb}
 use lib.IntN.{ℤ}
-use lib.ListN.{length, take, length-append, length-drop, length-take, drop-of-length-le}
+use lib.ListN.{length, take, drop, take-append-drop, length-append, length-drop, length-take, drop-of-length-le}
 use borrow.Author.Tests.{le-leb}
-use Rattle.bits.specs.BitLists.{number, bits}
+use Rattle.bits.specs.BitLists.{spell, bits}
 use Rattle.format.specs.Assigned.{blank}
 use Rattle.format.specs.Good.{good, isHolding}
 use Rattle.format.specs.Masks.{Held, Lent, stray, lent, heldIn}
-use Rattle.format.specs.Programs.{well, badly, later, unlessShort, run}
-use Rattle.format.specs.Reading.{rowRoom, Outcome, accepted, idle, refused, endedAt, lentTests, readFrom, bitsFrom, readingBy, reading, lentAfter, over, rowsAfter}
-use Rattle.format.specs.Table.{Message, Kind, table, messageBy, message}
+use Rattle.format.specs.Programs.{well, run}
+use Rattle.format.specs.Reading.{rowRoom, Outcome, accepted, idle, refused, endedAt, lentTests, readFrom, bitsFrom, placed, readingBy, reading, lentAfter, over, rowsAfter}
+use Rattle.format.specs.Table.{Message, Kind, table, byKind, messageBy, message}
 use Rattle.format.specs.declared.Refusal.{Refusal}
-use Rattle.format.specs.declared.Refusal.the-variants.{Number}
-use Rattle.format.specs.Tests.{Test, verdict}
+use Rattle.format.specs.declared.Refusal.the-variants.{Place, Room}
+use Rattle.format.specs.Tests.{verdict}
 use Rattle.format.specs.Walking.{Walk, hand, goOn, walkOn, walk}
 use Rattle.format.proofs.HeldGood.{stays-good}
 use Rattle.format.proofs.Placed.{Inside, inside, is-placed, length-from, take-from}
-use Rattle.format.proofs.Openings.{opened, run-opened}
 use Rattle.format.proofs.Runs.{run-agree}
+use Rattle.format.proofs.Steps.{Gives, gives-so, gives-itself}
 use Rattle.format.proofs.Stops.{Stopped, stop-holds}
+use Rattle.format.proofs.Tables.{gives-message}
 use Rattle.format.proofs.Walks.{ends-inside, walk-step, stop-ends, Law, every-walk, Within, all-within}
 
--- ---- the bits of a message are not blank
-
--- the number in blank bits is 0
-blank-take : (n : ℕ) (l : List Bool) → blank l ≡ true → number (take n l) ≡ 0
-unfolding blank number
-blank-take zero l e = refl
-blank-take (suc n) [] e = refl
-blank-take (suc n) (true ∷ l) e = absurd (let z : _≡_ {A = ℕ} 0 1 = cc in omega arith)
-blank-take (suc n) (false ∷ l) e = omega (arith, blank-take n l e)
-
--- another number is no message
-unnumbered : (missing : ℕ) (m : Message) (taken : ℕ) → unlessShort missing (badly Number 0) ≡ well m taken → ⊥
-unfolding unlessShort
-unnumbered zero m taken e = let z : _≡_ {A = ℕ} 0 1 = cc in omega arith
-unnumbered (suc missing) m taken e = let z : _≡_ {A = ℕ} 0 1 = cc in omega arith
-
--- they begin with 4073
+-- the bits of a message are not blank: they begin with 4073, whose first bit is one
 message-bits : (t : ℕ → Kind) (held : Held) (l : List Bool) (m : Message) (taken : ℕ) → run (messageBy t held) l ≡ well m taken → blank l ≡ false
-unfolding opened later
-message-bits t held l m taken e = go (blank l) refl
-  where
-    go : (b : Bool) → blank l ≡ b → b ≡ false
-    go true blanks = absurd (unnumbered (12 - length l) m taken (rw (blank-take 12 l blanks) at (sym (run-opened t held l) ∙ e)))
-    go false some = refl
+unfolding blank spell
+message-bits t held l m taken e =
+    let begun : Gives (messageBy t held) (λ m b. (more : List Bool) → blank (b ++ more) ≡ false) =
+    gives-message t held λ n _. gives-so (gives-itself (byKind (t n) held)) λ m b _ more. refl in
+    rw take-append-drop at (begun .gives l m taken e (drop taken l))
 
 -- ---- in a stretch
-
--- of a verdict with a test that comes out true where it is fine
-test-held : {A : Type 0} (refusal : Refusal → A) (fine x : A) (t : Test) (ts : List Test) → ((r : Refusal) → refusal r ≡ x → ⊥)
-    → verdict refusal fine (t ∷ ts) ≡ x → (t .holds ≡ true) × (verdict refusal fine ts ≡ x)
-unfolding verdict
-test-held refusal fine x t ts never e = go (t .holds) e
-  where
-    go : (b : Bool) → elim b [ true ↦ verdict refusal fine ts | false ↦ refusal (t .else) ] ≡ x → (b ≡ true) × (verdict refusal fine ts ≡ x)
-    go true e = (refl, e)
-    go false e = absurd (never (t .else) e)
 
 -- a reading accepts in a stretch only
 accepts-placed : (t : ℕ → Kind) (holding : Lent) (bytes : List ℕ) (end start : ℕ) (rows : List ℤ) (m : Message) (next : ℕ)
     → readingBy t holding bytes end start rows ≡ accepted m next → Inside bytes end start
-unfolding readingBy lentTests
-accepts-placed t holding bytes end start rows m next e =
-    let never : (r : Refusal) → refused r 0 holding ≡ accepted m next → ⊥ = λ r f. let z : _≡_ {A = ℕ} 0 1 = cc in omega arith in
-    let roomy = test-held (λ r. refused r 0 holding) _ (accepted m next) _ _ never e in
-    inside bytes end start (test-held (λ r. refused r 0 holding) _ (accepted m next) _ _ never (roomy .1) .0)
+unfolding readingBy lentTests verdict
+accepts-placed t holding bytes end start rows m next e = inside bytes end start (go (leb rowRoom (length rows)) (placed bytes end start) _ e)
+  where
+    never : (r : Refusal) → refused r 0 holding ≡ accepted m next → ⊥
+    never r f = let z : _≡_ {A = ℕ} 0 1 = cc in omega arith
+
+    go : (room there : Bool) (o : Outcome)
+        → elim room [ true ↦ elim there [ true ↦ o | false ↦ refused Place 0 holding ] | false ↦ refused Room 0 holding ] ≡ accepted m next → there ≡ true
+    go true true o e = refl
+    go true false o e = absurd (never Place e)
+    go false there o e = absurd (never Room e)
 
 -- ---- the same reading in a shorter stretch
 
