@@ -2,7 +2,7 @@
 -- An integer is in the range of w bits where twice its magnitude (`mag`: n for n and for -(n + 1)) is below 2 ^ w.
 -- Assumes nothing.
 use mathlib.Core.Path.{_≡_, refl, ap, _∙_}
-use mathlib.Core.Bool.{true, false}
+use mathlib.Core.Bool.{true, false, false≢true}
 use Prim.Native.Nat.{ℕ, suc, _+_, _-_, _*_, _%_, _^_, _≤_, _<_}
 use native.Mathlib.Nat.{pow-suc, mod-eq-of-lt, add-mod-right}
 use native.Mathlib.Decide.{decLt}
@@ -98,4 +98,4 @@ below-zero (negsuc n) e = rw (le-ltb (suc n) 1 (omega arith)) (ap pos (omega ari
 
 pub from-zero : (z : ℤ) → ltZ z (pos 0) ≡ false → T (nonNeg z) × (natAbs z ≡ mag z)
 from-zero (pos n) e = (tt, refl)
-from-zero (negsuc n) e = absurd (let z : _≡_ {A = ℕ} 0 1 = cc in omega arith)
+from-zero (negsuc n) e = absurd (false≢true cc)

@@ -1,6 +1,6 @@
 -- When a field is whole, and by how much it is short. Assumes nothing.
 use mathlib.Core.Path.{_≡_, refl}
-use mathlib.Core.Bool.{cond}
+use mathlib.Core.Bool.{cond, false≢true}
 use mathlib.Core.List.{List, [], _∷_}
 use Prim.Native.Nat.{ℕ, zero, suc, _+_, _-_, _≤_, _<_}
 use native.Mathlib.Nat.{suc-pred-eq-of-pos}
@@ -55,14 +55,14 @@ field-whole bs end place w n e = go (w - (end - place)) refl e
   where
     go : (m : ℕ) → w - (end - place) ≡ m → unlessShort (Whole (field bs place w)) m ≡ Whole n → (w ≤ end - place) × (n ≡ field bs place w)
     go zero none e = (omega arith, cc)
-    go (suc m) some e = absurd (let z : _≡_ {A = ℕ} 0 1 = cc in omega arith)
+    go (suc m) some e = absurd (false≢true cc)
 
 pub field-short : (bs : List ℕ) (end place w m : ℕ) → takenAt bs end place w ≡ Short m → (end - place < w) × (m ≡ w - (end - place))
 unfolding takenAt missing unlessShort
 field-short bs end place w m e = go (w - (end - place)) refl e
   where
     go : (n : ℕ) → w - (end - place) ≡ n → unlessShort (Whole (field bs place w)) n ≡ Short m → (end - place < w) × (m ≡ w - (end - place))
-    go zero none e = absurd (let z : _≡_ {A = ℕ} 0 1 = cc in omega arith)
+    go zero none e = absurd (false≢true cc)
     go (suc n) some e =
         let same : suc n ≡ m = cc in
         (omega arith, omega arith)

@@ -46,7 +46,7 @@ unfolding readingBy lentTests verdict
 accepts-placed t holding bytes end start rows m next e = inside bytes end start (go (leb rowRoom (length rows)) (placed bytes end start) _ e)
   where
     never : (r : Refusal) → refused r 0 holding ≡ accepted m next → ⊥
-    never r f = let z : _≡_ {A = ℕ} 0 1 = cc in omega arith
+    never r f = false≢true cc
 
     go : (room there : Bool) (o : Outcome)
         → elim room [ true ↦ elim there [ true ↦ o | false ↦ refused Place 0 holding ] | false ↦ refused Room 0 holding ] ≡ accepted m next → there ≡ true

@@ -1,7 +1,7 @@
 -- Laws of programs of fields: what a run of one after the other is, that a run takes bits that are there, and that it does not look at bits past those.
 -- Assumes nothing.
 use mathlib.Core.Path.{_≡_, refl, sym, ap, _∙_}
-use mathlib.Core.Bool.{Bool, true, false}
+use mathlib.Core.Bool.{Bool, true, false, false≢true}
 use mathlib.Core.List.{List, _++_}
 use Prim.Native.Nat.{ℕ, _+_, _-_, _≤_, _<_}
 use native.Mathlib.Nat.{zero-add, add-assoc, le-refl, suc-pred-eq-of-pos}
@@ -47,7 +47,7 @@ later-later v w (badly r missing) = refl
 later-well : {A : Type 0} (w : ℕ) (e : Ended A) (a : A) (taken : ℕ) → later w e ≡ well a taken → (rest : ℕ) × (e ≡ well a rest) × (taken ≡ w + rest)
 unfolding later
 later-well w (well b rest) a taken e = (rest, cc, cc)
-later-well w (badly r missing) a taken e = absurd (let z : _≡_ {A = ℕ} 0 1 = cc in omega arith)
+later-well w (badly r missing) a taken e = absurd (false≢true cc)
 
 pub badly-later : {A : Type 0} (w : ℕ) (r : Refusal) (missing : ℕ) → later {A = A} w (badly r missing) ≡ badly r missing
 unfolding later
@@ -55,11 +55,11 @@ badly-later w r missing = refl
 
 later-badly : {A : Type 0} (w : ℕ) (e : Ended A) (r : Refusal) (missing : ℕ) → later w e ≡ badly r missing → e ≡ badly r missing
 unfolding later
-later-badly w (well b rest) r missing e = absurd (let z : _≡_ {A = ℕ} 0 1 = cc in omega arith)
+later-badly w (well b rest) r missing e = absurd (false≢true cc)
 later-badly w (badly q rest) r missing e = e
 
 pub not-well : {A : Type 0} (r : Refusal) (missing : ℕ) (a : A) (taken : ℕ) → badly r missing ≡ well a taken → ⊥
-not-well r missing a taken e = let z : _≡_ {A = ℕ} 0 1 = cc in omega arith
+not-well r missing a taken e = false≢true cc
 
 -- ---- a run that ended well
 

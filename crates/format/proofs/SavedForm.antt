@@ -1,7 +1,7 @@
 -- The saved form: a good holding's line loads to it, and a line loads only to the holding whose line it is.
 -- Assumes nothing.
 use mathlib.Core.Path.{_≡_, refl, sym, ap, ap₂, _∙_}
-use mathlib.Core.Bool.{Bool, true, false, cond, _&&_, and-eq-true-iff}
+use mathlib.Core.Bool.{Bool, true, false, cond, _&&_, and-eq-true-iff, false≢true}
 use mathlib.Core.List.{List, [], _∷_, _++_, flatMap, append-assoc, append-nil}
 use Prim.Native.Nat.{ℕ, _+_, _/_, _%_, _≤_, _<_}
 use native.Mathlib.Omega.{arith}
@@ -213,7 +213,7 @@ loaded-same : (g h : Held) → loaded g ≡ loaded h → g ≡ h
 loaded-same g h e = cc
 
 never-unloaded : (held : Held) → unloaded ≡ loaded held → ⊥
-never-unloaded held e = let z : _≡_ {A = ℕ} 0 1 = cc in omega arith
+never-unloaded held e = false≢true cc
 
 -- a line loads only to the good holding whose line it is
 pub line-load : (line : List ℕ) (held : Held) → load line ≡ loaded held → (lineOf held ≡ line) × (good held ≡ true)

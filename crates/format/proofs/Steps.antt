@@ -1,7 +1,7 @@
 -- Programs taken apart step by step: what holds of whatever a program makes and of the bits that it took, and which bits a program reads whole.
 -- Assumes nothing.
 use mathlib.Core.Path.{_≡_, refl, sym, ap, subst, _∙_}
-use mathlib.Core.Bool.{Bool, true}
+use mathlib.Core.Bool.{Bool, true, false≢true}
 use mathlib.Core.List.{List, [], _++_, append-nil}
 use Prim.Native.Nat.{ℕ, _+_, _^_, _≤_, _<_}
 use native.Mathlib.Nat.{mod-eq-of-lt}
@@ -45,7 +45,7 @@ module _ {A : Type 0} {P : A → List Bool → Type 0} where
 
   pub gives-refuse : (r : Refusal) → Gives (refuse r) P
   unfolding run
-  gives-refuse r = record { gives = λ l a taken e. absurd (let z : _≡_ {A = ℕ} 0 1 = cc in omega arith) }
+  gives-refuse r = record { gives = λ l a taken e. absurd (false≢true cc) }
 
   pub gives-require : (test : Bool) (r : Refusal) (p : Program A) → (test ≡ true → Gives p P) → Gives (require test r >> p) P
   gives-require test r p h = record {

@@ -1,12 +1,11 @@
 -- One message read by two receivers, each by a table of its own, of which the second's may refuse more: the second says the same, or is refused for its mask,
 -- or with what its table refuses more. Assumes nothing.
 use mathlib.Core.Path.{_≡_, refl, sym, _∙_}
-use mathlib.Core.Bool.{Bool, true, false, cond}
+use mathlib.Core.Bool.{Bool, true, false, cond, false≢true}
 use mathlib.Core.List.{List}
 use mathlib.Core.Logic.{_⊎_, inl, inr, ⊎-elim}
 use Prim.Native.Nat.{ℕ, _-_}
 use native.Mathlib.Decide.{ℕ-discrete}
-use native.Mathlib.Omega.{arith}
 use lib.Dec.{eqb}
 use lib.ListN.{length, take, drop}
 use borrow.Author.Tests.{ne-eqb, eq-eqb}
@@ -85,7 +84,7 @@ module _ {More : Refusal → Type 0} where
   unfolding gate require _>>_ _>>=_ bodied
   gate-follows nothing s near k iod p q weak = first-refuses
   gate-follows (mask m) nothing near k iod p q weak =
-      second-refuses (inl (no-mask, ⊎-elim (λ e. let z : _≡_ {A = ℕ} 0 1 = cc in omega arith) (λ made. made)))
+      second-refuses (inl (no-mask, ⊎-elim (λ e. false≢true cc) (λ made. made)))
   gate-follows (mask m) (mask n) near k iod p q weak = go (ℕ-discrete iod (m .iod)) (ℕ-discrete iod (n .iod))
     where
       go : Dec (iod ≡ m .iod) → Dec (iod ≡ n .iod)
