@@ -7,8 +7,8 @@ use lib.Count.{ones}
 use lib.Dec.{leb}
 use lib.ListN.{length}
 use borrow.Author.Tests.{leb-true, not-true}
-use Rattle.adoption.proofs.Ends.{done-end, test-end, number-whole, bits-whole, fits}
-use Rattle.adoption.specs.Ends.{Within, endFrom}
+use Rattle.format.proofs.Ends.{done-end, test-end, number-whole, bits-whole, fits}
+use Rattle.format.specs.Ends.{Within, endFrom}
 use Rattle.adoption.specs.Stages.{signalsAfter}
 use Rattle.bits.specs.BitLists.{spell}
 use Rattle.bits.specs.declared.read.Taken.the-variants.{Whole}

@@ -3,7 +3,7 @@
 ghost use mathlib.Core.Path.{_≡_};
 ghost use Prim.Native.Nat.{_<_};
 ghost use Rattle.adoption.specs.Adoptions.{maskIn, grownBy};
-ghost use Rattle.adoption.specs.Ends.{Within, endFrom};
+ghost use Rattle.format.specs.Ends.{Within, endFrom};
 ghost use Rattle.adoption.specs.Growing.{HasRoom, settled};
 ghost use Rattle.adoption.specs.Stages.{masksBy, cellsBy};
 ghost use Rattle.format.specs.Messages.{systemCells};

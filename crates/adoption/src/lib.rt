@@ -9,7 +9,7 @@ ghost use mathlib.Core.Path.{_≡_};
 ghost use Prim.Native.Nat.{_*_, _≤_};
 ghost use lib.ListN.{length};
 ghost use Rattle.adoption.specs.Adoptions.{adoptionAt, adoptionBy};
-ghost use Rattle.adoption.specs.Ends.{Within, endFrom};
+ghost use Rattle.format.specs.Ends.{Within, endFrom};
 ghost use Rattle.adoption.specs.Stages.{afterCommonHead};
 ghost use Rattle.format.specs.Messages.{common, maskMessage};
 ghost use Rattle.format.specs.Programs.{run};

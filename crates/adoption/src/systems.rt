@@ -1,7 +1,7 @@
 // The systems of a mask message, one after the other.
 ghost use mathlib.Core.Path.{_≡_};
 ghost use Rattle.adoption.specs.Adoptions.{adoptionBy, maskIn, grownBy};
-ghost use Rattle.adoption.specs.Ends.{Within, endFrom};
+ghost use Rattle.format.specs.Ends.{Within, endFrom};
 ghost use Rattle.adoption.specs.Growing.{HasMask};
 ghost use Rattle.adoption.specs.Stages.{withSystems};
 ghost use Rattle.format.specs.Messages.{system};

@@ -3,9 +3,9 @@ use mathlib.Core.Path.{_≡_, refl, sym, ap, _∙_}
 use Prim.Native.Nat.{ℕ}
 use native.Mathlib.Omega.{arith}
 use borrow.Author.Needs.{needs}
-use Rattle.adoption.proofs.Ends.{onward, then-well, then-badly}
+use Rattle.format.proofs.Ends.{onward, then-well, then-badly}
 use Rattle.adoption.specs.Adoptions.{adoptionAt, adoptionBy}
-use Rattle.adoption.specs.Ends.{Within, endFrom}
+use Rattle.format.specs.Ends.{Within, endFrom}
 use Rattle.adoption.specs.Stages.{withSystems, afterCommonHead}
 use Rattle.format.specs.Messages.{Adopted, common, maskMessage}
 use Rattle.format.specs.Programs.{Ended, well, badly, later}

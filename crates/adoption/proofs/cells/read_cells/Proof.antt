@@ -7,10 +7,10 @@ use borrow.Author.Needs.{needs}
 use lib.ListN.{replicate}
 use Rattle.adoption.proofs.Adding.{strips-count}
 use Rattle.adoption.proofs.CellsMade.{plain-made}
-use Rattle.adoption.proofs.Ends.{after-field, fits, number-whole, number-short}
+use Rattle.format.proofs.Ends.{after-field, fits, number-whole, number-short}
 use Rattle.adoption.proofs.Holds.{holds, refused-held}
 use Rattle.adoption.specs.Adoptions.{maskIn, grownBy}
-use Rattle.adoption.specs.Ends.{Within, endFrom}
+use Rattle.format.specs.Ends.{Within, endFrom}
 use Rattle.adoption.specs.Growing.{settled}
 use Rattle.adoption.specs.Stages.{masksBy, tested, cellsBy}
 use Rattle.bits.specs.declared.read.Taken.the-variants.{Whole}

@@ -5,11 +5,11 @@ use Prim.Native.Nat.{ℕ, _<_}
 use native.Mathlib.Omega.{arith}
 use borrow.Author.Needs.{needs}
 use borrow.Author.Tests.{leb-true}
-use Rattle.adoption.proofs.Ends.{ended-at, gave, then-well, then-badly}
+use Rattle.format.proofs.Ends.{ended-at, gave, then-well, then-badly}
 use Rattle.adoption.proofs.Holds.{holds, systems-count, ids-named, refused-held}
 use Rattle.adoption.proofs.StageEnds.{id-gives, masks-give}
 use Rattle.adoption.specs.Adoptions.{maskIn, grownBy}
-use Rattle.adoption.specs.Ends.{Within, endFrom}
+use Rattle.format.specs.Ends.{Within, endFrom}
 use Rattle.adoption.specs.Growing.{HasRoom}
 use Rattle.adoption.specs.Stages.{endNamed, masksBy, endMasked, FitsMasked}
 use Rattle.format.specs.Assigned.{known}
