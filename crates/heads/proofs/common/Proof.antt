@@ -1,7 +1,5 @@
 -- `heads::common` meets its contract. Assumes nothing.
-use mathlib.Core.Path.{_≡_, _∙_, sym}
-use Prim.Native.Nat.{_-_, _<_}
-use native.Mathlib.Omega.{arith}
+use mathlib.Core.Path.{_∙_, sym}
 use borrow.Author.Needs.{needs}
 use Rattle.bits.specs.Short.{bitsOf, widthsOf}
 use Rattle.bits.proofs.Short.{field-short}
@@ -10,9 +8,7 @@ use Rattle.heads.proofs.common.Statement.{statement}
 use Rattle.heads.proofs.common.Tie as tie
 
 returns : tie.Need-returns
-returns c =
-    let took = c .before .before .before .before in
-    taken-whole (took .before .before .pre) 12 (sym (took .take-field .ensures) ∙ c .before .before .taken .given .1) (c .parted .ensures)
+returns c = let took = c .before .before .before .before in taken-whole (took .before .before .pre) 12 (sym (took .take-field .ensures) ∙ c .before .before .taken .given .1) (c .parted .ensures)
 
 short-by-requires : tie.Need-short-by-requires
 unfolding bitsOf widthsOf
@@ -20,9 +16,7 @@ short-by-requires c κs = field-short _ _ _ 21 _ (sym (c .before .before .take-f
 
 returns-2 : tie.Need-returns-2
 unfolding widthsOf
-returns-2 c =
-    let took = c .before .before .before in
-    taken-short (took .before .before .pre) 12 (sym (took .take-field .ensures) ∙ c .before .enum-told .given .1) (c .short-by .ensures)
+returns-2 c = let took = c .before .before .before in taken-short (took .before .before .pre) 12 (sym (took .take-field .ensures) ∙ c .before .enum-told .given .1) (c .short-by .ensures)
 
 pub common-spec : {M : Type 1} → statement M
 common-spec =
