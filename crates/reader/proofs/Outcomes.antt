@@ -11,6 +11,7 @@ use borrow.Author.Tests.{leb-true}
 use denote.Enum.Declared.{tagOf}
 use Rattle.format.specs.declared.Refusal.{Refusal}
 use Rattle.format.specs.declared.Refusal.the-variants.{Room, Place, Value}
+use Rattle.format.specs.Ends.{Within}
 use Rattle.format.specs.Good.{isHolding}
 use Rattle.format.specs.Masks.{Lent, heldIn}
 use Rattle.format.specs.Reading.{rowRoom, Outcome, refused, bitsFrom, readFrom, placed, lentTests, readingBy}
@@ -30,6 +31,9 @@ pub record Inside (bs : List ℕ) (end start : ℕ) : Type 0 where
   pub limit : end ≤ 50850
   pub lent : end ≤ 8 * length bs
   pub there : start ≤ end
+
+pub within : {bs : List ℕ} {end start : ℕ} → Inside bs end start → Within bs end start
+within i = record { inside = i .lent; short = omega (arith, i .limit); room = i .there }
 
 pub inside : (bs : List ℕ) (end start : ℕ) → placed bs end start ≡ true → Inside bs end start
 unfolding placed

@@ -17,7 +17,7 @@ use Rattle.reader.specs.declared.Verdict.the-variants.{Good, Refused}
 use Rattle.reader.specs.Readings.{lentBy, outcomeAt, testsOf, testedBy, readAt, foundAt, soughtBy, soughtAt}
 use Rattle.reader.proofs.Findings.{FoundMask, FoundAnswer, found-mask, found-answer}
 use Rattle.reader.proofs.Lents.{sound-lent}
-use Rattle.reader.proofs.Outcomes.{Fine, tested-outcome, outcome-tested, all-good, begun}
+use Rattle.reader.proofs.Outcomes.{within, Fine, tested-outcome, outcome-tested, all-good, begun}
 use Rattle.reader.proofs.message.Found.{the-type}
 
 module _ (h : Holding) (bs : List ℕ) (end start : ℕ) (rows : List ℤ) where
@@ -43,7 +43,7 @@ module _ (h : Holding) (bs : List ℕ) (end start : ℕ) (rows : List ℤ) where
   pub record SoughtMask : Type 0 where
     pub fine : Fine h bs end start (length rows)
     pub reads : outcomeAt h bs end start rows ≡ readAt h bs end start
-    pub found : FoundMask h (fine .held) bs end (fine .inside .lent) start (fine .inside .there)
+    pub found : FoundMask h (fine .held) (within (fine .inside))
 
   pub record SoughtAnswer (a : Answer) : Type 0 where
     pub says : a ≡ answerOf (outcomeAt h bs end start rows)
@@ -56,7 +56,7 @@ module _ (h : Holding) (bs : List ℕ) (end start : ℕ) (rows : List ℤ) where
       go : (v : Verdict) → verdict ≡ v → tagOf the-type (soughtBy v (foundAt h bs end start)) ≡ 0 → SoughtMask
       go Good e tag =
           let fine = good-lent e in
-          record { fine = fine; reads = good-reads e; found = found-mask h (fine .held) bs end (fine .inside .lent) start (fine .inside .there) tag }
+          record { fine = fine; reads = good-reads e; found = found-mask h (fine .held) (within (fine .inside)) tag }
       go (Refused r) e tag = absurd (omega arith)
 
   pub sought-answer : (a : Answer) → soughtAt h bs end start (length rows) ≡ Answered a → SoughtAnswer a
@@ -66,7 +66,7 @@ module _ (h : Holding) (bs : List ℕ) (end start : ℕ) (rows : List ℤ) where
       go : (v : Verdict) → verdict ≡ v → soughtBy v (foundAt h bs end start) ≡ Answered a → SoughtAnswer a
       go Good e said =
           let fine = good-lent e in
-          let it = found-answer h (fine .held) bs end (fine .inside .lent) start (fine .inside .there) a said in
+          let it = found-answer h (fine .held) (within (fine .inside)) a said in
           record { says = it .says ∙ sym (ap answerOf (good-reads e)); keeps = ap lentAfter (good-reads e) ∙ it .keeps ∙ sym (sound-lent h (fine .held)) }
       go (Refused r) e said =
           let it = refused-lent r e in
