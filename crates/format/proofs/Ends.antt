@@ -19,8 +19,7 @@ use Rattle.format.proofs.Runs.{later-later, run-bind, run-bind-badly, t
 use Rattle.format.proofs.Steps.{Gives}
 use Rattle.format.specs.declared.Refusal.{Refusal}
 use Rattle.format.specs.declared.Refusal.the-variants.{Short}
-use Rattle.format.specs.Programs as Programs
-use Rattle.format.specs.Programs.{Program, done, refuse, _>>=_, _>>_, taking, numbered, require, Ended, well, badly, later, run}
+use Rattle.format.specs.Programs.{Program, done, _>>=_, _>>_, taking, numbered, require, Ended, well, badly, later, run}
 use Rattle.format.specs.Reading.{bitsFrom}
 
 -- ---- a program's end, a test, three programs one after the other

@@ -1,29 +1,24 @@
 -- Reading a message by its sub type is crate format's reading: its opening, then its heading and body, or a mask. Assumes nothing.
-use mathlib.Core.Path.{_≡_, refl, sym, ap, _∙_}
+use mathlib.Core.Path.{_≡_, refl, ap, _∙_}
 use mathlib.Core.Bool.{Bool, true, false}
 use mathlib.Core.List.{List, []}
-use Prim.Native.Nat.{ℕ, zero, suc, _+_, _-_, _*_, _≤_, _<_}
-use native.Mathlib.Nat.{add-zero, add-assoc}
-use native.Mathlib.Decide.{decLt}
-use native.Mathlib.Omega.{arith}
+use Prim.Native.Nat.{ℕ, zero, suc, _+_, _-_}
+use native.Mathlib.Nat.{add-zero}
 use lib.Dec.{eqb}
 use lib.IntN.{ℤ}
-use lib.ListN.{length, take, drop}
-use Rattle.format.specs.declared.Refusal.{Refusal}
-use Rattle.format.specs.declared.Refusal.the-variants.{Short, SubType, OtherIssue}
+use lib.ListN.{take}
+use Rattle.format.specs.declared.Refusal.the-variants.{OtherIssue}
 use Rattle.format.specs.Ends.{Within, endFrom}
 use Rattle.format.specs.Masks.{Held, nothing, mask, lent, Sky, skyOf}
 use Rattle.format.specs.Messages as Messages
-use Rattle.format.specs.Messages.{Content, Common, common, bodied, body, maskMessage}
-use Rattle.format.specs.Programs.{Program, done, field, _>>=_, _>>_, require, Ended, well, badly, later, unlessShort, run}
+use Rattle.format.specs.Messages.{Common, common, bodied, body, maskMessage}
+use Rattle.format.specs.Programs.{Program, done, _>>=_, _>>_, require, Ended, well, badly, later, unlessShort, run}
 use Rattle.format.specs.Reading.{Outcome, accepted, refused, endedAt, bitsFrom}
 use Rattle.format.specs.Rows.{bodyWidth, rowsOf}
-use Rattle.format.specs.Table as Table
-use Rattle.format.specs.Table.{Message, MaskedKind, gate, underMask, keeping, byKind}
+use Rattle.format.specs.Table.{Message, gate, underMask, keeping, byKind}
 use Rattle.format.proofs.Ends.{by-end, then-well, then-badly}
 use Rattle.format.proofs.Placed.{length-from}
 use Rattle.format.proofs.Runs.{run-bind, run-bind-badly, bind-assoc}
-use Rattle.heads.specs.declared.heading.Seen.{Seen}
 use Rattle.heads.specs.Headings.{gateBy, gatedBy, underBy}
 use Rattle.heads.specs.Sorting.{headingFor, underWith, bodiedBy, headedAt, adoptedBy, seenOf, skyHeld}
 use Rattle.holding.specs.Held.{isHeld, issueOf, satellitesHeld, cellsHeld}
@@ -66,7 +61,7 @@ module _ {bs : List ℕ} {end place : ℕ} (at : Within bs end place) (held : He
   unfolding keeping bodied body _>>=_
   keeping-parts p = bind-assoc p _ _
 
-  pub keeping-ended : (p : Program Messages.Heading) → endedAt held place (run (keeping held p) (bitsFrom bs end place)) ≡ headedAt held bs end (endFrom p bs end place)
+  keeping-ended : (p : Program Messages.Heading) → endedAt held place (run (keeping held p) (bitsFrom bs end place)) ≡ headedAt held bs end (endFrom p bs end place)
   unfolding endFrom headedAt endedBy
   keeping-ended p =
       rw (keeping-parts p) (ended-from held place _)

@@ -1,7 +1,6 @@
 // What a message says before its body: its head, the keys and the shape of its rows and where the body begins; with
 // every refusal on the way there (document 01, "Reader's order").
 ghost use mathlib.Core.Path.{_≡_};
-ghost use mathlib.Core.Bool.{true};
 ghost use Prim.Native.Nat.{_^_, _≤_, _<_};
 ghost use Rattle.format.specs.Ends.{Within, endFrom};
 ghost use Rattle.format.specs.Messages as Messages;

@@ -1,19 +1,19 @@
 -- A message has at most 256 rows. Assumes nothing.
 use mathlib.Core.Path.{_≡_, refl, sym, ap, _∙_, subst}
 use mathlib.Core.Bool.{Bool, true, false, cond}
-use mathlib.Core.List.{List, [], _∷_, _++_}
+use mathlib.Core.List.{List, [], _∷_}
 use mathlib.Core.Logic.{_⊎_, inl, inr}
-use Prim.Native.Nat.{ℕ, zero, suc, _+_, _-_, _*_, _^_, _≤_, _<_}
+use Prim.Native.Nat.{ℕ, zero, suc, _+_, _-_, _≤_}
 use native.Mathlib.Omega.{arith}
 use lib.Dec.{eqb}
 use lib.ListN.{length, length-map}
 use Rattle.bits.specs.Places.{field}
 use Rattle.format.specs.declared.Refusal.{Refusal}
 use Rattle.format.specs.Ends.{Within, endFrom}
-use Rattle.format.specs.Masks.{Held, Sky, Satellite, pick, lent}
+use Rattle.format.specs.Masks.{Held, Sky, pick, lent}
 use Rattle.format.specs.Messages as Messages
-use Rattle.format.specs.Messages.{Heading, Common, common, Selected, selection, satelliteLines, cellLines, packetLines, packet, overSatellites, overCells, rowsAlone, flagged}
-use Rattle.format.specs.Programs.{Program, done, refuse, _>>=_, _>>_, require, Ended, well, badly}
+use Rattle.format.specs.Messages.{Heading, Common, common, selection, satelliteLines, cellLines, packetLines, packet, overSatellites, overCells, rowsAlone, flagged}
+use Rattle.format.specs.Programs.{Program, _>>=_, _>>_, Ended, well, badly}
 use Rattle.format.specs.Reading.{Outcome, accepted, idle, refused}
 use Rattle.format.specs.Table.{Message, opening}
 use Rattle.format.proofs.Bodies.{rows-count}
@@ -22,9 +22,9 @@ use Rattle.format.proofs.Steps.{Gives, gives-done, gives-refuse, gives-require,
 use Rattle.heads.specs.declared.heading.Seen.{Seen}
 use Rattle.heads.proofs.Opened.{opened, read-unopened}
 use Rattle.heads.specs.Headings.{gateBy, gatedBy, underBy}
-use Rattle.heads.specs.Sorting.{OfTable, headingFor, underWith, bodiedBy, headedAt, adoptedBy}
+use Rattle.heads.specs.Sorting.{headingFor, bodiedBy, headedAt, adoptedBy}
 use Rattle.holding.specs.declared.Holding.{Holding}
-use Rattle.holding.specs.Held.{skyIn, viewOf, satellitesHeld, cellsHeld}
+use Rattle.holding.specs.Held.{skyIn, viewOf}
 use Rattle.holding.specs.Pictures.{maskOf, sound}
 use Rattle.holding.proofs.Sounds.{sounds, few-held}
 use Rattle.reader.specs.Readings.{readAt}

@@ -1,8 +1,8 @@
 -- What is found at a place of a stretch, all that is lent being good. Assumes nothing.
-use mathlib.Core.Path.{_≡_, refl, sym, ap, _∙_, subst}
+use mathlib.Core.Path.{_≡_, refl, sym, ap, _∙_}
 use mathlib.Core.Bool.{Bool, true, false, cond}
 use mathlib.Core.List.{List, [], flatten}
-use Prim.Native.Nat.{ℕ, zero, suc, _+_, _-_, _*_, _≤_}
+use Prim.Native.Nat.{ℕ, zero, suc, _+_, _-_, _≤_}
 use native.Mathlib.Omega.{arith}
 use lib.Dec.{eqb}
 use lib.IntN.{ℤ}
@@ -15,31 +15,28 @@ use Rattle.format.specs.declared.Refusal.{Refusal}
 use Rattle.format.specs.Ends.{Within, endFrom}
 use Rattle.format.specs.Masks.{Held, lent}
 use Rattle.format.specs.Messages as Messages
-use Rattle.format.specs.Programs.{Program, Ended, well, badly, later, run}
-use Rattle.format.specs.Reading.{Outcome, accepted, idle, refused, bitsFrom, readFrom, lentAfter, over, rowsAfter, answerOf}
-use Rattle.format.specs.Rows.{bodyWidth}
-use Rattle.format.specs.Table.{Message, table, opening}
+use Rattle.format.specs.Programs.{Program, Ended, well, badly, run}
+use Rattle.format.specs.Reading.{Outcome, idle, refused, bitsFrom, lentAfter, over, rowsAfter, answerOf}
+use Rattle.format.specs.Table.{Message, opening}
 use Rattle.format.proofs.Ends.{by-end, ended-at}
 use Rattle.heads.specs.declared.heading.Heading.{Heading}
-use Rattle.heads.specs.declared.Opening.{Opening}
 use Rattle.heads.specs.declared.Opening.the-variants.{SubType}
 use Rattle.heads.specs.declared.Opening.the-variants as Openings
 use Rattle.heads.specs.Heads.{openingBy}
-use Rattle.heads.specs.Headings.{Shows, saidBy}
-use Rattle.heads.specs.Sorting.{skyHeld, seenOf, headingFor, bodiedBy, headedAt, adoptedBy}
+use Rattle.heads.specs.Headings.{Shows}
+use Rattle.heads.specs.Sorting.{skyHeld, headingFor, bodiedBy, headedAt, adoptedBy}
 use Rattle.heads.proofs.Opened.{opened, read-opened, read-unopened}
 use Rattle.heads.proofs.Sorted.{kind-ended, adopted-ended}
 use Rattle.holding.specs.declared.Holding.{Holding}
-use Rattle.holding.specs.Held.{skyIn, viewOf, slotsOf, stripCells}
+use Rattle.holding.specs.Held.{skyIn, viewOf}
 use Rattle.holding.specs.Pictures.{maskOf, sound}
 use Rattle.holding.proofs.Sounds.{sounds}
-use Rattle.reader.specs.declared.message.Found.{Found}
 use Rattle.reader.specs.declared.message.Found.the-variants.{Mask, Answered}
 use Rattle.reader.specs.Readings.{readAt, sortedAt, unopenedAt, foundAs, foundBy, foundAt, Begins}
 use Rattle.reader.proofs.message.Found.{the-type}
 use Rattle.table.specs.declared.Kind.{Kind}
 use Rattle.table.specs.declared.Kind.the-variants as Kinds
-use Rattle.table.specs.Kinds.{kindFor, kindBy}
+use Rattle.table.specs.Kinds.{kindFor}
 
 -- ---- how the opening ran, by what it answered
 

@@ -1,7 +1,7 @@
 -- What is found at a place, by the tests of what is lent. Assumes nothing.
 use mathlib.Core.Path.{_≡_, refl, sym, ap, _∙_}
 use mathlib.Core.List.{List}
-use Prim.Native.Nat.{ℕ, _+_}
+use Prim.Native.Nat.{ℕ}
 use lib.IntN.{ℤ}
 use lib.ListN.{length}
 use native.Mathlib.Omega.{arith}
@@ -11,11 +11,11 @@ use Rattle.format.specs.declared.Answer.the-variants as Answers
 use Rattle.format.specs.declared.Refusal.{Refusal}
 use Rattle.format.specs.Reading.{lentAfter, rowsAfter, answerOf}
 use Rattle.holding.specs.declared.Holding.{Holding}
-use Rattle.reader.specs.declared.message.Found.the-variants.{Mask, Answered}
+use Rattle.reader.specs.declared.message.Found.the-variants.{Answered}
 use Rattle.reader.specs.declared.Verdict.{Verdict}
 use Rattle.reader.specs.declared.Verdict.the-variants.{Good, Refused}
 use Rattle.reader.specs.Readings.{lentBy, outcomeAt, testsOf, testedBy, readAt, foundAt, soughtBy, soughtAt}
-use Rattle.reader.proofs.Findings.{FoundMask, FoundAnswer, found-mask, found-answer}
+use Rattle.reader.proofs.Findings.{FoundMask, found-mask, found-answer}
 use Rattle.reader.proofs.Lents.{sound-lent}
 use Rattle.reader.proofs.Outcomes.{within, Fine, tested-outcome, outcome-tested, all-good, begun}
 use Rattle.reader.proofs.message.Found.{the-type}

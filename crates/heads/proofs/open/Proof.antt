@@ -1,5 +1,4 @@
 -- `heads::open` meets its contract: each return is one of the ways in which the opening ends. Assumes nothing.
-use mathlib.Core.Path.{_≡_, _∙_, sym}
 use Prim.Native.Nat.{_/_}
 use native.Mathlib.Omega.{arith}
 use borrow.Author.Needs.{needs}

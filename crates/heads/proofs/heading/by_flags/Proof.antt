@@ -1,21 +1,16 @@
 -- `heads::heading::by_flags` meets its contract. Assumes nothing.
-use mathlib.Core.Path.{_≡_, _∙_, sym, ap, refl}
-use mathlib.Core.Bool.{Bool}
-use mathlib.Core.List.{List}
-use Prim.Native.Nat.{ℕ, zero, suc, _+_, _-_, _*_, _/_, _%_, _≤_, _<_}
-use native.Mathlib.Nat.{add-zero}
+use mathlib.Core.Path.{_≡_, ap, refl}
+use Prim.Native.Nat.{ℕ, zero, suc, _+_, _/_, _%_, _<_}
 use native.Mathlib.Omega.{arith}
 use borrow.Author.Needs.{needs}
-use borrow.Author.Tests.{eq-eqb, ne-eqb}
 use lib.Dec.{eqb}
-use lib.IntN.{ℤ, pos}
+use lib.IntN.{pos}
 use mir.Facts.{toZ-pos}
 use mir.Syntax.{w32}
 use Rattle.bits.specs.BitLists.{digit}
 use Rattle.format.specs.declared.Head.{Head}
-use Rattle.format.specs.Messages as Messages
 use Rattle.format.specs.Messages.{selection, satelliteLines, headOf}
-use Rattle.format.specs.Masks.{Sky, Satellite}
+use Rattle.format.specs.Masks.{Sky}
 use Rattle.format.specs.Programs.{done, _>>=_}
 use Rattle.format.proofs.Ends.{done-end}
 use Rattle.holding.specs.Held.{skyIn}

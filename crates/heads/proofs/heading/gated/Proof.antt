@@ -1,12 +1,10 @@
 -- `heads::heading::gated` meets its contract. Assumes nothing.
-use mathlib.Core.Path.{_≡_, _∙_, sym, ap, refl}
+use mathlib.Core.Path.{_≡_, ap, refl}
 use mathlib.Core.Bool.{Bool, true, false, cond}
-use mathlib.Core.List.{List}
 use Prim.Native.Nat.{ℕ, _≤_, _<_}
 use native.Mathlib.Omega.{arith}
 use borrow.Author.Needs.{needs}
 use borrow.Author.Tests.{eq-eqb, ne-eqb, not-true, not-false}
-use lib.Dec.{eqb}
 use Rattle.format.specs.declared.Refusal.the-variants.{NoMask, OtherIssue}
 use Rattle.format.specs.Masks.{Sky}
 use Rattle.format.specs.Messages as Messages
@@ -14,7 +12,6 @@ use Rattle.format.specs.Messages.{rowsAlone, flagged, overSatellites, overCells
 use Rattle.format.proofs.Ends.{done-end}
 use Rattle.format.specs.Ends.{endFrom}
 use Rattle.format.specs.Programs.{refuse, _>>=_, _>>_, require, later, run}
-use Rattle.format.specs.Rows.{absent}
 use Rattle.heads.specs.declared.CommonHead.{CommonHead}
 use Rattle.heads.specs.declared.heading.Under.{Under}
 use Rattle.heads.specs.Heads.{commonOf}

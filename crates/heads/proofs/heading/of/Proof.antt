@@ -1,10 +1,9 @@
 -- `heads::heading::of` meets its contract. Assumes nothing.
-use mathlib.Core.Path.{_≡_, sym, ap}
 use borrow.Author.Needs.{needs}
 use Rattle.format.specs.Ends.{endFrom}
 use Rattle.format.specs.Programs.{later, run}
 use Rattle.heads.specs.Headings.{saidBy, FitsHeading}
-use Rattle.heads.specs.Sorting.{OfTable, headingFor, underWith}
+use Rattle.heads.specs.Sorting.{OfTable, headingFor}
 use Rattle.heads.proofs.heading.of.Statement.{statement}
 use Rattle.heads.proofs.heading.of.Tie as tie
 use Rattle.table.specs.declared.Kind.the-variants.{Masked}
