@@ -10,6 +10,7 @@ use crate::Grown;
 use crate::Made;
 use crate::Step;
 use crate::cells;
+use crate::cells::Masks;
 use crate::stages;
 use crate::stages::Masked;
 use crate::stages::Named;
@@ -33,7 +34,12 @@ pub fn one_system(h: Holding, bytes: &[u8], end: usize, place: usize) -> Grown
                 holding: h,
             },
             Masked::Fine(satellites, signals, at) => {
-                cells::read_cells(h, bytes, end, at, id, satellites, signals)
+                let masks = Masks {
+                    id,
+                    satellites,
+                    signals,
+                };
+                cells::read_cells(h, bytes, end, at, masks)
             }
         },
     }
