@@ -3,26 +3,27 @@ use mathlib.Core.Path.{_≡_, refl, sym, ap, _∙_}
 use mathlib.Core.Bool.{Bool, true, false, cond}
 use mathlib.Core.List.{List}
 use Prim.Native.Nat.{ℕ, _+_, _-_, _^_, _≤_, _<_}
-use native.Mathlib.Nat.{add-zero}
+use native.Mathlib.Nat.{add-zero, mod-eq-of-lt}
 use native.Mathlib.Decide.{decLt}
 use native.Mathlib.Omega.{arith}
 use lib.ListN.{take}
 use Rattle.format.specs.Ends.{Within, endFrom}
+use Rattle.bits.proofs.BitLists.{number-spell}
 use Rattle.bits.proofs.Fields.{field-lt}
 use Rattle.bits.proofs.Short.{field-whole, field-short}
-use Rattle.bits.specs.BitLists.{spell}
+use Rattle.bits.specs.BitLists.{number, spell}
 use Rattle.bits.specs.declared.read.Taken.the-variants as Taken
 use Rattle.bits.specs.Places.{field}
 use Rattle.bits.specs.Short.{takenAt}
-use Rattle.format.proofs.Placed.{length-from, drop-from, numbered-there, numbered-short, taking-there, taking-short}
-use Rattle.format.proofs.Runs.{later-later, run-bind, run-bind-badly, taken-le, not-well}
+use Rattle.format.proofs.Placed.{length-from, take-from, drop-from}
+use Rattle.format.proofs.Runs.{run-field, run-short, later-later, run-bind, run-bind-badly, taken-le, not-well}
 use Rattle.format.proofs.Steps.{Gives}
 use Rattle.format.specs.declared.Refusal.{Refusal}
 use Rattle.format.specs.declared.Refusal.the-variants.{Short}
 use Rattle.format.specs.Programs.{Program, done, _>>=_, _>>_, taking, numbered, require, Ended, well, badly, later, run}
 use Rattle.format.specs.Reading.{bitsFrom}
 
--- ---- a program's end, a test, three programs one after the other
+-- ---- a program's end, a test
 
 module _ {A : Type 0} (bs : List ℕ) (end place : ℕ) where
   pub done-end : (a : A) → endFrom (done a) bs end place ≡ well a place
@@ -100,20 +101,22 @@ module _ {bs : List ℕ} {end place : ℕ} (at : Within bs end place) where
 
   module _ {A : Type 0} (w : ℕ) where
     pub bits-there : (k : List Bool → Program A) → place + w ≤ end → endFrom (taking w >>= k) bs end place ≡ endFrom (k (spell w (field bs place w))) bs end (place + w)
-    unfolding endFrom
-    bits-there k room = ap (later place) (taking-there bs end (at .inside) place w k room) ∙ later-later place w _
+    unfolding endFrom taking _>>=_
+    bits-there k room =
+        ap (later place) (run-field w k (bitsFrom bs end place) (rw (length-from bs end (at .inside) place) (omega arith)) ∙ rw (take-from bs end (at .inside) place w room, drop-from bs end (at .inside) place w))
+        ∙ later-later place w _
 
     pub bits-cut : (k : List Bool → Program A) → end - place < w → endFrom (taking w >>= k) bs end place ≡ badly Short (w - (end - place))
-    unfolding endFrom later
-    bits-cut k short = ap (later place) (taking-short bs end (at .inside) place w k short)
+    unfolding endFrom taking _>>=_ later
+    bits-cut k short = ap (later place) (run-short w k (bitsFrom bs end place) (rw (length-from bs end (at .inside) place) short)) ∙ rw (length-from bs end (at .inside) place)
 
     pub number-there : (k : ℕ → Program A) → place + w ≤ end → endFrom (numbered w >>= k) bs end place ≡ endFrom (k (field bs place w)) bs end (place + w)
-    unfolding endFrom
-    number-there k room = ap (later place) (numbered-there bs end (at .inside) place w k room) ∙ later-later place w _
+    unfolding taking numbered _>>=_
+    number-there k room = bits-there (λ b. k (number b)) room ∙ rw (number-spell w (field bs place w), mod-eq-of-lt (field-lt bs place w))
 
     pub number-cut : (k : ℕ → Program A) → end - place < w → endFrom (numbered w >>= k) bs end place ≡ badly Short (w - (end - place))
-    unfolding endFrom later
-    number-cut k short = ap (later place) (numbered-short bs end (at .inside) place w k short)
+    unfolding taking numbered _>>=_
+    number-cut k short = bits-cut (λ b. k (number b)) short
 
     -- and back: one that ended well took it
     pub number-began : (k : ℕ → Program A) {a : A} {next : ℕ} → endFrom (numbered w >>= k) bs end place ≡ well a next → (place + w ≤ end) × (endFrom (k (field bs place w)) bs end (place + w) ≡ well a next)

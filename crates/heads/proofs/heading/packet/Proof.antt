@@ -46,16 +46,16 @@ module _ (c : tie.After-known-told) where
 returns-2 : tie.Need-returns-2
 unfolding saidBy FitsHeading FitsKeys linesIn linesOver packetOf packetWith
 returns-2 c = (
-      λ v.
-          rw (
-            packet-there (took c .before .before .pre) (there c),
-            toZ-pos w32 {n = n c / 32} (omega (arith, small c)),
-            toZ-pos w32 {n = n c / 4 % 8} (omega arith),
-            toZ-pos w32 {n = n c % 4} (omega arith),
-            add-one (n c % 4),
-          ),
-      (omega arith, refl),
-    )
+  λ v.
+      rw (
+        packet-there (took c .before .before .pre) (there c),
+        toZ-pos w32 {n = n c / 32} (omega (arith, small c)),
+        toZ-pos w32 {n = n c / 4 % 8} (omega arith),
+        toZ-pos w32 {n = n c % 4} (omega arith),
+        add-one (n c % 4),
+      ),
+  (omega arith, refl),
+)
 
 pub packet-spec : {M : Type 1} → statement M
 packet-spec =
