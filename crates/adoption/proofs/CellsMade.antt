@@ -9,12 +9,12 @@ use lib.Count.{ones}
 use lib.Dec.{leb, eqb}
 use lib.ListN.{length, take, drop, replicate, length-append, length-drop}
 use Rattle.adoption.proofs.Adding.{strip-front, strips-built}
-use Rattle.adoption.proofs.Ends.{done-end, test-end, bits-there, bits-cut}
+use Rattle.format.proofs.Ends.{done-end, test-end, bits-there, bits-cut}
 use Rattle.adoption.proofs.Holds.{holds, systems-count}
 use Rattle.adoption.specs.Adoptions.{maskIn, grownBy}
 use Rattle.adoption.specs.declared.Grown.{Grown}
 use Rattle.adoption.specs.declared.Step.the-variants as Step
-use Rattle.adoption.specs.Ends.{Within, endFrom}
+use Rattle.format.specs.Ends.{Within, endFrom}
 use Rattle.adoption.specs.Growing.{HasRoom, settled}
 use Rattle.adoption.specs.Stages.{masksBy, tested, cellsBy}
 use Rattle.bits.proofs.BitLists.{number-spell, length-spell, length-bits}

@@ -1,6 +1,5 @@
 pub mod Bitwise
 pub mod Adding
-pub mod Ends
 pub mod StageEnds
 pub mod Holds
 pub mod CellsMade

@@ -8,14 +8,14 @@ use native.Mathlib.Omega.{arith}
 use lib.Dec.{ltb}
 use lib.Seq.{append-snoc}
 use Rattle.format.proofs.Runs.{bind-assoc}
-use Rattle.adoption.proofs.Ends.{done-end, by-end, ended-at, gave, then-well, then-badly}
+use Rattle.format.proofs.Ends.{done-end, by-end, ended-at, gave, then-well, then-badly}
 use Rattle.adoption.proofs.Holds.{holds}
 use Rattle.adoption.specs.Adoptions.{adoptionBy, maskIn, withOne, grownBy}
 use Rattle.adoption.specs.declared.Adoption.{Adoption}
 use Rattle.adoption.specs.declared.Grown.{Grown}
 use Rattle.adoption.specs.declared.Made.the-variants as Made
 use Rattle.adoption.specs.declared.Step.the-variants as Step
-use Rattle.adoption.specs.Ends.{Within, endFrom}
+use Rattle.format.specs.Ends.{Within, endFrom}
 use Rattle.adoption.specs.Growing.{HasMask}
 use Rattle.adoption.specs.Stages.{withSystems}
 use Rattle.format.proofs.Makes.{system-gives}

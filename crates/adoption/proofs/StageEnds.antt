@@ -1,47 +1,21 @@
 -- Where the parts of a system end, by the fields that the code took and by their tests. Assumes nothing.
 use mathlib.Core.Path.{_≡_, _∙_}
-use mathlib.Core.Bool.{Bool, true, false, cond, not, _&&_}
+use mathlib.Core.Bool.{Bool, cond, not, _&&_}
 use mathlib.Core.List.{List}
-use Prim.Native.Nat.{ℕ, _+_, _≤_}
+use Prim.Native.Nat.{ℕ, _+_}
 use lib.Count.{ones}
 use lib.Dec.{leb}
-use lib.ListN.{length}
-use borrow.Author.Tests.{leb-true, not-true}
-use Rattle.adoption.proofs.Ends.{done-end, test-end, number-whole, bits-whole, fits}
-use Rattle.adoption.specs.Ends.{Within, endFrom}
+use Rattle.format.proofs.Ends.{done-end, test-end, number-whole, bits-whole, fits}
+use Rattle.format.specs.Ends.{Within, endFrom}
 use Rattle.adoption.specs.Stages.{signalsAfter}
 use Rattle.bits.specs.BitLists.{spell}
 use Rattle.bits.specs.declared.read.Taken.the-variants.{Whole}
 use Rattle.bits.specs.Short.{takenAt}
-use Rattle.format.proofs.Sames.{and-true}
-use Rattle.format.proofs.Steps.{Gives, gives-done, gives-require, gives-taking, gives-numbered}
 use Rattle.format.specs.Assigned.{satellitePlaces, signalPlaces, known, assigned}
 use Rattle.format.specs.declared.Refusal.the-variants as Refusal
-use Rattle.format.specs.Masks.{placesFrom}
 use Rattle.format.specs.Messages.{named, systemId, systemMasks}
 use Rattle.format.specs.Programs.{well, badly}
 use Rattle.holding.proofs.Places.{ones-places}
-
--- ---- what they give
-
-pub id-gives : (ids : List ℕ) → Gives (systemId ids) (λ id m. (known id ≡ true) × (named id ids ≡ false))
-unfolding systemId
-id-gives ids =
-    gives-numbered _ _ λ id small.
-    gives-require _ _ _ λ fresh.
-    gives-done (let parts = and-true (known id) (not (named id ids)) fresh in (parts .0, not-true _ (parts .1)))
-
-pub masks-give : (n id : ℕ) → Gives (systemMasks n id) (λ k m. n + length (placesFrom 0 (k .satellites)) ≤ 64)
-unfolding systemMasks
-masks-give n id =
-    gives-taking _ _ λ sats _.
-    gives-require _ _ _ λ _.
-    gives-require _ _ _ λ few.
-    gives-taking _ _ λ signals _.
-    gives-require _ _ _ λ _.
-    gives-done (leb-true (n + length (placesFrom 0 sats)) 64 few)
-
--- ---- where they end
 
 module _ {bs : List ℕ} {end place : ℕ} (at : Within bs end place) {n : ℕ} where
   pub id-end : (ids : List ℕ) → takenAt bs end place 4 ≡ Whole n

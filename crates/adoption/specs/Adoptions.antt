@@ -1,6 +1,5 @@
 -- What the code answers to a mask message and to one system of it, by how crate format's program ends.
 use mathlib.Core.List.{[], _∷_, _++_}
-use Prim.Native.Nat.{ℕ, _+_}
 use Rattle.adoption.specs.declared.Adoption.{Adoption}
 use Rattle.adoption.specs.declared.Grown.{Grown}
 use Rattle.adoption.specs.declared.Made.the-variants as Made
@@ -12,12 +11,7 @@ use Rattle.format.specs.Programs.{Ended, well, badly}
 use Rattle.holding.specs.declared.Holding.{Holding}
 use Rattle.holding.specs.Pictures.{pictureOf, maskOf}
 
--- a mask message read at a place: the head, the place after it and the mask adopted; or the refusal, and what was held
-unfoldable pub adoptionAt : Holding → ℕ → Ended Adopted → Adoption
-adoptionAt old place (well d taken) = record { made = Made.Mask (d .head) (place + taken); holding = pictureOf (mask (d .made)) }
-adoptionAt old place (badly r missing) = record { made = Made.Refused r missing; holding = old }
-
--- the same by the place where it ends, as all that follows
+-- a mask message: the head, the place after it and the mask adopted; or the refusal, and what was held
 unfoldable pub adoptionBy : Holding → Ended Adopted → Adoption
 adoptionBy old (well d next) = record { made = Made.Mask (d .head) next; holding = pictureOf (mask (d .made)) }
 adoptionBy old (badly r missing) = record { made = Made.Refused r missing; holding = old }

@@ -1,4 +1,3 @@
 pub mod Adoptions
-pub mod Ends
 pub mod Growing
 pub mod Stages

@@ -3,7 +3,7 @@
 ghost use mathlib.Core.Path.{_≡_};
 ghost use Prim.Native.Nat.{_<_};
 ghost use Rattle.adoption.specs.Adoptions.{maskIn, grownBy};
-ghost use Rattle.adoption.specs.Ends.{Within, endFrom};
+ghost use Rattle.format.specs.Ends.{Within, endFrom};
 ghost use Rattle.adoption.specs.Growing.{HasRoom, settled};
 ghost use Rattle.adoption.specs.Stages.{masksBy, cellsBy};
 ghost use Rattle.format.specs.Messages.{systemCells};
@@ -19,18 +19,17 @@ use holding::set_places;
 // How many bits the flag has.
 const FLAG: usize = 1;
 
+// A system's ID and its two masks.
+pub struct Masks {
+    pub id: u8,
+    pub satellites: u64,
+    pub signals: u16,
+}
+
 // The system's slot beside its strips, unless the cells are too many: then what was there before.
-fn settle(
-    before: Holding,
-    grown: Holding,
-    id: u8,
-    satellites: u64,
-    signals: u16,
-    flag: bool,
-    place: usize,
-) -> Grown
+fn settle(before: Holding, grown: Holding, m: Masks, flag: bool, place: usize) -> Grown
     requires { ⌜ grown .count < 5 ⌝ }
-    ensures { λ r. ⌜ r ≡ settled before grown id satellites signals flag place ⌝ }
+    ensures { λ r. ⌜ r ≡ settled before grown (m .id) (m .satellites) (m .signals) flag place ⌝ }
 {
     if grown.ncell > Holding::CELLS {
         return Grown {
@@ -40,25 +39,17 @@ fn settle(
     }
     Grown {
         step: Step::Fine(place),
-        holding: grown.with_system(id, satellites, signals, flag),
+        holding: grown.with_system(m.id, m.satellites, m.signals, flag),
     }
 }
 
 // The cell mask at a place, behind a flag that is set.
-fn flagged_cells(
-    h: Holding,
-    bytes: &[u8],
-    end: usize,
-    place: usize,
-    id: u8,
-    satellites: u64,
-    signals: u16,
-) -> Grown
-    requires { ⌜ HasRoom h satellites × Within (now bytes) end place ⌝ }
-    ensures { λ r. ⌜ r ≡ grownBy (maskIn h) (endFrom (cellsBy (maskIn h .systems) id (masksBy satellites signals) 1) (now (bytes .entry)) end place) ⌝ }
+fn flagged_cells(h: Holding, bytes: &[u8], end: usize, place: usize, m: Masks) -> Grown
+    requires { ⌜ HasRoom h (m .satellites) × Within (now bytes) end place ⌝ }
+    ensures { λ r. ⌜ r ≡ grownBy (maskIn h) (endFrom (cellsBy (maskIn h .systems) (m .id) (masksBy (m .satellites) (m .signals)) 1) (now (bytes .entry)) end place) ⌝ }
 {
-    let n = set_places::count(satellites);
-    let width = n * set_places::count(signals as u64);
+    let n = set_places::count(m.satellites);
+    let width = n * set_places::count(m.signals as u64);
     let left = end - place;
     if left < width {
         return Grown {
@@ -66,22 +57,14 @@ fn flagged_cells(
             holding: h,
         };
     }
-    let grown = grow::cell_strips(h, bytes, place, n, signals);
-    settle(h, grown, id, satellites, signals, true, place + width)
+    let grown = grow::cell_strips(h, bytes, place, n, m.signals);
+    settle(h, grown, m, true, place + width)
 }
 
 // The flag at a place and what it says of the cells.
-pub fn read_cells(
-    h: Holding,
-    bytes: &[u8],
-    end: usize,
-    place: usize,
-    id: u8,
-    satellites: u64,
-    signals: u16,
-) -> Grown
-    requires { ⌜ HasRoom h satellites × Within (now bytes) end place ⌝ }
-    ensures { λ r. ⌜ r ≡ grownBy (maskIn h) (endFrom (systemCells (maskIn h .systems) id (masksBy satellites signals)) (now (bytes .entry)) end place) ⌝ }
+pub fn read_cells(h: Holding, bytes: &[u8], end: usize, place: usize, m: Masks) -> Grown
+    requires { ⌜ HasRoom h (m .satellites) × Within (now bytes) end place ⌝ }
+    ensures { λ r. ⌜ r ≡ grownBy (maskIn h) (endFrom (systemCells (maskIn h .systems) (m .id) (masksBy (m .satellites) (m .signals))) (now (bytes .entry)) end place) ⌝ }
 {
     let taken = take_field(bytes, end, place, FLAG);
     match taken {
@@ -92,10 +75,10 @@ pub fn read_cells(
         Taken::Whole(flag) => {
             let at = place + FLAG;
             if flag != 0 {
-                return flagged_cells(h, bytes, end, at, id, satellites, signals);
+                return flagged_cells(h, bytes, end, at, m);
             }
-            let grown = grow::all_strips(h, set_places::count(satellites), signals);
-            settle(h, grown, id, satellites, signals, false, at)
+            let grown = grow::all_strips(h, set_places::count(m.satellites), m.signals);
+            settle(h, grown, m, false, at)
         }
     }
 }

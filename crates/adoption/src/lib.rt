@@ -1,4 +1,4 @@
-// Sub type 1: a mask message, read into a holding that it makes (document 01, "Message layouts").
+// A mask message, read into a holding that it makes (document 01, "Message layouts").
 pub mod cells;
 pub mod grow;
 pub mod spread;
@@ -6,14 +6,10 @@ pub mod stages;
 pub mod systems;
 
 ghost use mathlib.Core.Path.{_≡_};
-ghost use Prim.Native.Nat.{_*_, _≤_};
-ghost use lib.ListN.{length};
-ghost use Rattle.adoption.specs.Adoptions.{adoptionAt, adoptionBy};
-ghost use Rattle.adoption.specs.Ends.{Within, endFrom};
+ghost use Rattle.adoption.specs.Adoptions.{adoptionBy};
+ghost use Rattle.format.specs.Ends.{Within, endFrom};
 ghost use Rattle.adoption.specs.Stages.{afterCommonHead};
 ghost use Rattle.format.specs.Messages.{common, maskMessage};
-ghost use Rattle.format.specs.Programs.{run};
-ghost use Rattle.format.specs.Reading.{bitsFrom};
 ghost use Rattle.heads.specs.Heads.{Small, commonBy};
 use bits::read::Taken;
 use bits::read::Widths;
@@ -60,15 +56,15 @@ const COUNT: usize = 4;
 // The common head's fields, as a mask has it.
 const HEAD: Widths = Widths {
     first: heads::EPOCH,
-    second: 4,
-    third: 1,
-    fourth: 4,
+    second: heads::INTERVAL,
+    third: heads::INDICATOR,
+    fourth: heads::ISSUE,
 };
 
 // A mask message's common head: as heads::common, whose copy for the other sub types is one of its own for speed.
 fn head(bytes: &[u8], end: usize, place: usize) -> CommonTaken
-    requires { ⌜ (end ≤ 8 * length (now bytes)) × (place ≤ end) ⌝ }
-    ensures { λ r. ⌜ r ≡ commonBy (run (common 20) (bitsFrom (now (bytes .entry)) end place)) ⌝ }
+    requires { ⌜ Within (now bytes) end place ⌝ }
+    ensures { λ r. ⌜ r ≡ commonBy (endFrom (common 20) (now (bytes .entry)) end place) ⌝ }
 {
     let taken = take_field(bytes, end, place, COMMON);
     match taken {
@@ -99,8 +95,8 @@ fn after_head(old: Holding, h: CommonHead, bytes: &[u8], end: usize, place: usiz
 
 // A mask message at the place behind its number and sub type: the mask is adopted, or what was held stays.
 pub fn adopt(old: Holding, bytes: &[u8], end: usize, place: usize) -> Adoption
-    requires { ⌜ (end ≤ 8 * length (now bytes)) × (end ≤ 50850) × (place ≤ end) ⌝ }
-    ensures { λ r. ⌜ r ≡ adoptionAt old place (run maskMessage (bitsFrom (now (bytes .entry)) end place)) ⌝ }
+    requires { ⌜ Within (now bytes) end place ⌝ }
+    ensures { λ r. ⌜ r ≡ adoptionBy old (endFrom maskMessage (now (bytes .entry)) end place) ⌝ }
 {
     match head(bytes, end, place) {
         CommonTaken::Short(missing) => Adoption {

@@ -3,7 +3,7 @@
 ghost use mathlib.Core.Path.{_≡_};
 ghost use Prim.Native.Nat.{_^_, _≤_, _<_};
 ghost use lib.ListN.{length, take};
-ghost use Rattle.adoption.specs.Ends.{Within, endFrom};
+ghost use Rattle.format.specs.Ends.{Within, endFrom};
 ghost use Rattle.adoption.specs.Stages.{endNamed, endMasked, FitsMasked, signalsAfter};
 ghost use Rattle.bits.specs.BitLists.{spell};
 ghost use Rattle.format.specs.Messages.{systemId, systemMasks};

@@ -1,7 +1,7 @@
 // The systems of a mask message, one after the other.
 ghost use mathlib.Core.Path.{_≡_};
 ghost use Rattle.adoption.specs.Adoptions.{adoptionBy, maskIn, grownBy};
-ghost use Rattle.adoption.specs.Ends.{Within, endFrom};
+ghost use Rattle.format.specs.Ends.{Within, endFrom};
 ghost use Rattle.adoption.specs.Growing.{HasMask};
 ghost use Rattle.adoption.specs.Stages.{withSystems};
 ghost use Rattle.format.specs.Messages.{system};
@@ -10,6 +10,7 @@ use crate::Grown;
 use crate::Made;
 use crate::Step;
 use crate::cells;
+use crate::cells::Masks;
 use crate::stages;
 use crate::stages::Masked;
 use crate::stages::Named;
@@ -33,7 +34,12 @@ pub fn one_system(h: Holding, bytes: &[u8], end: usize, place: usize) -> Grown
                 holding: h,
             },
             Masked::Fine(satellites, signals, at) => {
-                cells::read_cells(h, bytes, end, at, id, satellites, signals)
+                let masks = Masks {
+                    id,
+                    satellites,
+                    signals,
+                };
+                cells::read_cells(h, bytes, end, at, masks)
             }
         },
     }

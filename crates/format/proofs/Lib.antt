@@ -16,5 +16,6 @@ pub mod Lengths
 pub mod HeldGood
 pub mod Placed
 pub mod Together
+pub mod Ends
 pub mod Walks
 pub mod CutWalks

@@ -31,7 +31,7 @@ flag-width (suc (suc f)) n h = absurd (omega arith)
 
 -- ---- a system, systems, a head: good, and spelled by the bits taken
 
-id-gives : (ids : List ℕ) → Gives (systemId ids) (λ id m. ((known id && not (named id ids)) ≡ true) × (m ≡ spell 4 id))
+pub id-gives : (ids : List ℕ) → Gives (systemId ids) (λ id m. ((known id && not (named id ids)) ≡ true) × (m ≡ spell 4 id))
 unfolding systemId
 id-gives ids =
     gives-numbered _ _ λ id small.
@@ -39,14 +39,14 @@ id-gives ids =
     gives-done (fresh, append-nil (spell 4 id))
 
 -- the masks' tests
-record MasksFit (n id : ℕ) (k : BothMasks) : Type 0 where
+pub record MasksFit (n id : ℕ) (k : BothMasks) : Type 0 where
   whole : length (k .satellites) ≡ 40
   placed : assigned satellitePlaces id (k .satellites) ≡ true
-  few : leb (n + length (placesFrom 0 (k .satellites))) 64 ≡ true
+  pub few : leb (n + length (placesFrom 0 (k .satellites))) 64 ≡ true
   long : length (k .signals) ≡ 16
   given : assigned signalPlaces id (k .signals) ≡ true
 
-masks-give : (n id : ℕ) → Gives (systemMasks n id) (λ k m. MasksFit n id k × (m ≡ k .satellites ++ k .signals))
+pub masks-give : (n id : ℕ) → Gives (systemMasks n id) (λ k m. MasksFit n id k × (m ≡ k .satellites ++ k .signals))
 unfolding systemMasks
 masks-give n id =
     gives-taking _ _ λ sats whole.

@@ -1,9 +1,8 @@
--- A start in a stretch; programs run over the bits of a byte string from a place on: a field is the number at that place, or short by what lies past the end.
--- Assumes nothing.
+-- A start in a stretch, and the bits of a byte string from a place on. Assumes nothing.
 use mathlib.Core.Path.{_≡_, refl, sym, ap, _∙_}
 use mathlib.Core.Bool.{Bool, true, false, and-eq-true-iff}
 use mathlib.Core.List.{List, [], _∷_}
-use Prim.Native.Nat.{ℕ, _+_, _-_, _*_, _^_, _≤_, _<_}
+use Prim.Native.Nat.{ℕ, _+_, _-_, _*_, _^_, _≤_}
 use native.Mathlib.Nat.{le-refl, mod-eq-of-lt}
 use native.Mathlib.Omega.{arith}
 use lib.Dec.{eqb, leb}
@@ -16,11 +15,9 @@ use Rattle.bits.specs.Places.{field}
 use Rattle.bits.proofs.BitLists.{length-bits, number-spell}
 use Rattle.bits.proofs.Bridge.{spell-field}
 use Rattle.bits.proofs.Fields.{field-lt}
-use Rattle.format.specs.declared.Refusal.the-variants.{Short}
 use Rattle.format.specs.Assigned.{blank}
-use Rattle.format.specs.Programs.{Program, _>>=_, taking, numbered, badly, later, run}
 use Rattle.format.specs.Reading.{stretchLimit, placed, bitsFrom}
-use Rattle.format.proofs.Runs.{run-field, run-short, drop-take}
+use Rattle.format.proofs.Runs.{drop-take}
 
 -- ---- a start in a stretch
 
@@ -65,32 +62,6 @@ module _ (bs : List ℕ) (end : ℕ) (there : end ≤ 8 * length bs) where
   pub drop-from : (place w : ℕ) → drop w (bitsFrom bs end place) ≡ bitsFrom bs end (place + w)
   unfolding bitsFrom
   drop-from place w = drop-drop w place (take end (bits bs))
-
-  module _ {A : Type 0} where
-    -- a field of bits
-    pub taking-there : (place w : ℕ) (k : List Bool → Program A) → place + w ≤ end
-        → run (taking w >>= k) (bitsFrom bs end place) ≡ later w (run (k (spell w (field bs place w))) (bitsFrom bs end (place + w)))
-    unfolding taking _>>=_
-    taking-there place w k room =
-        run-field w k (bitsFrom bs end place) (rw (length-from place) (omega arith)) ∙ rw (take-from place w room, drop-from place w)
-
-    pub taking-short : (place w : ℕ) (k : List Bool → Program A) → end - place < w
-        → run (taking w >>= k) (bitsFrom bs end place) ≡ badly Short (w - (end - place))
-    unfolding taking _>>=_
-    taking-short place w k over = run-short w k (bitsFrom bs end place) (rw (length-from place) over) ∙ rw (length-from place)
-
-    -- a number
-    pub numbered-there : (place w : ℕ) (k : ℕ → Program A) → place + w ≤ end
-        → run (numbered w >>= k) (bitsFrom bs end place) ≡ later w (run (k (field bs place w)) (bitsFrom bs end (place + w)))
-    unfolding numbered _>>=_
-    numbered-there place w k room =
-        let same : number (spell w (field bs place w)) ≡ field bs place w = number-spell w (field bs place w) ∙ mod-eq-of-lt (field-lt bs place w) in
-        run-field w (λ b. k (number b)) (bitsFrom bs end place) (rw (length-from place) (omega arith)) ∙ rw (take-from place w room, drop-from place w, same)
-
-    pub numbered-short : (place w : ℕ) (k : ℕ → Program A) → end - place < w
-        → run (numbered w >>= k) (bitsFrom bs end place) ≡ badly Short (w - (end - place))
-    unfolding numbered _>>=_
-    numbered-short place w k over = run-short w (λ b. k (number b)) (bitsFrom bs end place) (rw (length-from place) over) ∙ rw (length-from place)
 
 -- ---- all bits are zero
 

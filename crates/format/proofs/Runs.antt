@@ -34,7 +34,7 @@ drop-take w n l h = ap (drop w) (take-add w n l) ∙ drop-at (take w l) (take n 
 
 -- ---- ends
 
-pub later-zero : {A : Type 0} (e : Ended A) → later 0 e ≡ e
+later-zero : {A : Type 0} (e : Ended A) → later 0 e ≡ e
 unfolding later
 later-zero (well a taken) = ap (well a) (zero-add taken)
 later-zero (badly r missing) = refl
@@ -49,7 +49,7 @@ unfolding later
 later-well w (well b rest) a taken e = (rest, cc, cc)
 later-well w (badly r missing) a taken e = absurd (false≢true cc)
 
-pub badly-later : {A : Type 0} (w : ℕ) (r : Refusal) (missing : ℕ) → later {A = A} w (badly r missing) ≡ badly r missing
+badly-later : {A : Type 0} (w : ℕ) (r : Refusal) (missing : ℕ) → later {A = A} w (badly r missing) ≡ badly r missing
 unfolding later
 badly-later w r missing = refl
 

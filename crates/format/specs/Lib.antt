@@ -10,6 +10,7 @@ pub mod Table
 pub mod Good
 pub mod Tests
 pub mod Reading
+pub mod Ends
 pub mod Walking
 pub mod Writing
 pub mod Saved

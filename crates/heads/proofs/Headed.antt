@@ -1,116 +1,66 @@
--- How crate format's programs of what a message says before its body run from a place on, each by what is there. Assumes nothing.
-use mathlib.Core.Path.{_≡_, refl, sym, ap, _∙_}
+-- Where crate format's programs of what a message says before its body end, each by what the code took. Assumes nothing.
+use mathlib.Core.Path.{_≡_, _∙_}
 use mathlib.Core.Bool.{Bool, true, false, not}
 use mathlib.Core.List.{List, [], _∷_}
-use Prim.Native.Nat.{ℕ, zero, suc, _+_, _-_, _*_, _/_, _%_, _≤_, _<_}
-use native.Mathlib.Nat.{add-zero}
+use Prim.Native.Nat.{ℕ, suc, _+_, _-_, _/_, _%_, _≤_, _<_}
 use native.Mathlib.Omega.{arith}
 use lib.Dec.{eqb}
-use lib.IntN.{ℤ, pos}
+use lib.IntN.{pos}
 use lib.ListN.{length, getD}
 use borrow.Author.Tests.{eq-eqb, ne-eqb, le-ltb}
-use Rattle.bits.specs.BitLists.{digit, spell}
+use Rattle.bits.specs.BitLists.{spell}
+use Rattle.bits.specs.declared.read.Taken.the-variants as Taken
 use Rattle.bits.specs.Places.{field}
-use Rattle.bits.specs.Short.{bitsOf, shortBy}
-use Rattle.bits.proofs.Fields.{field-add, field-lt}
+use Rattle.bits.specs.Short.{takenAt, bitsOf, shortBy}
+use Rattle.format.proofs.Ends.{done-end, after-field, bits-there, bits-cut, number-whole, number-short}
+use Rattle.format.proofs.Together.{together, partsOf, fields-whole, fields-short}
 use Rattle.format.specs.declared.Head.{Head}
 use Rattle.format.specs.declared.Refusal.the-variants.{Short, Network}
+use Rattle.format.specs.Ends.{Within, endFrom}
 use Rattle.format.specs.Masks.{Satellite, Sky, pick}
 use Rattle.format.specs.Messages as Messages
 use Rattle.format.specs.Messages.{Selected, selection, packet, packetLines, flagged, satelliteLines}
 use Rattle.format.specs.Programs.{Program, done, _>>=_, _>>_, taking, numbered, require, well, badly, later, run}
-use Rattle.format.specs.Reading.{bitsFrom}
 use Rattle.format.specs.Rows.{Column, absent}
-use Rattle.format.proofs.Placed.{numbered-there, numbered-short, taking-there, taking-short}
-use Rattle.format.proofs.Runs.{later-later}
-use Rattle.format.proofs.Together.{together, fieldsAt}
 use Rattle.heads.specs.declared.CommonHead.{CommonHead}
 use Rattle.heads.specs.declared.heading.Under.{Under}
 use Rattle.heads.specs.Heads.{commonOf}
 use Rattle.heads.specs.Headings.{headWith, networked, rowed, networkBy, afterFlags}
-use Rattle.heads.proofs.Runs.{together-there, together-short}
 use Rattle.table.specs.Shapes.{shapesFrom}
 
--- a fourth field of no bits is never short
-pub three-short : (a b c left : ℕ) → shortBy (a ∷ b ∷ c ∷ 0 ∷ []) left ≡ shortBy (a ∷ b ∷ c ∷ []) left
-unfolding shortBy
-three-short a b c left = rw (le-ltb (left - a - b - c) 0 (omega arith))
+-- ---- a packet's part
 
-module _ (bs : List ℕ) (end : ℕ) (inside : end ≤ 8 * length bs) (place : ℕ) (room : place ≤ end) where
-  -- ---- 10
+-- what its three fields say, and the six bits that they are
+unfoldable pub packetWith : ℕ → ℕ → ℕ → Messages.Heading
+packetWith indicator counter size = record {
+  head = record { subtype = pos 10; epoch = absent; interval = absent; indicator = pos indicator; iod = absent; a = pos counter; b = pos size; c = absent };
+  lines = packetLines 1 (suc size);
+}
 
-  -- what six bits say
-  abbrev pub packetOf : ℕ → Messages.Heading
-  packetOf n = record {
-    head = record { subtype = pos 10; epoch = absent; interval = absent; indicator = pos (n / 32); iod = absent; a = pos (n / 4 % 8); b = pos (n % 4); c = absent };
-    lines = packetLines 1 (suc (n % 4));
-  }
+unfoldable pub packetOf : ℕ → Messages.Heading
+packetOf n = packetWith (n / 32) (n / 4 % 8) (n % 4)
 
-  packetWith : List ℕ → Program Messages.Heading
-  packetWith ns = done (record {
-    head = record { subtype = pos 10; epoch = absent; interval = absent; indicator = pos (getD ns 0 0); iod = absent; a = pos (getD ns 1 0); b = pos (getD ns 2 0); c = absent };
-    lines = packetLines 1 (suc (getD ns 2 0));
-  })
+-- ---- three fields, of which the code has a fourth of no bits
 
-  pub packet-there : 6 ≤ end - place → run packet (bitsFrom bs end place) ≡ well (packetOf (field bs place 6)) 6
-  unfolding packet together packetWith bitsOf fieldsAt numbered _>>=_ later run
-  packet-there there =
-      let n = field bs place 6 in
-      let all : n ≡ field bs place 1 * 32 + (field bs (place + 1) 3 * 4 + field bs (place + 1 + 3) 2) = omega (arith, field-add bs place 1 5, field-add bs (place + 1) 3 2) in
-      let counter = field-lt bs (place + 1) 3 in
-      let size = field-lt bs (place + 1 + 3) 2 in
-      let a : n / 32 ≡ field bs place 1 = omega arith in
-      let b : n / 4 % 8 ≡ field bs (place + 1) 3 = omega arith in
-      let c : n % 4 ≡ field bs (place + 1 + 3) 2 = omega arith in
-      together-there bs end inside place room (1 ∷ 3 ∷ 2 ∷ []) packetWith there ∙ rw (a, b, c)
+module _ {A : Type 0} {bs : List ℕ} {end place : ℕ} (at : Within bs end place) (a b c : ℕ) (k : List ℕ → Program A) where
+  three-cut : {m : ℕ} → takenAt bs end place (bitsOf (a ∷ b ∷ c ∷ [])) ≡ Taken.Short m → endFrom (together (a ∷ b ∷ c ∷ []) k) bs end place ≡ badly Short (shortBy (a ∷ b ∷ c ∷ 0 ∷ []) (end - place))
+  unfolding shortBy
+  three-cut e = fields-short at (a ∷ b ∷ c ∷ []) k e ∙ rw (le-ltb (end - place - a - b - c) 0 (omega arith))
 
-  pub packet-short : end - place < 6 → run packet (bitsFrom bs end place) ≡ badly Short (shortBy (1 ∷ 3 ∷ 2 ∷ []) (end - place))
-  unfolding packet together packetWith bitsOf numbered _>>=_
-  packet-short short = together-short bs end inside place room (1 ∷ 3 ∷ 2 ∷ []) packetWith short
+module _ {bs : List ℕ} {end place : ℕ} (at : Within bs end place) where
+  abbrev with-three : List ℕ → Program Messages.Heading
+  with-three ns = done (packetWith (getD ns 0 0) (getD ns 1 0) (getD ns 2 0))
 
-  -- ---- a network and its selection
+  pub packet-there : {n : ℕ} → takenAt bs end place 6 ≡ Taken.Whole n → endFrom packet bs end place ≡ well (packetOf n) (place + 6)
+  unfolding packet packetOf packetWith together bitsOf partsOf numbered _>>=_
+  packet-there {n} e =
+      let b : n % 32 / 4 ≡ n / 4 % 8 = omega arith in
+      let c : n % 32 % 4 / 1 ≡ n % 4 = omega arith in
+      fields-whole at (1 ∷ 3 ∷ 2 ∷ []) with-three e ∙ rw (done-end, b, c)
 
-  module _ (sats : List Satellite) (h : Head) (shape : ℕ → List Column) where
-    -- what is left after the network, by whether it is one
-    abbrev with-bits : ℕ → List Bool → Program Selected
-    with-bits network bits = done (record { network = pos network; chosen = pick bits sats })
-
-    abbrev after-network : ℕ → Bool → Program Messages.Heading
-    after-network network some = (require some Network >> (taking (length sats) >>= with-bits network)) >>= rowed h shape
-
-    pub network-short : end - place < 5 → run (networkBy sats h shape) (bitsFrom bs end place) ≡ badly Short (5 - (end - place))
-    unfolding networkBy selection numbered _>>=_
-    network-short short = numbered-short bs end inside place 5 (λ n. after-network n (not (eqb n 0))) short
-
-    by-network : 5 ≤ end - place → (b : Bool) → eqb (field bs place 5) 0 ≡ b
-        → run (networkBy sats h shape) (bitsFrom bs end place) ≡ later 5 (run (after-network (field bs place 5) (not b)) (bitsFrom bs end (place + 5)))
-    unfolding networkBy selection numbered _>>=_
-    by-network there b e = numbered-there bs end inside place 5 (λ n. after-network n (not (eqb n 0))) (omega arith) ∙ rw e
-
-    pub network-none : 5 ≤ end - place → field bs place 5 ≡ 0 → run (networkBy sats h shape) (bitsFrom bs end place) ≡ badly Network 0
-    unfolding require _>>_ _>>=_ run later
-    network-none there nought = by-network there true (eq-eqb (field bs place 5) 0 nought)
-
-    module _ (there : 5 ≤ end - place) (some : field bs place 5 ≡ 0 → ⊥) where
-      pub network-cut : end - (place + 5) < length sats → run (networkBy sats h shape) (bitsFrom bs end place) ≡ badly Short (length sats - (end - (place + 5)))
-      unfolding require _>>_ taking _>>=_ later
-      network-cut short =
-          by-network there false (ne-eqb (field bs place 5) 0 some)
-          ∙ ap (later 5) (taking-short bs end inside (place + 5) (length sats) (λ b. with-bits (field bs place 5) b >>= rowed h shape) short)
-
-      pub network-there : length sats ≤ end - (place + 5)
-          → run (networkBy sats h shape) (bitsFrom bs end place)
-          ≡ well
-          (record {
-            head = networked h (pos (field bs place 5));
-            lines = satelliteLines shape (pick (spell (length sats) (field bs (place + 5) (length sats))) sats);
-          })
-          (5 + length sats)
-      unfolding require _>>_ taking rowed _>>=_ later run
-      network-there room-too =
-          by-network there false (ne-eqb (field bs place 5) 0 some)
-          ∙ ap (later 5) (taking-there bs end inside (place + 5) (length sats) (λ b. with-bits (field bs place 5) b >>= rowed h shape) (omega arith))
-          ∙ rw add-zero
+  pub packet-short : {m : ℕ} → takenAt bs end place 6 ≡ Taken.Short m → endFrom packet bs end place ≡ badly Short (shortBy (1 ∷ 3 ∷ 2 ∷ 0 ∷ []) (end - place))
+  unfolding packet packetWith together bitsOf numbered _>>=_
+  packet-short e = three-cut at 1 3 2 with-three e
 
   -- ---- the three flags
 
@@ -126,21 +76,54 @@ module _ (bs : List ℕ) (end : ℕ) (inside : end ≤ 8 * length bs) (place : �
           lines = satelliteLines (shapesFrom (u .layout .shape) (eqb (getD ns 0 0) 1) (eqb (getD ns 1 0) 1)) (s .chosen);
         }))
 
-    pub flags-short : end - place < 3
-        → run (flagged (u .subtype) (shapesFrom (u .layout .shape)) sky (commonOf h)) (bitsFrom bs end place) ≡ badly Short (shortBy (1 ∷ 1 ∷ 1 ∷ []) (end - place))
-    unfolding flagged headWith together bitsOf numbered _>>=_
-    flags-short short = together-short bs end inside place room (1 ∷ 1 ∷ 1 ∷ []) after-three short
+    abbrev flags : Program Messages.Heading
+    flags = flagged (u .subtype) (shapesFrom (u .layout .shape)) sky (commonOf h)
 
-    pub flags-there : 3 ≤ end - place
-        → run (flagged (u .subtype) (shapesFrom (u .layout .shape)) sky (commonOf h)) (bitsFrom bs end place)
-        ≡ later 3 (run (afterFlags u h (field bs place 3) sky) (bitsFrom bs end (place + 3)))
-    unfolding flagged headWith afterFlags together bitsOf fieldsAt numbered _>>=_
-    flags-there there =
-        let n = field bs place 3 in
-        let all : n ≡ field bs place 1 * 4 + (field bs (place + 1) 1 * 2 + field bs (place + 1 + 1) 1) = omega (arith, field-add bs place 1 2, field-add bs (place + 1) 1 1) in
-        let second = field-lt bs (place + 1) 1 in
-        let third = field-lt bs (place + 1 + 1) 1 in
-        let a : n / 4 ≡ field bs place 1 = omega arith in
-        let b : n / 2 % 2 ≡ field bs (place + 1) 1 = omega arith in
-        let c : n % 2 ≡ field bs (place + 1 + 1) 1 = omega arith in
-        together-there bs end inside place room (1 ∷ 1 ∷ 1 ∷ []) after-three there ∙ rw (a, b, c)
+    pub flags-short : {m : ℕ} → takenAt bs end place 3 ≡ Taken.Short m → endFrom flags bs end place ≡ badly Short (shortBy (1 ∷ 1 ∷ 1 ∷ 0 ∷ []) (end - place))
+    unfolding flagged headWith together bitsOf numbered _>>=_
+    flags-short e = three-cut at 1 1 1 after-three e
+
+    pub flags-there : {n : ℕ} → takenAt bs end place 3 ≡ Taken.Whole n → endFrom flags bs end place ≡ endFrom (afterFlags u h n sky) bs end (place + 3)
+    unfolding flagged headWith afterFlags together bitsOf partsOf numbered _>>=_
+    flags-there {n} e =
+        let b : n % 4 / 2 ≡ n / 2 % 2 = omega arith in
+        let c : n % 4 % 2 / 1 ≡ n % 2 = omega arith in
+        fields-whole at (1 ∷ 1 ∷ 1 ∷ []) after-three e ∙ rw (b, c)
+
+  -- ---- a network and its selection
+
+  module _ (sats : List Satellite) (h : Head) (shape : ℕ → List Column) where
+    -- what is left after the network, by whether it is one
+    abbrev with-bits : ℕ → List Bool → Program Selected
+    with-bits network bits = done (record { network = pos network; chosen = pick bits sats })
+
+    abbrev after-network : ℕ → Bool → Program Messages.Heading
+    after-network network some = (require some Network >> (taking (length sats) >>= with-bits network)) >>= rowed h shape
+
+    pub network-short : {m : ℕ} → takenAt bs end place 5 ≡ Taken.Short m → endFrom (networkBy sats h shape) bs end place ≡ badly Short m
+    unfolding networkBy selection numbered _>>=_
+    network-short e = number-short at 5 e (λ n. after-network n (not (eqb n 0)))
+
+    module _ {n : ℕ} (e : takenAt bs end place 5 ≡ Taken.Whole n) where
+      by-network : (b : Bool) → eqb n 0 ≡ b → endFrom (networkBy sats h shape) bs end place ≡ endFrom (after-network n (not b)) bs end (place + 5)
+      unfolding networkBy selection numbered _>>=_
+      by-network b is = number-whole at 5 e (λ n. after-network n (not (eqb n 0))) ∙ rw is
+
+      pub network-none : n ≡ 0 → endFrom (networkBy sats h shape) bs end place ≡ badly Network 0
+      unfolding require _>>_ _>>=_ endFrom run later
+      network-none nought = by-network true (eq-eqb n 0 nought)
+
+      module _ (some : n ≡ 0 → ⊥) where
+        pub network-cut : end - (place + 5) < length sats → endFrom (networkBy sats h shape) bs end place ≡ badly Short (length sats - (end - (place + 5)))
+        unfolding require _>>_ taking _>>=_
+        network-cut short = by-network false (ne-eqb n 0 some) ∙ bits-cut (after-field at 5 e) (length sats) (λ b. with-bits n b >>= rowed h shape) short
+
+        pub network-there : length sats ≤ end - (place + 5)
+            → endFrom (networkBy sats h shape) bs end place
+            ≡ well
+            (record { head = networked h (pos n); lines = satelliteLines shape (pick (spell (length sats) (field bs (place + 5) (length sats))) sats) })
+            (place + 5 + length sats)
+        unfolding require _>>_ taking rowed _>>=_
+        network-there room =
+            by-network false (ne-eqb n 0 some)
+            ∙ bits-there (after-field at 5 e) (length sats) (λ b. with-bits n b >>= rowed h shape) (omega (arith, after-field at 5 e)) ∙ done-end _ _ _ _

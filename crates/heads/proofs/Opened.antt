@@ -1,27 +1,26 @@
 -- A reading by what opens its message: number and sub type, and then its kind; or refused before that, or idle. Assumes nothing.
-use mathlib.Core.Path.{_≡_, refl, sym, ap, _∙_}
-use mathlib.Core.Bool.{Bool, true, false, cond}
+use mathlib.Core.Path.{_≡_, refl, sym, _∙_}
+use mathlib.Core.Bool.{true, false, cond}
 use mathlib.Core.List.{List}
-use Prim.Native.Nat.{ℕ, _+_, _-_, _*_, _^_, _≤_, _<_}
+use Prim.Native.Nat.{ℕ, _+_, _-_, _≤_, _<_}
 use native.Mathlib.Nat.{le-refl}
-use native.Mathlib.Decide.{decLt}
 use native.Mathlib.Omega.{arith}
 use lib.Dec.{eqb}
-use lib.ListN.{length}
-use borrow.Author.Tests.{ne-eqb, eqb-true, eqb-false}
+use borrow.Author.Tests.{ne-eqb, eqb-true}
 use Rattle.bits.specs.Places.{field}
 use Rattle.bits.proofs.Fields.{field-lt, zero-part}
 use Rattle.format.specs.declared.Refusal.{Refusal}
 use Rattle.format.specs.Masks.{Held, lent}
-use Rattle.format.specs.Programs.{Ended, well, badly, run}
+use Rattle.format.specs.declared.Refusal.the-variants.{Number}
+use Rattle.format.specs.Ends.{Within, endFrom}
+use Rattle.format.specs.Programs.{done, well, badly, run}
 use Rattle.format.specs.Reading.{idle, refused, endedAt, readFrom, bitsFrom}
 use Rattle.format.specs.Table.{table, byKind, opening, messageBy}
-use Rattle.format.proofs.Placed.{blank-from, drop-from}
-use Rattle.format.proofs.Runs.{run-bind, run-bind-badly, not-well}
+use Rattle.format.proofs.Ends.{done-end, test-began, onward, number-began, then-well, then-badly}
+use Rattle.format.proofs.Placed.{blank-from}
 use Rattle.format.proofs.Tables.{Each, end, then, each-at}
 use Rattle.heads.specs.Sorting.{OfTable}
-use Rattle.heads.proofs.Runs.{opening-short, opening-other, opening-cut, opening-there}
-use Rattle.heads.proofs.Sorted.{ended-later}
+use Rattle.heads.proofs.Sorted.{endedBy, ended-from}
 use Rattle.table.specs.declared.Kind.the-variants.{Other}
 use Rattle.table.specs.Kinds.{codeKinds, kindFor, kindBy, LaidOut}
 use Rattle.table.proofs.Tabled.{table-means}
@@ -49,45 +48,36 @@ pub tabled : (n : ℕ) → OfTable (kindFor n)
 unfolding kindFor OfTable
 tabled n = each-at Other layouts (λ _. tt) n
 
-module _ (bs : List ℕ) (end : ℕ) (inside : end ≤ 8 * length bs) (place : ℕ) (room : place ≤ end) where
+module _ {bs : List ℕ} {end place : ℕ} (at : Within bs end place) where
   -- number and sub type were read
-  pub record Opened (n taken : ℕ) : Type 0 where
-    pub size : taken ≡ 16
-    pub there : place + 16 ≤ end
+  pub record Opened (n next : ℕ) : Type 0 where
+    pub ends : next ≡ place + 16
+    pub after : Within bs end (place + 16)
     pub ours : field bs place 12 ≡ 4073
     pub small : n < 16
 
-  pub opened : (n taken : ℕ) → run opening (bitsFrom bs end place) ≡ well n taken → Opened n taken
-  opened n taken e = number (decLt (end - place) 12)
-    where
-      whole : 12 ≤ end - place → field bs place 12 ≡ 4073 → Dec (end - place < 16) → Opened n taken
-      whole some ours (yes short) = absurd (not-well _ _ n taken (sym (opening-cut bs end inside place room some ours short) ∙ e))
-      whole some ours (no there) =
-          let it = sym (opening-there bs end inside place room (omega arith) ours) ∙ e in
-          let same : field bs (place + 12) 4 ≡ n = cc in
-          let size : 16 ≡ taken = cc in
-          record { size = sym size; there = omega arith; ours = ours; small = omega (arith, field-lt bs (place + 12) 4) }
-
-      number : Dec (end - place < 12) → Opened n taken
-      number (yes short) = absurd (not-well _ _ n taken (sym (opening-short bs end inside place room short) ∙ e))
-      number (no there) = go (eqb (field bs place 12) 4073) refl
-        where
-          go : (b : Bool) → eqb (field bs place 12) 4073 ≡ b → Opened n taken
-          go true ours = whole (omega arith) (eqb-true (field bs place 12) 4073 ours) (decLt (end - place) 16)
-          go false other = absurd (not-well _ _ n taken (sym (opening-other bs end inside place room (omega arith) (eqb-false (field bs place 12) 4073 other)) ∙ e))
+  pub opened : {n next : ℕ} → endFrom opening bs end place ≡ well n next → Opened n next
+  unfolding opening
+  opened {n} {next} e =
+      let number = number-began at 12 _ e in
+      let ours = test-began bs end (place + 12) (eqb (field bs place 12) 4073) Number _ (number .1) in
+      let behind = number-began (onward at (number .0)) 4 done (ours .1) in
+      let it = sym (done-end bs end (place + 12 + 4) (field bs (place + 12) 4)) ∙ behind .1 in
+      let same : field bs (place + 12) 4 ≡ n = cc in
+      let stop : place + 12 + 4 ≡ next = cc in
+      record { ends = omega arith; after = onward at (omega (arith, behind .0)); ours = eqb-true (field bs place 12) 4073 (ours .0); small = omega (arith, field-lt bs (place + 12) 4) }
 
   module _ (held : Held) where
     -- some bit is set, then, and its kind says the rest
-    pub read-opened : (n taken : ℕ) → run opening (bitsFrom bs end place) ≡ well n taken
+    pub read-opened : {n next : ℕ} → endFrom opening bs end place ≡ well n next
         → readFrom table held place (bitsFrom bs end place) ≡ endedAt held (place + 16) (run (byKind (kindBy n (kindFor n)) held) (bitsFrom bs end (place + 16)))
-    unfolding readFrom messageBy
-    read-opened n taken e =
-        let o = opened n taken e in
-        let some = ne-eqb (field bs place (end - place)) 0 (λ none. omega (arith, o .ours, zero-part bs place end place 12 (le-refl place) (omega (arith, o .there)) none)) in
-        let ran = run-bind opening (λ s. byKind (table s) held) (bitsFrom bs end place) n taken e in
-        rw (blank-from bs end place inside room, some, ran, ended-later, drop-from bs end inside place taken, o .size, table-means n)
+    unfolding readFrom messageBy endFrom
+    read-opened {n} e =
+        let o = opened e in
+        let some = ne-eqb (field bs place (end - place)) 0 (λ none. omega (arith, o .ours, zero-part bs place end place 12 (le-refl place) (omega (arith, o .after)) none)) in
+        rw (blank-from bs end place (at .inside) (at .room), some, ended-from held place, then-well at opening (λ s. byKind (table s) held) e, o .ends, table-means n) (sym (ended-from held (place + 16) _))
 
-    pub read-unopened : (r : Refusal) (missing : ℕ) → run opening (bitsFrom bs end place) ≡ badly r missing
+    pub read-unopened : {r : Refusal} {missing : ℕ} → endFrom opening bs end place ≡ badly r missing
         → readFrom table held place (bitsFrom bs end place) ≡ cond (eqb (field bs place (end - place)) 0) (idle (lent held)) (refused r missing (lent held))
-    unfolding readFrom messageBy endedAt
-    read-unopened r missing e = rw (blank-from bs end place inside room, run-bind-badly opening (λ s. byKind (table s) held) (bitsFrom bs end place) r missing e)
+    unfolding readFrom messageBy endFrom endedBy
+    read-unopened e = rw (blank-from bs end place (at .inside) (at .room), ended-from, then-badly at opening (λ s. byKind (table s) held) e)

@@ -1,12 +1,9 @@
 // What a message says before its body: its head, the keys and the shape of its rows and where the body begins; with
 // every refusal on the way there (document 01, "Reader's order").
 ghost use mathlib.Core.Path.{_≡_};
-ghost use mathlib.Core.Bool.{true};
-ghost use Prim.Native.Nat.{_*_, _^_, _≤_, _<_};
-ghost use lib.ListN.{length};
+ghost use Prim.Native.Nat.{_^_, _≤_, _<_};
+ghost use Rattle.format.specs.Ends.{Within, endFrom};
 ghost use Rattle.format.specs.Messages as Messages;
-ghost use Rattle.format.specs.Programs.{later, run};
-ghost use Rattle.format.specs.Reading.{bitsFrom};
 ghost use Rattle.holding.specs.Held.{View, skyIn};
 ghost use Rattle.heads.specs.Heads.{commonOf, Small};
 ghost use Rattle.heads.specs.Headings.{headWith, chosenAt, Shows, saidBy, FitsHeading, networked, networkBy, afterFlags, gatedBy, underBy};
@@ -104,8 +101,8 @@ fn selection(
     numbers: Head,
     shape: usize,
 ) -> Heading
-    requires { ⌜ (n ≤ 64) × (shape < 4) × (end ≤ 8 * length (now bytes)) × (place ≤ end) × (end < 2 ^ 32) ⌝ }
-    ensures { λ r. ⌜ ((v : View) → Shows v n → saidBy v r ≡ later place (run (networkBy (v .satellites) numbers (shapeAt shape)) (bitsFrom (now (bytes .entry)) end place))) ⌝ }
+    requires { ⌜ (n ≤ 64) × (shape < 4) × Within (now bytes) end place ⌝ }
+    ensures { λ r. ⌜ ((v : View) → Shows v n → saidBy v r ≡ endFrom (networkBy (v .satellites) numbers (shapeAt shape)) (now (bytes .entry)) end place) ⌝ }
     ensures { λ r. ⌜ FitsHeading r ⌝ }
 {
     let taken = take_field(bytes, end, place, NETWORK);
@@ -136,8 +133,8 @@ fn by_flags(
     h: CommonHead,
     flags: u64,
 ) -> Heading
-    requires { ⌜ (under .subtype < 16) × (under .n ≤ 64) × (under .layout .shape ≡ 0) × (flags < 8) × Small h × (end ≤ 8 * length (now bytes)) × (place ≤ end) × (end < 2 ^ 32) ⌝ }
-    ensures { λ r. ⌜ ((v : View) → Shows v (under .n) → saidBy v r ≡ later place (run (afterFlags under h flags (skyIn v)) (bitsFrom (now (bytes .entry)) end place))) ⌝ }
+    requires { ⌜ (under .subtype < 16) × (under .n ≤ 64) × (under .layout .shape ≡ 0) × (flags < 8) × Small h × Within (now bytes) end place ⌝ }
+    ensures { λ r. ⌜ ((v : View) → Shows v (under .n) → saidBy v r ≡ endFrom (afterFlags under h flags (skyIn v)) (now (bytes .entry)) end place) ⌝ }
     ensures { λ r. ⌜ FitsHeading r ⌝ }
 {
     let shape = under.layout.shape + (flags / 2) as usize;
@@ -155,7 +152,7 @@ fn by_flags(
     Heading::Rows(numbers, Body { keys, shape }, place)
 }
 
-// Three flags.
+// Three flags, and how many bits they have.
 const FLAGS: Widths = Widths {
     first: 1,
     second: 1,
@@ -163,23 +160,25 @@ const FLAGS: Widths = Widths {
     fourth: 0,
 };
 
+const FLAG_BITS: usize = 3;
+
 // Flags, and what they say.
 fn flagged(under: Under, bytes: &[u8], end: usize, place: usize, h: CommonHead) -> Heading
-    requires { ⌜ (under .subtype < 16) × (under .n ≤ 64) × (under .layout .shape ≡ 0) × Small h × (end ≤ 8 * length (now bytes)) × (place ≤ end) × (end < 2 ^ 32) ⌝ }
-    ensures { λ r. ⌜ ((v : View) → Shows v (under .n) → saidBy v r ≡ later place (run (Messages.flagged (under .subtype) (shapesFrom (under .layout .shape)) (skyIn v) (commonOf h)) (bitsFrom (now (bytes .entry)) end place))) ⌝ }
+    requires { ⌜ (under .subtype < 16) × (under .n ≤ 64) × (under .layout .shape ≡ 0) × Small h × Within (now bytes) end place ⌝ }
+    ensures { λ r. ⌜ ((v : View) → Shows v (under .n) → saidBy v r ≡ endFrom (Messages.flagged (under .subtype) (shapesFrom (under .layout .shape)) (skyIn v) (commonOf h)) (now (bytes .entry)) end place) ⌝ }
     ensures { λ r. ⌜ FitsHeading r ⌝ }
 {
-    let taken = take_field(bytes, end, place, 3);
+    let taken = take_field(bytes, end, place, FLAG_BITS);
     match taken {
         Taken::Short(_) => Heading::Refused(Refusal::Short, short_by(FLAGS, end - place)),
-        Taken::Whole(flags) => by_flags(under, bytes, end, place + 3, h, flags),
+        Taken::Whole(flags) => by_flags(under, bytes, end, place + FLAG_BITS, h, flags),
     }
 }
 
 // The gate: nothing held, then another issue; then what follows the common head.
 fn gated(under: Under, bytes: &[u8], end: usize, place: usize, h: CommonHead) -> Heading
-    requires { ⌜ (under .subtype < 16) × (under .n ≤ 64) × LaidOut (under .layout) × Small h × (end ≤ 8 * length (now bytes)) × (place ≤ end) × (end < 2 ^ 32) ⌝ }
-    ensures { λ r. ⌜ ((v : View) → Shows v (under .n) → saidBy v r ≡ later place (run (gatedBy under (skyIn v) (commonOf h)) (bitsFrom (now (bytes .entry)) end place))) ⌝ }
+    requires { ⌜ (under .subtype < 16) × (under .n ≤ 64) × LaidOut (under .layout) × Small h × Within (now bytes) end place ⌝ }
+    ensures { λ r. ⌜ ((v : View) → Shows v (under .n) → saidBy v r ≡ endFrom (gatedBy under (skyIn v) (commonOf h)) (now (bytes .entry)) end place) ⌝ }
     ensures { λ r. ⌜ FitsHeading r ⌝ }
 {
     if !under.held {
@@ -199,8 +198,8 @@ fn gated(under: Under, bytes: &[u8], end: usize, place: usize, h: CommonHead) ->
 
 // A sub type that is read under the mask, behind its number and sub type.
 pub fn masked(under: Under, bytes: &[u8], end: usize, place: usize) -> Heading
-    requires { ⌜ (under .subtype < 16) × (under .n ≤ 64) × LaidOut (under .layout) × (end ≤ 8 * length (now bytes)) × (place ≤ end) × (end < 2 ^ 32) ⌝ }
-    ensures { λ r. ⌜ ((v : View) → Shows v (under .n) → saidBy v r ≡ later place (run (underBy under (skyIn v)) (bitsFrom (now (bytes .entry)) end place))) ⌝ }
+    requires { ⌜ (under .subtype < 16) × (under .n ≤ 64) × LaidOut (under .layout) × Within (now bytes) end place ⌝ }
+    ensures { λ r. ⌜ ((v : View) → Shows v (under .n) → saidBy v r ≡ endFrom (underBy under (skyIn v)) (now (bytes .entry)) end place) ⌝ }
     ensures { λ r. ⌜ FitsHeading r ⌝ }
 {
     let common = crate::common(bytes, end, place);
@@ -216,7 +215,7 @@ pub fn masked(under: Under, bytes: &[u8], end: usize, place: usize) -> Heading
     }
 }
 
-// Indicator, counter and size.
+// Indicator, counter and size of a packet's part, how many bits they have, and its sub type.
 const PACKET: Widths = Widths {
     first: 1,
     second: 3,
@@ -224,19 +223,23 @@ const PACKET: Widths = Widths {
     fourth: 0,
 };
 
-// Sub type 10.
+const PACKET_BITS: usize = 6;
+
+const PACKET_PART: i32 = 10;
+
+// A packet's part, which needs no mask.
 pub fn packet(bytes: &[u8], end: usize, place: usize) -> Heading
-    requires { ⌜ (end ≤ 8 * length (now bytes)) × (place ≤ end) × (end < 2 ^ 32) ⌝ }
-    ensures { λ r. ⌜ ((v : View) → saidBy v r ≡ later place (run Messages.packet (bitsFrom (now (bytes .entry)) end place))) ⌝ }
+    requires { ⌜ Within (now bytes) end place ⌝ }
+    ensures { λ r. ⌜ ((v : View) → saidBy v r ≡ endFrom Messages.packet (now (bytes .entry)) end place) ⌝ }
     ensures { λ r. ⌜ FitsHeading r ⌝ }
 {
-    let taken = take_field(bytes, end, place, 6);
+    let taken = take_field(bytes, end, place, PACKET_BITS);
     match taken {
         Taken::Short(_) => Heading::Refused(Refusal::Short, short_by(PACKET, end - place)),
         Taken::Whole(n) => {
             let size = n % 4;
             let numbers = Head {
-                subtype: 10,
+                subtype: PACKET_PART,
                 epoch: ABSENT,
                 interval: ABSENT,
                 indicator: (n / 32) as i32,
@@ -247,7 +250,7 @@ pub fn packet(bytes: &[u8], end: usize, place: usize) -> Heading
             };
             let keys = Keys::Parts(size as usize + 1);
             let shape = shapes::PACKET;
-            Heading::Rows(numbers, Body { keys, shape }, place + 6)
+            Heading::Rows(numbers, Body { keys, shape }, place + PACKET_BITS)
         }
     }
 }
@@ -262,8 +265,8 @@ pub struct Seen {
 
 // A message of a kind behind its number and sub type. A mask has no body: it is read in its own way.
 pub fn of(kind: Kind, seen: Seen, bytes: &[u8], end: usize, place: usize) -> Heading
-    requires { ⌜ (seen .subtype < 16) × (seen .n ≤ 64) × OfTable kind × (end ≤ 8 * length (now bytes)) × (place ≤ end) × (end < 2 ^ 32) ⌝ }
-    ensures { λ r. ⌜ ((v : View) → Shows v (seen .n) → saidBy v r ≡ later place (run (headingFor kind seen (skyIn v)) (bitsFrom (now (bytes .entry)) end place))) ⌝ }
+    requires { ⌜ (seen .subtype < 16) × (seen .n ≤ 64) × OfTable kind × Within (now bytes) end place ⌝ }
+    ensures { λ r. ⌜ ((v : View) → Shows v (seen .n) → saidBy v r ≡ endFrom (headingFor kind seen (skyIn v)) (now (bytes .entry)) end place) ⌝ }
     ensures { λ r. ⌜ FitsHeading r ⌝ }
 {
     match kind {

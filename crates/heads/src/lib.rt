@@ -1,13 +1,10 @@
-// What opens a message: its number and sub type, and the head that all sub types but 10 share (document 01,
+// What opens a message: its number and sub type, and the head that all but a packet's part share (document 01,
 // "Message layouts").
 pub mod heading;
 
 ghost use mathlib.Core.Path.{_≡_};
-ghost use Prim.Native.Nat.{_*_, _^_, _≤_, _<_};
-ghost use lib.ListN.{length};
+ghost use Rattle.format.specs.Ends.{Within, endFrom};
 ghost use Rattle.format.specs.Messages as Messages;
-ghost use Rattle.format.specs.Programs.{run};
-ghost use Rattle.format.specs.Reading.{bitsFrom};
 ghost use Rattle.format.specs.Table as Table;
 ghost use Rattle.heads.specs.Heads.{openingBy, headFrom, commonBy};
 use bits::read::Taken;
@@ -17,16 +14,30 @@ use bits::read::short_by;
 use bits::read::take_field;
 use format::Refusal;
 
-// How many bits number and sub type have.
-pub const OPENING: usize = 16;
+// The number that is ours; how many bits it and the sub type have, and how many sub types those can say.
+const MESSAGE: u64 = 4073;
 
-// How many bits follow the epoch in a common head.
-pub const AFTER_EPOCH: usize = 9;
+const NUMBER: usize = 12;
+
+const SUB_TYPE: usize = 4;
+
+const SUB_TYPES: u64 = 16;
+
+pub const OPENING: usize = NUMBER + SUB_TYPE;
 
 // The epoch's width: a mask's, and the hourly one of all others.
 pub const EPOCH: usize = 20;
 
 pub const HOURLY: usize = 12;
+
+// The widths of what follows the epoch in a common head, and how many bits these are.
+pub const INTERVAL: usize = 4;
+
+pub const INDICATOR: usize = 1;
+
+pub const ISSUE: usize = 4;
+
+pub const AFTER_EPOCH: usize = INTERVAL + INDICATOR + ISSUE;
 
 // The sub type, or the refusal and how many bits were missing.
 pub enum Opening {
@@ -36,21 +47,21 @@ pub enum Opening {
 
 // Both fields are read at once, whether or not the second is there, and then parted.
 pub fn open(bytes: &[u8], end: usize, place: usize) -> Opening
-    requires { ⌜ (end ≤ 8 * length (now bytes)) × (place ≤ end) × (end < 2 ^ 32) ⌝ }
-    ensures { λ r. ⌜ r ≡ openingBy (run Table.opening (bitsFrom (now (bytes .entry)) end place)) ⌝ }
+    requires { ⌜ Within (now bytes) end place ⌝ }
+    ensures { λ r. ⌜ r ≡ openingBy (endFrom Table.opening (now (bytes .entry)) end place) ⌝ }
 {
     let left = end - place;
-    if left < 12 {
-        return Opening::Refused(Refusal::Short, 12 - left);
+    if left < NUMBER {
+        return Opening::Refused(Refusal::Short, NUMBER - left);
     }
     let both = read_field(bytes, place, OPENING);
-    if both / 16 != 4073 {
+    if both / SUB_TYPES != MESSAGE {
         return Opening::Refused(Refusal::Number, 0);
     }
     if left < OPENING {
         return Opening::Refused(Refusal::Short, OPENING - left);
     }
-    Opening::SubType((both % 16) as usize)
+    Opening::SubType((both % SUB_TYPES) as usize)
 }
 
 // Epoch, interval, indicator and IOD SSR.
@@ -82,16 +93,16 @@ pub fn parted(n: u64) -> CommonHead
 // Its fields, as all but a mask have it.
 const HEAD: Widths = Widths {
     first: HOURLY,
-    second: 4,
-    third: 1,
-    fourth: 4,
+    second: INTERVAL,
+    third: INDICATOR,
+    fourth: ISSUE,
 };
 
 // The common head with an hourly epoch. Its fields are read at once, and which of them is short is asked only where one
 // is.
 pub fn common(bytes: &[u8], end: usize, place: usize) -> CommonTaken
-    requires { ⌜ (end ≤ 8 * length (now bytes)) × (place ≤ end) ⌝ }
-    ensures { λ r. ⌜ r ≡ commonBy (run (Messages.common 12) (bitsFrom (now (bytes .entry)) end place)) ⌝ }
+    requires { ⌜ Within (now bytes) end place ⌝ }
+    ensures { λ r. ⌜ r ≡ commonBy (endFrom (Messages.common 12) (now (bytes .entry)) end place) ⌝ }
 {
     let taken = take_field(bytes, end, place, HOURLY + AFTER_EPOCH);
     match taken {

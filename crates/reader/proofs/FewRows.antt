@@ -1,31 +1,34 @@
 -- A message has at most 256 rows. Assumes nothing.
 use mathlib.Core.Path.{_≡_, refl, sym, ap, _∙_, subst}
 use mathlib.Core.Bool.{Bool, true, false, cond}
-use mathlib.Core.List.{List, [], _∷_, _++_}
+use mathlib.Core.List.{List, [], _∷_}
 use mathlib.Core.Logic.{_⊎_, inl, inr}
-use Prim.Native.Nat.{ℕ, zero, suc, _+_, _-_, _*_, _^_, _≤_, _<_}
+use Prim.Native.Nat.{ℕ, zero, suc, _+_, _-_, _≤_}
 use native.Mathlib.Omega.{arith}
 use lib.Dec.{eqb}
-use Rattle.bits.specs.Places as Places
 use lib.ListN.{length, length-map}
-use Rattle.format.specs.Masks.{Held, Sky, Satellite, pick, lent}
+use Rattle.bits.specs.Places.{field}
+use Rattle.format.specs.declared.Refusal.{Refusal}
+use Rattle.format.specs.Ends.{Within, endFrom}
+use Rattle.format.specs.Masks.{Held, Sky, pick, lent}
 use Rattle.format.specs.Messages as Messages
-use Rattle.format.specs.Messages.{Heading, Common, common, Selected, selection, satelliteLines, cellLines, packetLines, packet, overSatellites, overCells, rowsAlone, flagged}
-use Rattle.format.specs.Programs.{Program, done, refuse, _>>=_, _>>_, require, Ended, well, badly, later, run, field}
-use Rattle.format.specs.Reading.{Outcome, accepted, idle, refused, bitsFrom}
+use Rattle.format.specs.Messages.{Heading, Common, common, selection, satelliteLines, cellLines, packetLines, packet, overSatellites, overCells, rowsAlone, flagged}
+use Rattle.format.specs.Programs.{Program, _>>=_, _>>_, Ended, well, badly}
+use Rattle.format.specs.Reading.{Outcome, accepted, idle, refused}
 use Rattle.format.specs.Table.{Message, opening}
 use Rattle.format.proofs.Bodies.{rows-count}
+use Rattle.format.proofs.Ends.{by-end, gave}
 use Rattle.format.proofs.Steps.{Gives, gives-done, gives-refuse, gives-require, gives-taking, gives-numbered, gives-bind, gives-itself}
 use Rattle.heads.specs.declared.heading.Seen.{Seen}
-use Rattle.heads.proofs.Opened.{read-unopened}
+use Rattle.heads.proofs.Opened.{opened, read-unopened}
 use Rattle.heads.specs.Headings.{gateBy, gatedBy, underBy}
-use Rattle.heads.specs.Sorting.{OfTable, headingFor, underWith, bodiedBy, headedAt, adoptedBy}
+use Rattle.heads.specs.Sorting.{headingFor, bodiedBy, headedAt, adoptedBy}
 use Rattle.holding.specs.declared.Holding.{Holding}
-use Rattle.holding.specs.Held.{skyIn, viewOf, satellitesHeld, cellsHeld}
+use Rattle.holding.specs.Held.{skyIn, viewOf}
 use Rattle.holding.specs.Pictures.{maskOf, sound}
 use Rattle.holding.proofs.Sounds.{sounds, few-held}
 use Rattle.reader.specs.Readings.{readAt}
-use Rattle.reader.proofs.Findings.{sky-seen, sorted-headed, sorted-adopted, read-sorted, read-stopped}
+use Rattle.reader.proofs.Findings.{sky-seen, sorted-headed, sorted-adopted, read-sorted}
 use Rattle.table.specs.declared.Kind.{Kind}
 use Rattle.table.specs.declared.Kind.the-variants as Kinds
 use Rattle.table.specs.declared.Layout.{Layout}
@@ -115,13 +118,10 @@ unfolding bodiedBy
 few-bodied held m next zero few = few
 few-bodied held m next (suc missing) few = tt
 
-few-headed : (held : Held) (bs : List ℕ) (end place : ℕ) (p : Program Heading) → Few p → FewRows (headedAt held bs end (later place (run p (bitsFrom bs end place))))
-unfolding headedAt later
-few-headed held bs end place p few = go (run p (bitsFrom bs end place)) refl
-  where
-    go : (e : Ended Heading) → run p (bitsFrom bs end place) ≡ e → FewRows (headedAt held bs end (later place e))
-    go (well d taken) ran = few-bodied held _ _ _ (rw rows-count (few .gives (bitsFrom bs end place) d taken ran))
-    go (badly r missing) ran = tt
+few-headed : (held : Held) {bs : List ℕ} {end place : ℕ} → Within bs end place → (p : Program Heading) → Few p → FewRows (headedAt held bs end (endFrom p bs end place))
+unfolding headedAt
+few-headed held {bs} {end} {place} at p few =
+    by-end (λ e. FewRows (headedAt held bs end e)) (endFrom p bs end place) (λ d next ran. few-bodied held _ _ _ (rw rows-count (gave at p few ran .1))) (λ r missing ran. tt)
 
 few-adopted : (held : Held) (place : ℕ) (e : Ended Messages.Adopted) → FewRows (adoptedBy held place e)
 unfolding adoptedBy
@@ -135,24 +135,23 @@ mask-or Kinds.Mask = inl refl
 mask-or Kinds.Packet = inr (λ e. let z : _≡_ {A = ℕ} 0 1 = cc in omega arith)
 mask-or (Kinds.Masked l) = inr (λ e. let z : _≡_ {A = ℕ} 0 1 = cc in omega arith)
 
-module _ (h : Holding) (fine : sound h ≡ true) (bs : List ℕ) (end start : ℕ) (inside : end ≤ 8 * length bs) (there : start ≤ end) where
+module _ (h : Holding) (fine : sound h ≡ true) {bs : List ℕ} {end start : ℕ} (at : Within bs end start) where
   few-sky : (length (skyIn (viewOf h) .satellites) ≤ 64) × (length (skyIn (viewOf h) .cells) ≤ 256)
-  few-sky = rw (sky-seen h fine bs end inside) (few-held (sounds h fine))
+  few-sky = rw (sky-seen h fine) (few-held (sounds h fine))
 
-  few-kind : (n taken : ℕ) → run opening (bitsFrom bs end start) ≡ well n taken → (kindFor n ≡ Kinds.Mask) ⊎ (kindFor n ≡ Kinds.Mask → ⊥) → FewRows (readAt h bs end start)
-  few-kind n taken ran (inl masked) =
-      subst FewRows (sym (read-sorted h fine bs end inside start there n taken ran ∙ sorted-adopted h fine bs end inside (start + 16) n masked)) (few-adopted (maskOf h) (start + 16) _)
-  few-kind n taken ran (inr other) =
-      subst FewRows (sym (read-sorted h fine bs end inside start there n taken ran ∙ sorted-headed h fine bs end inside (start + 16) n other))
-      (few-headed (maskOf h) bs end (start + 16) _ (heading-says (skyIn (viewOf h)) (few-sky .0) (few-sky .1) (kindFor n) _))
+  few-kind : {n next : ℕ} → endFrom opening bs end start ≡ well n next → (kindFor n ≡ Kinds.Mask) ⊎ (kindFor n ≡ Kinds.Mask → ⊥) → FewRows (readAt h bs end start)
+  few-kind {n} ran (inl masked) = subst FewRows (sym (read-sorted h fine at ran ∙ sorted-adopted (maskOf h) bs end (start + 16) n masked)) (few-adopted (maskOf h) (start + 16) _)
+  few-kind {n} ran (inr other) =
+      let after = opened at ran .after in
+      subst FewRows (sym (read-sorted h fine at ran ∙ sorted-headed h fine after n other)) (few-headed (maskOf h) after _ (heading-says (skyIn (viewOf h)) (few-sky .0) (few-sky .1) (kindFor n) _))
 
-  few-read : (e : Ended ℕ) → run opening (bitsFrom bs end start) ≡ e → FewRows (readAt h bs end start)
-  few-read (well n taken) ran = few-kind n taken ran (mask-or (kindFor n))
-  few-read (badly r missing) ran = subst FewRows (sym (read-unopened bs end inside start there (maskOf h) r missing ran)) (go (eqb (Places.field bs start (end - start)) 0))
-    where
-      go : (b : Bool) → FewRows (cond b (idle (lent (maskOf h))) (refused r missing (lent (maskOf h))))
-      go true = tt
-      go false = tt
+  few-stop : (b : Bool) (r : Refusal) (missing : ℕ) → FewRows (cond b (idle (lent (maskOf h))) (refused r missing (lent (maskOf h))))
+  few-stop true r missing = tt
+  few-stop false r missing = tt
 
   pub few-rows : (m : Message) (next : ℕ) → readAt h bs end start ≡ accepted m next → length (m .content .rows) ≤ 256
-  few-rows m next e = subst FewRows e (few-read (run opening (bitsFrom bs end start)) refl)
+  few-rows m next e =
+      subst FewRows e
+      (by-end (λ _. FewRows (readAt h bs end start)) (endFrom opening bs end start)
+      (λ n next ran. few-kind ran (mask-or (kindFor n)))
+      (λ r missing ran. subst FewRows (sym (read-unopened at (maskOf h) ran)) (few-stop (eqb (field bs start (end - start)) 0) r missing)))

@@ -1,8 +1,8 @@
 -- What is found at a place of a stretch, all that is lent being good. Assumes nothing.
-use mathlib.Core.Path.{_≡_, refl, sym, ap, _∙_, subst}
+use mathlib.Core.Path.{_≡_, refl, sym, ap, _∙_}
 use mathlib.Core.Bool.{Bool, true, false, cond}
 use mathlib.Core.List.{List, [], flatten}
-use Prim.Native.Nat.{ℕ, zero, suc, _+_, _-_, _*_, _≤_}
+use Prim.Native.Nat.{ℕ, zero, suc, _+_, _-_, _≤_}
 use native.Mathlib.Omega.{arith}
 use lib.Dec.{eqb}
 use lib.IntN.{ℤ}
@@ -12,34 +12,31 @@ use Rattle.bits.specs.Places.{field}
 use Rattle.format.specs.declared.Answer.{Answer}
 use Rattle.format.specs.declared.Answer.the-variants as Answers
 use Rattle.format.specs.declared.Refusal.{Refusal}
+use Rattle.format.specs.Ends.{Within, endFrom}
 use Rattle.format.specs.Masks.{Held, lent}
 use Rattle.format.specs.Messages as Messages
-use Rattle.format.specs.Programs.{Program, Ended, well, badly, later, run}
-use Rattle.format.specs.Reading.{Outcome, accepted, idle, refused, bitsFrom, readFrom, lentAfter, over, rowsAfter, answerOf}
-use Rattle.format.specs.Rows.{bodyWidth}
-use Rattle.format.specs.Table.{Message, table, opening}
-use Rattle.format.proofs.Placed.{length-from}
-use Rattle.format.proofs.Runs.{taken-le}
+use Rattle.format.specs.Programs.{Program, Ended, well, badly, run}
+use Rattle.format.specs.Reading.{Outcome, idle, refused, bitsFrom, lentAfter, over, rowsAfter, answerOf}
+use Rattle.format.specs.Table.{Message, opening}
+use Rattle.format.proofs.Ends.{by-end, ended-at}
 use Rattle.heads.specs.declared.heading.Heading.{Heading}
-use Rattle.heads.specs.declared.Opening.{Opening}
 use Rattle.heads.specs.declared.Opening.the-variants.{SubType}
 use Rattle.heads.specs.declared.Opening.the-variants as Openings
 use Rattle.heads.specs.Heads.{openingBy}
-use Rattle.heads.specs.Headings.{Shows, saidBy}
-use Rattle.heads.specs.Sorting.{skyHeld, seenOf, headingFor, bodiedBy, headedAt, adoptedBy}
-use Rattle.heads.proofs.Opened.{Opened, opened, read-opened, read-unopened}
+use Rattle.heads.specs.Headings.{Shows}
+use Rattle.heads.specs.Sorting.{skyHeld, headingFor, bodiedBy, headedAt, adoptedBy}
+use Rattle.heads.proofs.Opened.{opened, read-opened, read-unopened}
 use Rattle.heads.proofs.Sorted.{kind-ended, adopted-ended}
 use Rattle.holding.specs.declared.Holding.{Holding}
-use Rattle.holding.specs.Held.{skyIn, viewOf, slotsOf, stripCells}
+use Rattle.holding.specs.Held.{skyIn, viewOf}
 use Rattle.holding.specs.Pictures.{maskOf, sound}
 use Rattle.holding.proofs.Sounds.{sounds}
-use Rattle.reader.specs.declared.message.Found.{Found}
 use Rattle.reader.specs.declared.message.Found.the-variants.{Mask, Answered}
 use Rattle.reader.specs.Readings.{readAt, sortedAt, unopenedAt, foundAs, foundBy, foundAt, Begins}
 use Rattle.reader.proofs.message.Found.{the-type}
 use Rattle.table.specs.declared.Kind.{Kind}
 use Rattle.table.specs.declared.Kind.the-variants as Kinds
-use Rattle.table.specs.Kinds.{kindFor, kindBy}
+use Rattle.table.specs.Kinds.{kindFor}
 
 -- ---- how the opening ran, by what it answered
 
@@ -59,13 +56,9 @@ opened-badly (badly q rest) r missing said =
 -- ---- a heading
 
 -- it ends within the stretch
-pub begins : (bs : List ℕ) (end : ℕ) → end ≤ 8 * length bs → (place : ℕ) → place ≤ end → (p : Program Messages.Heading) → Begins end (later place (run p (bitsFrom bs end place)))
-unfolding Begins later
-begins bs end inside place room p = go (run p (bitsFrom bs end place)) refl
-  where
-    go : (e : Ended Messages.Heading) → run p (bitsFrom bs end place) ≡ e → Begins end (later place e)
-    go (well d taken) ran = omega (arith, taken-le p (bitsFrom bs end place) d taken ran, length-from bs end inside place)
-    go (badly r missing) ran = tt
+pub begins : {bs : List ℕ} {end place : ℕ} → Within bs end place → (p : Program Messages.Heading) → Begins end (endFrom p bs end place)
+unfolding Begins
+begins {bs} {end} {place} at p = by-end (Begins end) (endFrom p bs end place) (λ d next ran. ended-at at p ran .room) (λ r missing ran. tt)
 
 -- what is held is held after it
 bodied-keeps : (held : Held) (m : Message) → m .after ≡ held → (next missing : ℕ) → lentAfter (bodiedBy held m next missing) ≡ lent held
@@ -85,9 +78,14 @@ unfolding adoptedBy rowsAfter over flatten
 adopted-rows held place (well d taken) rows = refl
 adopted-rows held place (badly r missing) rows = refl
 
+-- a mask
+pub sorted-adopted : (held : Held) (bs : List ℕ) (end place n : ℕ) → kindFor n ≡ Kinds.Mask → sortedAt held bs end place n ≡ adoptedBy held place (run Messages.maskMessage (bitsFrom bs end place))
+unfolding sortedAt
+sorted-adopted held bs end place n e = rw e (adopted-ended held place n (bitsFrom bs end place))
+
 -- ---- in a stretch, under a sound holding
 
-module _ (h : Holding) (fine : sound h ≡ true) (bs : List ℕ) (end : ℕ) (inside : end ≤ 8 * length bs) where
+module _ (h : Holding) (fine : sound h ≡ true) where
   -- what it shows
   pub sky-seen : skyIn (viewOf h) ≡ skyHeld (maskOf h)
   unfolding skyIn
@@ -99,36 +97,26 @@ module _ (h : Holding) (fine : sound h ≡ true) (bs : List ℕ) (end : ℕ) (in
       record { count = ap length (s .slots) ∙ sym (s .nsat); few = s .few-satellites; strips = omega (arith, s .shaped .strips) }
 
   -- any message but a mask, by its heading
-  pub sorted-headed : (place n : ℕ) → (kindFor n ≡ Kinds.Mask → ⊥)
+  pub sorted-headed : {bs : List ℕ} {end place : ℕ} → Within bs end place → (n : ℕ) → (kindFor n ≡ Kinds.Mask → ⊥)
       → sortedAt (maskOf h) bs end place n
-      ≡ headedAt (maskOf h) bs end (later place (run (headingFor (kindFor n) (record { held = h .held; iod = h .iod; n = h .nsat; subtype = n }) (skyIn (viewOf h))) (bitsFrom bs end place)))
+      ≡ headedAt (maskOf h) bs end (endFrom (headingFor (kindFor n) (record { held = h .held; iod = h .iod; n = h .nsat; subtype = n }) (skyIn (viewOf h))) bs end place)
   unfolding sortedAt
-  sorted-headed place n other =
+  sorted-headed {bs} {end} {place} at n other =
       let s = sounds h fine in
-      kind-ended bs end inside (maskOf h) place n (h .nsat) (kindFor n) other
-      ∙ (λ i.
-      headedAt (maskOf h) bs end
-      (later place
-      (run
-      (headingFor (kindFor n) (record { held = sym (s .held) i; iod = sym (s .iod) i; n = h .nsat; subtype = n }) (sym sky-seen i))
-      (bitsFrom bs end place))))
+      kind-ended at (maskOf h) n (h .nsat) (kindFor n) other
+      ∙ (λ i. headedAt (maskOf h) bs end (endFrom (headingFor (kindFor n) (record { held = sym (s .held) i; iod = sym (s .iod) i; n = h .nsat; subtype = n }) (sym sky-seen i)) bs end place))
 
-  -- a mask
-  pub sorted-adopted : (place n : ℕ) → kindFor n ≡ Kinds.Mask → sortedAt (maskOf h) bs end place n ≡ adoptedBy (maskOf h) place (run Messages.maskMessage (bitsFrom bs end place))
-  unfolding sortedAt
-  sorted-adopted place n e = rw e (adopted-ended (maskOf h) place n (bitsFrom bs end place))
-
-  module _ (start : ℕ) (there : start ≤ end) where
+  module _ {bs : List ℕ} {end start : ℕ} (at : Within bs end start) where
     -- a sub type was read
-    pub read-sorted : (n taken : ℕ) → run opening (bitsFrom bs end start) ≡ well n taken → readAt h bs end start ≡ sortedAt (maskOf h) bs end (start + 16) n
+    pub read-sorted : {n next : ℕ} → endFrom opening bs end start ≡ well n next → readAt h bs end start ≡ sortedAt (maskOf h) bs end (start + 16) n
     unfolding sortedAt
-    read-sorted n taken e = read-opened bs end inside start there (maskOf h) n taken e
+    read-sorted e = read-opened at (maskOf h) e
 
     -- refused before that: a stop
-    pub read-stopped : (r : Refusal) (missing : ℕ) → run opening (bitsFrom bs end start) ≡ badly r missing
+    pub read-stopped : {r : Refusal} {missing : ℕ} → endFrom opening bs end start ≡ badly r missing
         → (unopenedAt bs end start r missing ≡ answerOf (readAt h bs end start)) × (lentAfter (readAt h bs end start) ≡ lent (maskOf h)) × ((rows : List ℤ) → rows ≡ rowsAfter (readAt h bs end start) rows)
     unfolding unopenedAt answerOf lentAfter rowsAfter
-    read-stopped r missing e = rw (read-unopened bs end inside start there (maskOf h) r missing e) (go (eqb (field bs start (end - start)) 0))
+    read-stopped {r} {missing} e = rw (read-unopened at (maskOf h) e) (go (eqb (field bs start (end - start)) 0))
       where
         go : (b : Bool)
             → (cond b Answers.Idle (Answers.Refused r missing) ≡ answerOf (cond b (idle (lent (maskOf h))) (refused r missing (lent (maskOf h)))))
@@ -166,20 +154,19 @@ module _ (h : Holding) (fine : sound h ≡ true) (bs : List ℕ) (end : ℕ) (in
 
     pub found-mask : tagOf the-type (foundAt h bs end start) ≡ 0 → FoundMask
     unfolding openingBy foundBy
-    found-mask = go (run opening (bitsFrom bs end start)) refl
-      where
-        go : (e : Ended ℕ) → run opening (bitsFrom bs end start) ≡ e → tagOf the-type (foundBy (openingBy e) (readAt h bs end start)) ≡ 0 → FoundMask
-        go (well n taken) ran tag =
-            let o = opened bs end inside start there n taken ran in
-            record { room = o .there; adopts = read-sorted n taken ran ∙ sorted-adopted (start + 16) n (mask-found (kindFor n) (readAt h bs end start) tag) }
-        go (badly r missing) ran tag = absurd (omega arith)
+    found-mask =
+        by-end (λ e. tagOf the-type (foundBy (openingBy e) (readAt h bs end start)) ≡ 0 → FoundMask) (endFrom opening bs end start)
+        (λ n next ran tag. record {
+          room = opened at ran .after .room;
+          adopts = read-sorted ran ∙ sorted-adopted (maskOf h) bs end (start + 16) n (mask-found (kindFor n) (readAt h bs end start) tag);
+        })
+        (λ r missing ran tag. absurd (omega arith))
 
     pub found-answer : (a : Answer) → foundAt h bs end start ≡ Answered a → FoundAnswer a
     unfolding openingBy foundBy
-    found-answer a = go (run opening (bitsFrom bs end start)) refl
-      where
-        go : (e : Ended ℕ) → run opening (bitsFrom bs end start) ≡ e → foundBy (openingBy e) (readAt h bs end start) ≡ Answered a → FoundAnswer a
-        go (well n taken) ran said =
-            let it = answer-found (kindFor n) (readAt h bs end start) a said in
-            record { says = it .0; keeps = ap lentAfter (read-sorted n taken ran ∙ sorted-headed (start + 16) n (it .1)) ∙ headed-keeps (maskOf h) bs end _ }
-        go (badly r missing) ran said = record { says = cc; keeps = read-stopped r missing ran .1 }
+    found-answer a =
+        by-end (λ e. foundBy (openingBy e) (readAt h bs end start) ≡ Answered a → FoundAnswer a) (endFrom opening bs end start)
+        (λ n next ran said.
+        let it = answer-found (kindFor n) (readAt h bs end start) a said in
+        record { says = it .0; keeps = ap lentAfter (read-sorted ran ∙ sorted-headed (opened at ran .after) n (it .1)) ∙ headed-keeps (maskOf h) bs end _ })
+        (λ r missing ran said. record { says = cc; keeps = read-stopped ran .1 })

@@ -10,6 +10,7 @@ use lib.ListN.{length}
 use borrow.Author.Tests.{leb-true}
 use denote.Enum.Declared.{tagOf}
 use Rattle.format.specs.declared.Refusal.the-variants.{Room, Place, Value}
+use Rattle.format.specs.Ends.{Within}
 use Rattle.format.specs.Good.{isHolding}
 use Rattle.format.specs.Masks.{Lent, heldIn}
 use Rattle.format.specs.Reading.{rowRoom, Outcome, refused, bitsFrom, readFrom, placed, lentTests, readingBy}
@@ -23,6 +24,9 @@ use Rattle.reader.specs.declared.Verdict.the-variants.{Good, Refused}
 use Rattle.reader.specs.Readings.{lentBy, outcomeAt, testsOf, testedBy, readAt}
 use Rattle.reader.proofs.Verdict.{the-type}
 use Rattle.reader.proofs.Lents.{is-holding, sound-lent}
+
+pub within : {bs : List ℕ} {end start : ℕ} → Inside bs end start → Within bs end start
+within i = record { inside = i .lent; short = omega (arith, i .limit); room = i .there }
 
 -- ---- by the tests
 

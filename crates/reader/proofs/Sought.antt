@@ -1,7 +1,7 @@
 -- What is found at a place, by the tests of what is lent. Assumes nothing.
 use mathlib.Core.Path.{_≡_, refl, sym, ap, _∙_}
 use mathlib.Core.List.{List}
-use Prim.Native.Nat.{ℕ, _+_}
+use Prim.Native.Nat.{ℕ}
 use lib.IntN.{ℤ}
 use lib.ListN.{length}
 use native.Mathlib.Omega.{arith}
@@ -11,13 +11,13 @@ use Rattle.format.specs.declared.Answer.the-variants as Answers
 use Rattle.format.specs.declared.Refusal.{Refusal}
 use Rattle.format.specs.Reading.{lentAfter, rowsAfter, answerOf}
 use Rattle.holding.specs.declared.Holding.{Holding}
-use Rattle.reader.specs.declared.message.Found.the-variants.{Mask, Answered}
+use Rattle.reader.specs.declared.message.Found.the-variants.{Answered}
 use Rattle.reader.specs.declared.Verdict.{Verdict}
 use Rattle.reader.specs.declared.Verdict.the-variants.{Good, Refused}
 use Rattle.reader.specs.Readings.{lentBy, outcomeAt, testsOf, testedBy, readAt, foundAt, soughtBy, soughtAt}
-use Rattle.reader.proofs.Findings.{FoundMask, FoundAnswer, found-mask, found-answer}
+use Rattle.reader.proofs.Findings.{FoundMask, found-mask, found-answer}
 use Rattle.reader.proofs.Lents.{sound-lent}
-use Rattle.reader.proofs.Outcomes.{Fine, tested-outcome, outcome-tested, all-good, begun}
+use Rattle.reader.proofs.Outcomes.{within, Fine, tested-outcome, outcome-tested, all-good, begun}
 use Rattle.reader.proofs.message.Found.{the-type}
 
 module _ (h : Holding) (bs : List ℕ) (end start : ℕ) (rows : List ℤ) where
@@ -43,7 +43,7 @@ module _ (h : Holding) (bs : List ℕ) (end start : ℕ) (rows : List ℤ) where
   pub record SoughtMask : Type 0 where
     pub fine : Fine h bs end start (length rows)
     pub reads : outcomeAt h bs end start rows ≡ readAt h bs end start
-    pub found : FoundMask h (fine .held) bs end (fine .inside .lent) start (fine .inside .there)
+    pub found : FoundMask h (fine .held) (within (fine .inside))
 
   pub record SoughtAnswer (a : Answer) : Type 0 where
     pub says : a ≡ answerOf (outcomeAt h bs end start rows)
@@ -56,7 +56,7 @@ module _ (h : Holding) (bs : List ℕ) (end start : ℕ) (rows : List ℤ) where
       go : (v : Verdict) → verdict ≡ v → tagOf the-type (soughtBy v (foundAt h bs end start)) ≡ 0 → SoughtMask
       go Good e tag =
           let fine = good-lent e in
-          record { fine = fine; reads = good-reads e; found = found-mask h (fine .held) bs end (fine .inside .lent) start (fine .inside .there) tag }
+          record { fine = fine; reads = good-reads e; found = found-mask h (fine .held) (within (fine .inside)) tag }
       go (Refused r) e tag = absurd (omega arith)
 
   pub sought-answer : (a : Answer) → soughtAt h bs end start (length rows) ≡ Answered a → SoughtAnswer a
@@ -66,7 +66,7 @@ module _ (h : Holding) (bs : List ℕ) (end start : ℕ) (rows : List ℤ) where
       go : (v : Verdict) → verdict ≡ v → soughtBy v (foundAt h bs end start) ≡ Answered a → SoughtAnswer a
       go Good e said =
           let fine = good-lent e in
-          let it = found-answer h (fine .held) bs end (fine .inside .lent) start (fine .inside .there) a said in
+          let it = found-answer h (fine .held) (within (fine .inside)) a said in
           record { says = it .says ∙ sym (ap answerOf (good-reads e)); keeps = ap lentAfter (good-reads e) ∙ it .keeps ∙ sym (sound-lent h (fine .held)) }
       go (Refused r) e said =
           let it = refused-lent r e in

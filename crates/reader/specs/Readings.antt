@@ -1,14 +1,14 @@
 -- What the code answers to a reading, by crate format's outcome of it.
 use mathlib.Core.Bool.{cond}
 use mathlib.Core.List.{List}
-use Prim.Native.Nat.{ℕ, _+_, _-_, _≤_}
+use Prim.Native.Nat.{ℕ, _-_, _≤_}
 use lib.Dec.{eqb}
 use lib.IntN.{ℤ}
-use lib.ListN.{length}
 use Rattle.bits.specs.Places.{field}
 use Rattle.format.specs.declared.Answer.{Answer}
 use Rattle.format.specs.declared.Answer.the-variants as Answers
 use Rattle.format.specs.declared.Refusal.{Refusal}
+use Rattle.format.specs.Ends.{endFrom}
 use Rattle.format.specs.Good.{isHolding}
 use Rattle.format.specs.Masks.{Held, Lent, stray, lent}
 use Rattle.format.specs.Messages.{Heading}
@@ -83,7 +83,7 @@ foundBy (SubType n) o = foundAs (kindFor n) o
 foundBy (Openings.Refused r missing) o = Answered (answerOf o)
 
 abbrev pub foundAt : Holding → List ℕ → ℕ → ℕ → Found
-foundAt h bytes end start = foundBy (openingBy (run opening (bitsFrom bytes end start))) (readAt h bytes end start)
+foundAt h bytes end start = foundBy (openingBy (endFrom opening bytes end start)) (readAt h bytes end start)
 
 -- and by the tests of what is lent before that
 unfoldable pub soughtBy : Verdict → Found → Found

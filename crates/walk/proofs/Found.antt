@@ -31,7 +31,7 @@ use Rattle.reader.proofs.message.Found.{the-type}
 use Rattle.walk.specs.declared.Tally.{Tally}
 use Rattle.walk.specs.declared.Halt.{Halt}
 use Rattle.walk.specs.Standing.{Stand, standAt, Stands, walkedFrom, rowsFrom, Gone, Halts, Came}
-use Rattle.walk.proofs.Going.{nextStand, Goes, next-goes, stop-lent, stop-walked, stop-numbers}
+use Rattle.walk.proofs.Going.{nextStand, Goes, within, next-goes, stop-lent, stop-walked, stop-numbers}
 
 -- an answer that is a message: the outcome is
 pub record Accepted (o : Outcome) (next n : ℕ) : Type 0 where
@@ -88,8 +88,8 @@ module _ (bytes : List ℕ) (end : ℕ) (s : Stand) (stands : Stands bytes end s
 
   -- ---- any message but a mask, answered
 
-  answered : (a : Answer) → found ≡ Answered a → FoundAnswer (s .holding) (stands .held) bytes end (stands .lent) (s .tally .place) (stands .there) a
-  answered a e = found-answer (s .holding) (stands .held) bytes end (stands .lent) (s .tally .place) (stands .there) a e
+  answered : (a : Answer) → found ≡ Answered a → FoundAnswer (s .holding) (stands .held) (within bytes end s stands) a
+  answered a e = found-answer (s .holding) (stands .held) (within bytes end s stands) a e
 
   -- a message: the walk goes on behind it
   pub under-goes : (head : Head) (next n : ℕ) → found ≡ Answered (Answers.Message head next n)
@@ -106,8 +106,8 @@ module _ (bytes : List ℕ) (end : ℕ) (s : Stand) (stands : Stands bytes end s
   -- ---- a mask
 
   module _ (masked : tagOf the-type found ≡ 0) where
-    pub mask-found : FoundMask (s .holding) (stands .held) bytes end (stands .lent) (s .tally .place) (stands .there)
-    mask-found = found-mask (s .holding) (stands .held) bytes end (stands .lent) (s .tally .place) (stands .there) masked
+    pub mask-found : FoundMask (s .holding) (stands .held) (within bytes end s stands)
+    mask-found = found-mask (s .holding) (stands .held) (within bytes end s stands) masked
 
     module _ (r : Reading) (said : r ≡ readingOf (s .holding) outcome) where
       -- adopted: the walk goes on behind it, under the mask made

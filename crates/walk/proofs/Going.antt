@@ -8,6 +8,7 @@ use native.Mathlib.Omega.{arith}
 use lib.IntN.{ℤ}
 use lib.ListN.{length}
 use borrow.Author.Tests.{le-leb}
+use Rattle.format.specs.Ends.{Within}
 use Rattle.format.specs.Good.{good, isHolding}
 use Rattle.format.specs.Masks.{Lent, lent, heldIn}
 use Rattle.format.specs.Reading.{stretchLimit, rowRoom, Outcome, accepted, placed, lentTests, readingBy, reading, answerOf, lentAfter, rowsAfter}
@@ -75,6 +76,9 @@ module _ (bytes : List ℕ) (end : ℕ) (s : Stand) (stands : Stands bytes end s
   good-held : good (maskOf (s .holding)) ≡ true
   good-held = sounds (s .holding) (stands .held) .good-held
 
+  pub within : Within bytes end (s .tally .place)
+  within = record { inside = stands .lent; short = omega (arith, stands .limit); room = stands .there }
+
   -- the reading there tests nothing that was not tested
   there : reading held bytes end (s .tally .place) (s .rows) ≡ found
   unfolding readingBy lentTests verdict placed isHolding heldIn
@@ -107,7 +111,7 @@ module _ (bytes : List ℕ) (end : ℕ) (s : Stand) (stands : Stands bytes end s
     next-stands : (s .tally .place < next) → (next ≤ end) → Stands bytes end t
     unfolding rowsAfter
     next-stands past inside =
-        let few = few-rows (s .holding) (stands .held) bytes end (s .tally .place) (stands .lent) (stands .there) m next said in
+        let few = few-rows (s .holding) (stands .held) within m next said in
         record {
           held = sound-picture (m .after) good-after;
           lent = stands .lent;

@@ -8,10 +8,10 @@ use lib.IntN.{ℤ}
 use mir.Facts.{toZ-pos}
 use mir.Syntax.{w32}
 use Rattle.adoption.proofs.ManySystems.{first-mask}
-use Rattle.adoption.proofs.Ends.{after-field, fits, number-whole, number-short}
+use Rattle.format.proofs.Ends.{after-field, fits, number-whole, number-short}
 use Rattle.adoption.specs.Adoptions.{adoptionBy, maskIn}
 use Rattle.adoption.specs.declared.Adoption.{Adoption}
-use Rattle.adoption.specs.Ends.{endFrom}
+use Rattle.format.specs.Ends.{endFrom}
 use Rattle.adoption.specs.Growing.{HasMask}
 use Rattle.adoption.specs.Stages.{withSystems, afterCommonHead}
 use Rattle.bits.specs.declared.read.Taken.the-variants.{Whole}

@@ -1,53 +1,38 @@
--- `heads::open` meets its contract: each return is one of the ways in which the opening runs. Assumes nothing.
-use mathlib.Core.Path.{_≡_, _∙_, sym, ap}
-use Prim.Native.Nat.{ℕ, _/_, _%_}
+-- `heads::open` meets its contract: each return is one of the ways in which the opening ends. Assumes nothing.
+use Prim.Native.Nat.{_/_}
 use native.Mathlib.Omega.{arith}
 use borrow.Author.Needs.{needs}
-use Rattle.bits.specs.Places.{field}
-use Rattle.heads.specs.declared.Opening.the-variants.{SubType}
+use borrow.Author.Tests.{eq-eqb, ne-eqb}
+use Rattle.format.proofs.Ends.{number-cut}
+use Rattle.format.specs.Table.{opening}
 use Rattle.heads.specs.Heads.{openingBy}
-use Rattle.heads.proofs.Parts.{number-part, type-part}
-use Rattle.heads.proofs.Runs.{opening-short, opening-other, opening-cut, opening-there}
+use Rattle.heads.proofs.Runs.{number-end, type-cut, type-end}
 use Rattle.heads.proofs.open.Statement.{statement}
 use Rattle.heads.proofs.open.Tie as tie
 
 returns : tie.Need-returns
-unfolding openingBy
-returns c =
-    let s = c .before .before in
-    let x = s .args in
-    rw (opening-short (x .bytes .now) (x .end) (s .pre .0) (x .place) (omega arith) (omega arith))
-
-module _ (c : tie.After-read-field) where
-  abbrev start : tie.Start
-  start = c .before .before .before
-
-  number : c .read-field .result / 16 ≡ field (start .args .bytes .now) (start .args .place) 12
-  number = ap (λ (n : ℕ). n / 16) (c .read-field .ensures) ∙ number-part (start .args .bytes .now) (start .args .place)
+unfolding openingBy opening
+returns c = rw (number-cut (c .before .before .pre) 12 _ (c .if1 .taken))
 
 returns-2 : tie.Need-returns-2
 unfolding openingBy
 returns-2 c =
-    let s = start (c .before) in
-    let x = s .args in
-    rw (opening-other (x .bytes .now) (x .end) (s .pre .0) (x .place) (omega arith) (omega arith) (λ e. c .if2 .taken (number (c .before) ∙ e)))
+    let r = c .before in
+    rw (number-end (r .before .before .before .pre) (r .read-field .ensures) (omega arith), ne-eqb (r .read-field .result / 16) 4073 (c .if2 .taken))
 
 returns-3 : tie.Need-returns-3
 unfolding openingBy
 returns-3 c =
-    let p = c .before .before in
-    let s = start p in
-    let x = s .args in
-    rw (opening-cut (x .bytes .now) (x .end) (s .pre .0) (x .place) (omega arith) (omega arith) (sym (number p) ∙ c .before .if2 .left) (omega arith))
+    let r = c .before .before in
+    let at = r .before .before .before .pre in
+    rw (number-end at (r .read-field .ensures) (omega arith), eq-eqb (r .read-field .result / 16) 4073 (c .before .if2 .left), type-cut at (r .read-field .ensures) (omega arith) (omega arith))
 
 returns-4 : tie.Need-returns-4
 unfolding openingBy
 returns-4 c =
-    let p = c .before .before in
-    let s = start p in
-    let x = s .args in
-    let kind = ap (λ (n : ℕ). n % 16) (p .read-field .ensures) ∙ type-part (x .bytes .now) (x .place) in
-    rw (opening-there (x .bytes .now) (x .end) (s .pre .0) (x .place) (omega arith) (omega arith) (sym (number p) ∙ c .before .if2 .left)) (ap SubType kind)
+    let r = c .before .before in
+    let at = r .before .before .before .pre in
+    rw (number-end at (r .read-field .ensures) (omega arith), eq-eqb (r .read-field .result / 16) 4073 (c .before .if2 .left), type-end at (r .read-field .ensures) (omega arith))
 
 pub open-spec : {M : Type 1} → statement M
 open-spec =

@@ -7,17 +7,17 @@ use borrow.Author.Needs.{needs}
 use lib.ListN.{replicate}
 use Rattle.adoption.proofs.Adding.{strips-count}
 use Rattle.adoption.proofs.CellsMade.{plain-made}
-use Rattle.adoption.proofs.Ends.{after-field, fits, number-whole, number-short}
+use Rattle.format.proofs.Ends.{after-field, fits, number-whole, number-short}
 use Rattle.adoption.proofs.Holds.{holds, refused-held}
 use Rattle.adoption.specs.Adoptions.{maskIn, grownBy}
-use Rattle.adoption.specs.Ends.{Within, endFrom}
+use Rattle.format.specs.Ends.{Within, endFrom}
 use Rattle.adoption.specs.Growing.{settled}
 use Rattle.adoption.specs.Stages.{masksBy, tested, cellsBy}
 use Rattle.bits.specs.declared.read.Taken.the-variants.{Whole}
 use Rattle.bits.specs.Short.{takenAt}
 use Rattle.format.specs.declared.Refusal.the-variants.{Short}
 use Rattle.format.specs.Masks.{System}
-use Rattle.format.specs.Messages.{systemCells}
+use Rattle.format.specs.Messages.{BothMasks, systemCells}
 use Rattle.format.specs.Programs.{Program}
 use Rattle.holding.specs.Building.{withStrips}
 use Rattle.holding.specs.declared.Holding.{Holding}
@@ -38,14 +38,17 @@ module _ (c : tie.After-known-told2) where
   after : Within (s .args .bytes .now) (s .args .end) (s .args .place + 1)
   after = after-field (s .pre .1) 1 there
 
+  abbrev both : BothMasks
+  both = masksBy (s .args .m .satellites) (s .args .m .signals)
+
   ends : (n : ℕ) → flag ≡ n
       → let x = s .args in
-      endFrom (systemCells (maskIn (x .h) .systems) (x .id) (masksBy (x .satellites) (x .signals))) (x .bytes .now) (x .end) (x .place)
-      ≡ endFrom (cellsBy (maskIn (x .h) .systems) (x .id) (masksBy (x .satellites) (x .signals)) n) (x .bytes .now) (x .end) (x .place + 1)
+      endFrom (systemCells (maskIn (x .h) .systems) (x .m .id) both) (x .bytes .now) (x .end) (x .place)
+      ≡ endFrom (cellsBy (maskIn (x .h) .systems) (x .m .id) both n) (x .bytes .now) (x .end) (x .place + 1)
   unfolding systemCells cellsBy tested
   ends n is =
       let x = s .args in
-      let cells : ℕ → Program System = cellsBy (maskIn (x .h) .systems) (x .id) (masksBy (x .satellites) (x .signals)) in
+      let cells : ℕ → Program System = cellsBy (maskIn (x .h) .systems) (x .m .id) both in
       number-whole (s .pre .1) 1 there cells ∙ ap (λ (f : ℕ). endFrom (cells f) (x .bytes .now) (x .end) (x .place + 1)) is
 
 returns : tie.Need-returns
@@ -75,9 +78,9 @@ returns-3 c =
     let p = c .before .before .before .before in
     let s = s p in
     let x = s .args in
-    let strips = c .before .all-strips .ensures ∙ ap (λ (n : ℕ). withStrips (x .h) (replicate n (x .signals))) (c .before .before .count .ensures) in
-    c .settle .ensures ∙ ap (λ (g : Holding). settled (x .h) g (x .id) (x .satellites) (x .signals) false (x .place + 1)) strips
-    ∙ plain-made (s .pre .0) (x .id) (x .signals) (s .fits .signals .fits) (after p) ∙ ap (grownBy (maskIn (x .h))) (sym (ends p 0 (c .before .before .before .if1 .left)))
+    let strips = c .before .all-strips .ensures ∙ ap (λ (n : ℕ). withStrips (x .h) (replicate n (x .m .signals))) (c .before .before .count .ensures) in
+    c .settle .ensures ∙ ap (λ (g : Holding). settled (x .h) g (x .m .id) (x .m .satellites) (x .m .signals) false (x .place + 1)) strips
+    ∙ plain-made (s .pre .0) (x .m .id) (x .m .signals) (s .good .1 .1 .1 .1 .0 .1 .1 .1 .1 .0 .1) (after p) ∙ ap (grownBy (maskIn (x .h))) (sym (ends p 0 (c .before .before .before .if1 .left)))
 
 pub read-cells-spec : {M : Type 1} → statement M
 read-cells-spec =

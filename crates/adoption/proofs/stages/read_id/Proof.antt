@@ -7,9 +7,9 @@ use native.Mathlib.Omega.{arith}
 use borrow.Author.Needs.{needs}
 use borrow.Author.Tests.{le-leb, lt-leb}
 use lib.ListN.{take}
-use Rattle.adoption.proofs.Ends.{fits, number-short}
+use Rattle.format.proofs.Ends.{fits, number-short}
 use Rattle.adoption.proofs.StageEnds.{id-end}
-use Rattle.adoption.specs.Ends.{endFrom}
+use Rattle.format.specs.Ends.{endFrom}
 use Rattle.adoption.specs.Stages.{endNamed}
 use Rattle.bits.specs.declared.read.Taken.the-variants.{Whole}
 use Rattle.bits.specs.Short.{takenAt}

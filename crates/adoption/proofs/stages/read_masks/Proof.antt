@@ -7,9 +7,9 @@ use borrow.Author.Needs.{needs}
 use borrow.Author.Tests.{le-leb, lt-leb, not-true, not-false}
 use lib.Count.{ones, ones-le}
 use lib.Dec.{leb}
-use Rattle.adoption.proofs.Ends.{after-field, fits, bits-short}
+use Rattle.format.proofs.Ends.{after-field, fits, bits-short}
 use Rattle.adoption.proofs.StageEnds.{satellites-end}
-use Rattle.adoption.specs.Ends.{endFrom}
+use Rattle.format.specs.Ends.{endFrom}
 use Rattle.adoption.specs.Stages.{endMasked, FitsMasked, signalsAfter}
 use Rattle.bits.specs.BitLists.{spell}
 use Rattle.bits.specs.declared.read.Taken.the-variants.{Whole}

@@ -4,7 +4,7 @@ use Prim.Native.Nat.{_^_, _<_}
 use native.Mathlib.Omega.{arith}
 use borrow.Author.Needs.{needs}
 use borrow.Author.Tests.{not-true, not-false}
-use Rattle.adoption.proofs.Ends.{fits, bits-short}
+use Rattle.format.proofs.Ends.{fits, bits-short}
 use Rattle.adoption.proofs.StageEnds.{signals-end}
 use Rattle.adoption.specs.Stages.{endMasked, FitsMasked, signalsAfter}
 use Rattle.bits.specs.BitLists.{spell}

@@ -7,7 +7,7 @@ use native.Mathlib.Numerals.{add-one}
 use native.Mathlib.Omega.{arith}
 use borrow.Author.Needs.{needs}
 use Rattle.adoption.proofs.ManySystems.{answer, none-more, one-refused, one-fine}
-use Rattle.adoption.specs.Ends.{Within}
+use Rattle.format.specs.Ends.{Within}
 use Rattle.adoption.specs.Growing.{HasMask}
 use Rattle.adoption.proofs.systems.all_systems.Statement.{statement}
 use Rattle.adoption.proofs.systems.all_systems.Tie as tie

@@ -4,14 +4,15 @@ use mathlib.Core.List.{List}
 use Prim.Native.Nat.{ℕ, _<_}
 use native.Mathlib.Omega.{arith}
 use borrow.Author.Needs.{needs}
-use borrow.Author.Tests.{leb-true}
-use Rattle.adoption.proofs.Ends.{ended-at, gave, then-well, then-badly}
+use borrow.Author.Tests.{leb-true, not-true}
+use Rattle.format.proofs.Ends.{ended-at, gave, then-well, then-badly}
 use Rattle.adoption.proofs.Holds.{holds, systems-count, ids-named, refused-held}
-use Rattle.adoption.proofs.StageEnds.{id-gives, masks-give}
 use Rattle.adoption.specs.Adoptions.{maskIn, grownBy}
-use Rattle.adoption.specs.Ends.{Within, endFrom}
+use Rattle.format.specs.Ends.{Within, endFrom}
 use Rattle.adoption.specs.Growing.{HasRoom}
 use Rattle.adoption.specs.Stages.{endNamed, masksBy, endMasked, FitsMasked}
+use Rattle.format.proofs.Makes.{id-gives, masks-give}
+use Rattle.format.proofs.Sames.{and-true}
 use Rattle.format.specs.Assigned.{known}
 use Rattle.format.specs.Masks.{System, mask}
 use Rattle.format.specs.Messages.{idsOf, systemId, systemMasks, systemCells, system}
@@ -78,8 +79,8 @@ module _ (c : tie.After-known-told2) where
   new : (id < 5) × (t .args .h .count < 5)
   unfolding known
   new =
-      let it = gave (t .pre .1) (systemId (idsOf (before t))) (id-gives (idsOf (before t))) fine .1 in
-      (omega (arith, leb-true id 4 (it .0)), omega (arith, systems-count (t .args .h) (held t), room-for (maskIn (t .args .h)) id (held t .good-held) (it .0) (it .1)))
+      let it = and-true (known id) _ (gave (t .pre .1) (systemId (idsOf (before t))) (id-gives (idsOf (before t))) fine .1 .0) in
+      (omega (arith, leb-true id 4 (it .0)), omega (arith, systems-count (t .args .h) (held t), room-for (maskIn (t .args .h)) id (held t .good-held) (it .0) (not-true _ (it .1))))
 
 -- what the answer to the masks says
 returns-2 : tie.Need-returns-2
@@ -106,7 +107,7 @@ module _ (c : tie.After-known-told4) where
   unfolding FitsMasked
   room =
       let whole = rw (c .before .satellites .given .1) at (c .before .before .before .read-masks .ensures .1) in
-      let few = gave (there p) (systemMasks (t p .args .h .nsat) (id p)) (masks-give (t p .args .h .nsat) (id p)) both .1 in
+      let few = leb-true _ 64 (gave (there p) (systemMasks (t p .args .h .nsat) (id p)) (masks-give (t p .args .h .nsat) (id p)) both .1 .0 .few) in
       record { has-mask = t p .pre .0; slot = new p .1; strips = rw (ones-places 40 sats 0 whole) few; whole = whole }
 
 returns-3 : tie.Need-returns-3

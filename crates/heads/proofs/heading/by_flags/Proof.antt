@@ -1,23 +1,18 @@
 -- `heads::heading::by_flags` meets its contract. Assumes nothing.
-use mathlib.Core.Path.{_≡_, _∙_, sym, ap, refl}
-use mathlib.Core.Bool.{Bool}
-use mathlib.Core.List.{List}
-use Prim.Native.Nat.{ℕ, zero, suc, _+_, _-_, _*_, _/_, _%_, _≤_, _<_}
-use native.Mathlib.Nat.{add-zero}
+use mathlib.Core.Path.{_≡_, ap, refl}
+use Prim.Native.Nat.{ℕ, zero, suc, _+_, _/_, _%_, _<_}
 use native.Mathlib.Omega.{arith}
 use borrow.Author.Needs.{needs}
-use borrow.Author.Tests.{eq-eqb, ne-eqb}
 use lib.Dec.{eqb}
-use lib.IntN.{ℤ, pos}
+use lib.IntN.{pos}
 use mir.Facts.{toZ-pos}
 use mir.Syntax.{w32}
 use Rattle.bits.specs.BitLists.{digit}
 use Rattle.format.specs.declared.Head.{Head}
-use Rattle.format.specs.Messages as Messages
 use Rattle.format.specs.Messages.{selection, satelliteLines, headOf}
-use Rattle.format.specs.Masks.{Sky, Satellite}
-use Rattle.format.specs.Programs.{Program, _>>=_, well, later, run}
-use Rattle.format.specs.Reading.{bitsFrom}
+use Rattle.format.specs.Masks.{Sky}
+use Rattle.format.specs.Programs.{done, _>>=_}
+use Rattle.format.proofs.Ends.{done-end}
 use Rattle.holding.specs.Held.{skyIn}
 use Rattle.format.specs.Rows.{absent}
 use Rattle.heads.specs.declared.CommonHead.{CommonHead}
@@ -52,10 +47,9 @@ module _ (u : Under) (h : CommonHead) (flags : ℕ) (small : flags < 8) (sky : S
   unfolding afterFlags networkBy rowed networked headWith headOf
   with-network one = rw (one, by-half (u .layout .shape) flags small)
 
-  without : flags % 2 ≡ 0 → (l : List Bool)
-      → run (afterFlags u h flags sky) l ≡ well (record { head = numbers; lines = satelliteLines (shapeAt (u .layout .shape + flags / 2)) (sky .satellites) }) 0
-  unfolding afterFlags selection _>>=_ run headWith
-  without none l = rw (none, by-half (u .layout .shape) flags small)
+  without : flags % 2 ≡ 0 → afterFlags u h flags sky ≡ done (record { head = numbers; lines = satelliteLines (shapeAt (u .layout .shape + flags / 2)) (sky .satellites) })
+  unfolding afterFlags selection _>>=_ headWith
+  without none = rw (none, by-half (u .layout .shape) flags small)
 
 -- the head that was made
 module _ (c : tie.After-head) where
@@ -75,18 +69,18 @@ returns c =
     let x = s .args in
     let one : x .flags % 2 ≡ 1 = omega (arith, c .before .if1 .taken) in
     let said = rw (made p) at (c .selection .ensures .0) in (
-      λ v shows. said v shows ∙ ap (λ (q : Program Messages.Heading). later (x .place) (run q (bitsFrom (x .bytes .now) (x .end) (x .place)))) (sym (with-network (x .under) (x .h) (x .flags) (s .pre .3) (skyIn v) one)),
+      λ v shows. rw (with-network (x .under) (x .h) (x .flags) (s .pre .3) (skyIn v) one) (said v shows),
       c .selection .ensures .1,
     )
 
 returns-2 : tie.Need-returns-2
-unfolding saidBy FitsHeading FitsKeys linesIn linesOver skyIn later
+unfolding saidBy FitsHeading FitsKeys linesIn linesOver skyIn
 returns-2 c =
     let p = c .before in
     let s = start p in
     let x = s .args in (
       λ v shows.
-          rw (made p, without (x .under) (x .h) (x .flags) (s .pre .3) (skyIn v) (c .if1 .left) _, pick-all (v .satellites) (omega (arith, shows .count, shows .few)), add-zero (x .place)),
+          rw (made p, without (x .under) (x .h) (x .flags) (s .pre .3) (skyIn v) (c .if1 .left), done-end, pick-all (v .satellites) (omega (arith, shows .count, shows .few))),
       omega (arith, s .pre .2, s .pre .3),
     )
 

@@ -1,69 +1,47 @@
 -- `heads::heading::flagged` meets its contract. Assumes nothing.
 use mathlib.Core.Path.{_≡_, _∙_, sym, ap}
-use mathlib.Core.List.{List, [], _∷_}
-use Prim.Native.Nat.{ℕ, _+_, _-_, _≤_, _<_}
-use native.Mathlib.Omega.{arith}
 use borrow.Author.Needs.{needs}
-use Rattle.bits.specs.Places.{field}
-use Rattle.bits.specs.Short.{bitsOf, widthsOf}
-use Rattle.bits.proofs.Fields.{field-lt}
-use Rattle.bits.proofs.Short.{field-whole, field-short}
+use Rattle.bits.specs.declared.read.Taken.the-variants.{Whole}
+use Rattle.bits.specs.Short.{takenAt, bitsOf, widthsOf}
+use Rattle.bits.proofs.Short.{field-short}
+use Rattle.format.proofs.Ends.{after-field, fits}
 use Rattle.format.specs.declared.Refusal.the-variants as Refusal
-use Rattle.format.specs.Programs.{badly, later}
-use Rattle.format.proofs.Runs.{later-later}
+use Rattle.format.specs.Programs.{badly}
 use Rattle.heads.specs.Headings.{saidBy, FitsHeading}
-use Rattle.heads.proofs.Headed.{three-short, flags-short, flags-there}
+use Rattle.heads.proofs.Headed.{flags-short, flags-there}
 use Rattle.heads.proofs.heading.flagged.Statement.{statement}
 use Rattle.heads.proofs.heading.flagged.Tie as tie
 use Rattle.holding.specs.Held.{skyIn}
 
 -- the three flags, where they are there
 module _ (c : tie.After-known-told) where
-  abbrev start : tie.Start
-  start = c .before .before .before .before .before
+  abbrev s : tie.Start
+  s = c .before .before .before .before .before
 
-  three : (3 ≤ start .args .end - start .args .place) × (c .before .taken .given .0 .0 ≡ field (start .args .bytes .now) (start .args .place) 3)
-  three =
-      field-whole (start .args .bytes .now) (start .args .end) (start .args .place) 3 (c .before .taken .given .0 .0)
-      (sym (c .before .before .before .take-field .ensures) ∙ c .before .taken .given .1)
+  there : takenAt (s .args .bytes .now) (s .args .end) (s .args .place) 3 ≡ Whole (c .before .taken .given .0 .0)
+  there = sym (c .before .before .before .take-field .ensures) ∙ c .before .taken .given .1
 
 by-flags-requires : tie.Need-by-flags-requires
 by-flags-requires c κs =
-    let s = start c in
-    (s .pre .0, s .pre .1, s .pre .2, omega (arith, three c .1, field-lt (s .args .bytes .now) (s .args .place) 3), s .pre .3, s .pre .4, omega (arith, three c .0), s .pre .6)
-
--- they are not there
-short : (c : tie.After-enum-told) → c .before .before .before .before .args .end - c .before .before .before .before .args .place < 3
-short c =
-    let took = c .before .before in
-    let x = took .before .before .args in
-    field-short (x .bytes .now) (x .end) (x .place) 3 (c .enum-told .given .0 .0) (sym (took .take-field .ensures) ∙ c .enum-told .given .1) .0
+    let p = s c .pre in
+    (p .0, p .1, p .2, fits (p .4) 3 (there c), p .3, after-field (p .4) 3 (there c))
 
 short-by-requires : tie.Need-short-by-requires
 unfolding bitsOf widthsOf
-short-by-requires c κs = short c
+short-by-requires c κs = field-short _ _ _ 3 _ (sym (c .before .before .take-field .ensures) ∙ c .enum-told .given .1) .0
 
 returns : tie.Need-returns
-unfolding saidBy FitsHeading widthsOf later
+unfolding saidBy FitsHeading widthsOf
 returns c =
-    let s = c .before .before .before .before .before in
-    let x = s .args in (
-      λ v shows.
-          rw (flags-short (x .bytes .now) (x .end) (s .pre .4) (x .place) (s .pre .5) (x .under) (x .h) (skyIn v) (short (c .before)))
-          (ap (badly Refusal.Short) (c .short-by .ensures ∙ three-short 1 1 1 (x .end - x .place))),
-      tt,
-    )
+    let took = c .before .before .before in
+    let s = took .before .before in
+    let e = sym (took .take-field .ensures) ∙ c .before .enum-told .given .1 in
+    (λ v shows. ap (badly Refusal.Short) (c .short-by .ensures) ∙ sym (flags-short (s .pre .4) (s .args .under) (s .args .h) (skyIn v) e), tt)
 
 returns-2 : tie.Need-returns-2
 returns-2 c =
-    let p = c .before in
-    let s = start p in
-    let x = s .args in
-    let said = rw (three p .1) at (c .by-flags .ensures .0) in (
-      λ v shows.
-          said v shows ∙ sym (ap (later (x .place)) (flags-there (x .bytes .now) (x .end) (s .pre .4) (x .place) (s .pre .5) (x .under) (x .h) (skyIn v) (three p .0)) ∙ later-later (x .place) 3 _),
-      c .by-flags .ensures .1,
-    )
+    let s = s (c .before) in
+    (λ v shows. c .by-flags .ensures .0 v shows ∙ sym (flags-there (s .pre .4) (s .args .under) (s .args .h) (skyIn v) (there (c .before))), c .by-flags .ensures .1)
 
 pub flagged-spec : {M : Type 1} → statement M
 flagged-spec =

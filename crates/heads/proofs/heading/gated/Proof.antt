@@ -1,20 +1,17 @@
 -- `heads::heading::gated` meets its contract. Assumes nothing.
-use mathlib.Core.Path.{_≡_, _∙_, sym, ap, refl}
+use mathlib.Core.Path.{_≡_, ap, refl}
 use mathlib.Core.Bool.{Bool, true, false, cond}
-use mathlib.Core.List.{List}
 use Prim.Native.Nat.{ℕ, _≤_, _<_}
-use native.Mathlib.Nat.{add-zero}
 use native.Mathlib.Omega.{arith}
 use borrow.Author.Needs.{needs}
 use borrow.Author.Tests.{eq-eqb, ne-eqb, not-true, not-false}
-use lib.Dec.{eqb}
 use Rattle.format.specs.declared.Refusal.the-variants.{NoMask, OtherIssue}
 use Rattle.format.specs.Masks.{Sky}
 use Rattle.format.specs.Messages as Messages
 use Rattle.format.specs.Messages.{rowsAlone, flagged, overSatellites, overCells}
-use Rattle.format.specs.Programs.{Program, done, refuse, _>>=_, _>>_, require, well, badly, later, run}
-use Rattle.format.specs.Reading.{bitsFrom}
-use Rattle.format.specs.Rows.{absent}
+use Rattle.format.proofs.Ends.{done-end}
+use Rattle.format.specs.Ends.{endFrom}
+use Rattle.format.specs.Programs.{refuse, _>>=_, _>>_, require, later, run}
 use Rattle.heads.specs.declared.CommonHead.{CommonHead}
 use Rattle.heads.specs.declared.heading.Under.{Under}
 use Rattle.heads.specs.Heads.{commonOf}
@@ -30,17 +27,17 @@ use Rattle.table.specs.Bodies.{linesIn, linesOver, FitsKeys}
 use Rattle.table.specs.Shapes.{shapesFrom}
 use Rattle.table.specs.Kinds.{keysFor, LaidOut, overBy, programBy}
 
-module _ (u : Under) (h : CommonHead) (sky : Sky) (l : List Bool) where
+module _ (u : Under) (h : CommonHead) (sky : Sky) where
   -- the gate's three ways
-  none-held : u .held ≡ false → run (gatedBy u sky (commonOf h)) l ≡ badly NoMask 0
-  unfolding gatedBy gateBy _>>_ _>>=_ run
+  none-held : u .held ≡ false → gatedBy u sky (commonOf h) ≡ refuse NoMask
+  unfolding gatedBy gateBy _>>_ _>>=_
   none-held e = rw e
 
-  another : u .held ≡ true → (h .iod ≡ u .iod → ⊥) → run (gatedBy u sky (commonOf h)) l ≡ badly OtherIssue 0
-  unfolding gatedBy gateBy commonOf require _>>_ _>>=_ run
+  another : u .held ≡ true → (h .iod ≡ u .iod → ⊥) → gatedBy u sky (commonOf h) ≡ refuse OtherIssue
+  unfolding gatedBy gateBy commonOf require _>>_ _>>=_
   another e differs = rw (e, ne-eqb (h .iod) (u .iod) differs)
 
-  passed : u .held ≡ true → h .iod ≡ u .iod → run (gatedBy u sky (commonOf h)) l ≡ run (programBy (u .subtype) (u .layout) sky (commonOf h)) l
+  passed : u .held ≡ true → h .iod ≡ u .iod → gatedBy u sky (commonOf h) ≡ programBy (u .subtype) (u .layout) sky (commonOf h)
   unfolding gatedBy gateBy commonOf require _>>_ _>>=_
   passed e same = rw (e, eq-eqb (h .iod) (u .iod) same)
 
@@ -83,44 +80,44 @@ alone-fits l laid = go (l .cells) (laid .of-satellites) (laid .of-cells)
     go false few some = few refl
 
 returns : tie.Need-returns
-unfolding saidBy FitsHeading later
+unfolding saidBy FitsHeading endFrom run later
 returns c =
     let x = c .before .before .before .args in
-    (λ v shows. rw (none-held (x .under) (x .h) (skyIn v) _ (not-true (x .under .held) (c .if1 .taken))), tt)
+    (λ v shows. rw (none-held (x .under) (x .h) (skyIn v) (not-true (x .under .held) (c .if1 .taken))), tt)
 
 returns-2 : tie.Need-returns-2
-unfolding saidBy FitsHeading later
+unfolding saidBy FitsHeading endFrom run later
 returns-2 c =
     let x = c .before .before .before .before .before .before .args in
-    (λ v shows. rw (another (x .under) (x .h) (skyIn v) _ (not-false (x .under .held) (c .before .before .before .if1 .left)) (c .if2 .taken)), tt)
+    (λ v shows. rw (another (x .under) (x .h) (skyIn v) (not-false (x .under .held) (c .before .before .before .if1 .left)) (c .if2 .taken)), tt)
 
 flagged-requires : tie.Need-flagged-requires
 flagged-requires c κs =
     let s = c .before .before .before .before .before .before .before in
-    (s .pre .0, s .pre .1, s .pre .2 .with-flags (c .if3 .taken) .1, s .pre .3, s .pre .4, s .pre .5, s .pre .6)
+    (s .pre .0, s .pre .1, s .pre .2 .with-flags (c .if3 .taken) .1, s .pre .3, s .pre .4)
 
 returns-3 : tie.Need-returns-3
 returns-3 c =
     let x = c .before .before .before .before .before .before .before .before .args in (
       λ v shows.
-          rw (passed (x .under) (x .h) (skyIn v) (bitsFrom (x .bytes .now) (x .end) (x .place)) (not-false (x .under .held) (c .before .before .before .before .before .if1 .left)) (c .before .before .if2 .left), with-flags (x .under .subtype) (x .under .layout) (skyIn v) (commonOf (x .h)) (c .before .if3 .taken))
+          rw (passed (x .under) (x .h) (skyIn v) (not-false (x .under .held) (c .before .before .before .before .before .if1 .left)) (c .before .before .if2 .left), with-flags (x .under .subtype) (x .under .layout) (skyIn v) (commonOf (x .h)) (c .before .if3 .taken))
           (c .flagged .ensures .0 v shows),
       c .flagged .ensures .1,
     )
 
 returns-4 : tie.Need-returns-4
-unfolding saidBy FitsHeading linesIn rowsAlone headWith later run
+unfolding saidBy FitsHeading linesIn rowsAlone headWith
 returns-4 c =
     let s = c .before .before .before .before .before .before .before .before .before in
     let x = s .args in (
       λ v shows.
           rw (
-            passed (x .under) (x .h) (skyIn v) (bitsFrom (x .bytes .now) (x .end) (x .place)) (not-false (x .under .held) (c .before .before .before .before .before .before .if1 .left)) (c .before .before .before .if2 .left),
+            passed (x .under) (x .h) (skyIn v) (not-false (x .under .held) (c .before .before .before .before .before .before .if1 .left)) (c .before .before .before .if2 .left),
             alone (x .under .subtype) (x .under .layout) (skyIn v) (commonOf (x .h)) (c .before .before .if3 .left),
             c .before .head .ensures,
             c .over .ensures,
             alone-lines (x .under .layout) v (x .under .n) shows,
-            add-zero (x .place),
+            done-end,
           ),
       rw (c .over .ensures) (alone-fits (x .under .layout) (s .pre .2)),
     )

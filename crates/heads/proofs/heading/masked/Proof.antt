@@ -1,62 +1,45 @@
 -- `heads::heading::masked` meets its contract. Assumes nothing.
-use mathlib.Core.Path.{_≡_, _∙_, sym, ap}
-use Prim.Native.Nat.{ℕ, _+_, _-_, _≤_, _<_}
+use mathlib.Core.Path.{_≡_, _∙_, sym}
+use Prim.Native.Nat.{_+_}
 use native.Mathlib.Omega.{arith}
 use borrow.Author.Needs.{needs}
-use Rattle.format.specs.declared.Refusal.the-variants as Refusal
+use Rattle.format.proofs.Ends.{onward, then-well, then-badly}
 use Rattle.format.specs.Messages.{common}
-use Rattle.format.specs.Programs.{later}
-use Rattle.format.proofs.Placed.{drop-from}
-use Rattle.heads.specs.declared.CommonHead.{CommonHead}
-use Rattle.format.specs.Reading.{bitsFrom}
-use Rattle.format.proofs.Runs.{run-bind, run-bind-badly, later-later}
-use Rattle.heads.specs.Heads.{commonOf}
 use Rattle.heads.specs.Headings.{saidBy, FitsHeading, gatedBy, underBy}
-use Rattle.heads.proofs.Commons.{Read, common-whole, common-cut}
+use Rattle.heads.proofs.Commons.{Read, common-whole, common-short}
 use Rattle.heads.proofs.heading.masked.Statement.{statement}
 use Rattle.heads.proofs.heading.masked.Tie as tie
 use Rattle.holding.specs.Held.{skyIn}
 
 -- the common head, where it is there
 module _ (c : tie.After-known-told) where
-  abbrev start : tie.Start
-  start = c .before .before .before .before .before
+  abbrev s : tie.Start
+  s = c .before .before .before .before .before
 
-  abbrev common-head : CommonHead
-  common-head = c .before .common2 .given .0 .0
-
-  whole : Read (start .args .bytes .now) (start .args .end) (start .pre .3) (start .args .place) (start .pre .4) 12 (omega arith) common-head
-  whole =
-      common-whole (start .args .bytes .now) (start .args .end) (start .pre .3) (start .args .place) (start .pre .4) 12 (omega arith) common-head
-      (sym (c .before .before .before .common .ensures) ∙ c .before .common2 .given .1)
+  whole : Read (s .pre .3) 12 (c .before .common2 .given .0 .0)
+  whole = common-whole (s .pre .3) 12 (omega arith) (sym (c .before .before .before .common .ensures) ∙ c .before .common2 .given .1)
 
 gated-requires : tie.Need-gated-requires
 gated-requires c κs =
-    let s = start c in
-    (s .pre .0, s .pre .1, s .pre .2, whole c .small, s .pre .3, omega (arith, whole c .there), s .pre .5)
+    let p = s c .pre in
+    (p .0, p .1, p .2, whole c .small, onward (p .3) (omega (arith, whole c .after)))
 
 returns : tie.Need-returns
 unfolding underBy
 returns c =
     let p = c .before in
-    let x = start p .args in
-    let bs = x .bytes .now in
+    let x = s p .args in
     let next : x .place + 12 + 9 ≡ x .place + 21 = omega arith in
-    let said = rw next at (c .gated .ensures .0) in (
-      λ v shows.
-          let ran = run-bind (common 12) (gatedBy (x .under) (skyIn v)) (bitsFrom bs (x .end) (x .place)) (commonOf (common-head p)) 21 (whole p .ran) in
-          said v shows ∙ sym (ap (later (x .place)) (ran ∙ rw (drop-from bs (x .end) (start p .pre .3) (x .place) 21)) ∙ later-later (x .place) 21 _),
-      c .gated .ensures .1,
-    )
+    let said = rw next at (c .gated .ensures .0) in
+    (λ v shows. said v shows ∙ sym (then-well (s p .pre .3) (common 12) (gatedBy (x .under) (skyIn v)) (whole p .ran)), c .gated .ensures .1)
 
 returns-2 : tie.Need-returns-2
-unfolding underBy saidBy FitsHeading later
+unfolding underBy saidBy FitsHeading
 returns-2 c =
-    let s = c .before .before .before .before .before in
-    let x = s .args in
-    let bs = x .bytes .now in
-    let cut = common-cut bs (x .end) (s .pre .3) (x .place) (s .pre .4) 12 (omega arith) (c .before .common3 .given .0 .0) (sym (c .before .before .before .common .ensures) ∙ c .before .common3 .given .1) in
-    (λ v shows. rw (run-bind-badly (common 12) (gatedBy (x .under) (skyIn v)) (bitsFrom bs (x .end) (x .place)) Refusal.Short _ cut), tt)
+    let took = c .before .before .before in
+    let s = took .before .before in
+    let cut = common-short (s .pre .3) 12 (sym (took .common .ensures) ∙ c .before .common3 .given .1) in
+    (λ v shows. sym (then-badly (s .pre .3) (common 12) (gatedBy (s .args .under) (skyIn v)) cut), tt)
 
 pub masked-spec : {M : Type 1} → statement M
 masked-spec =

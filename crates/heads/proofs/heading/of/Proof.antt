@@ -1,10 +1,9 @@
 -- `heads::heading::of` meets its contract. Assumes nothing.
-use mathlib.Core.Path.{_≡_, sym, ap}
 use borrow.Author.Needs.{needs}
+use Rattle.format.specs.Ends.{endFrom}
 use Rattle.format.specs.Programs.{later, run}
-use Rattle.format.proofs.Runs.{badly-later}
 use Rattle.heads.specs.Headings.{saidBy, FitsHeading}
-use Rattle.heads.specs.Sorting.{OfTable, headingFor, underWith}
+use Rattle.heads.specs.Sorting.{OfTable, headingFor}
 use Rattle.heads.proofs.heading.of.Statement.{statement}
 use Rattle.heads.proofs.heading.of.Tie as tie
 use Rattle.table.specs.declared.Kind.the-variants.{Masked}
@@ -19,14 +18,14 @@ masked-requires : tie.Need-masked-requires
 masked-requires c κs =
     let pre = c .before .before .before .before .pre in
     let known = c .before .kind .given in
-    (pre .0, pre .1, laid (known .0 .0) (rw (known .1) at (pre .2)), pre .3, pre .4, pre .5)
+    (pre .0, pre .1, laid (known .0 .0) (rw (known .1) at (pre .2)), pre .3)
 
 returns : tie.Need-returns
-unfolding saidBy FitsHeading headingFor run later
+unfolding saidBy FitsHeading headingFor endFrom run later
 returns c = (λ v shows. rw (c .enum-told .given .1), tt)
 
 returns-2 : tie.Need-returns-2
-unfolding saidBy FitsHeading headingFor run later
+unfolding saidBy FitsHeading headingFor endFrom run later
 returns-2 c = (λ v shows. rw (c .enum-told2 .given .1), tt)
 
 returns-3 : tie.Need-returns-3

@@ -1,8 +1,10 @@
 -- `reader::message::adopted` meets its contract. Assumes nothing.
 use mathlib.Core.Path.{_∙_, sym, ap}
+use native.Mathlib.Omega.{arith}
 use borrow.Author.Needs.{needs}
 use Rattle.adoption.specs.declared.Adoption.{Adoption}
 use Rattle.adoption.specs.declared.Made.{Made}
+use Rattle.format.specs.Ends.{endFrom}
 use Rattle.format.specs.Messages.{maskMessage}
 use Rattle.format.specs.Programs.{run}
 use Rattle.format.specs.Reading.{bitsFrom}
@@ -11,7 +13,7 @@ use Rattle.reader.proofs.message.adopted.Statement.{statement}
 use Rattle.reader.proofs.message.adopted.Tie as tie
 
 returns : tie.Need-returns
-unfolding madeReading answerBy
+unfolding madeReading answerBy endFrom
 returns c =
     let s = c .before .before .before .before .before .before in
     let x = s .args in
@@ -20,6 +22,7 @@ returns c =
     ap (λ (m : Made). record { answer = answerBy m; holding = a .holding }) (sym (c .before .made .given .1)) ∙ ap madeReading (c .before .before .before .before .adopt .ensures) ∙ adopted-by (x .holding) (s .pre .3) (x .place) e
 
 returns-2 : tie.Need-returns-2
+unfolding endFrom
 returns-2 c =
     let a = c .before .before .before .before in
     let x = a .before .before .args in
@@ -27,9 +30,5 @@ returns-2 c =
 
 pub adopted-spec : {M : Type 1} → statement M
 adopted-spec =
-    tie.close (tie.spec
-    (λ c κs. search needs)
-    (λ c. search needs)
-    (λ c. search needs)
-    returns
-    returns-2)
+    tie.close
+    (tie.spec (λ c κs. let p = c .before .pre in record { inside = p .0; short = omega (arith, p .1); room = p .2 }) (λ c. search needs) (λ c. search needs) returns returns-2)

@@ -5,9 +5,10 @@ use Prim.Native.Nat.{ℕ, _+_}
 use native.Mathlib.Omega.{arith}
 use borrow.Author.Needs.{needs}
 use denote.Enum.Declared.{tagOf}
+use Rattle.format.specs.Ends.{Within, endFrom}
 use Rattle.format.specs.Messages as Messages
-use Rattle.format.specs.Programs.{Ended, well, badly, later, run}
-use Rattle.format.specs.Reading.{Outcome, bitsFrom, answerOf, rowsAfter}
+use Rattle.format.specs.Programs.{Ended, well}
+use Rattle.format.specs.Reading.{Outcome, answerOf, rowsAfter}
 use Rattle.format.specs.Table.{opening}
 use Rattle.heads.specs.Heads.{openingBy}
 use Rattle.heads.specs.Headings.{saidBy}
@@ -43,6 +44,9 @@ not-mask k keys e = go (rw e at keys)
     go (inr (inl z)) = omega arith
     go (inr (inr z)) = omega arith
 
+within : (s : tie.Start) → Within (s .args .bytes .now) (s .args .end) (s .args .start)
+within s = record { inside = s .pre .1; short = omega (arith, s .pre .2); room = s .pre .3 }
+
 -- a sub type was read
 module _ (c : tie.After-kind-of) where
   abbrev o : tie.After-opening2
@@ -54,11 +58,11 @@ module _ (c : tie.After-kind-of) where
   abbrev n : ℕ
   n = o .opening2 .given .0 .0
 
-  ran : (taken : ℕ) × (run opening (bitsFrom (s .args .bytes .now) (s .args .end) (s .args .start)) ≡ well n taken)
+  ran : (next : ℕ) × (endFrom opening (s .args .bytes .now) (s .args .end) (s .args .start) ≡ well n next)
   ran = opened-well _ n (sym (o .before .before .open .ensures) ∙ o .opening2 .given .1)
 
-  told : Opened (s .args .bytes .now) (s .args .end) (s .pre .1) (s .args .start) (s .pre .3) n (ran .0)
-  told = opened (s .args .bytes .now) (s .args .end) (s .pre .1) (s .args .start) (s .pre .3) n (ran .0) (ran .1)
+  told : Opened (within s) n (ran .0)
+  told = opened (within s) (ran .1)
 
   of-table : c .kind-of .result ≡ kindFor n
   of-table = c .kind-of .ensures
@@ -70,9 +74,7 @@ returns c =
     let k = c .before .before in
     let x = s k .args in
     let masked : kindFor (n k) ≡ Kinds.Mask = sym (of-table k) ∙ c .enum-told .given .1 in
-    let same =
-    read-sorted (x .holding) (s k .pre .0) (x .bytes .now) (x .end) (s k .pre .1) (x .start) (s k .pre .3) (n k) (ran k .0) (ran k .1)
-    ∙ sorted-adopted (x .holding) (s k .pre .0) (x .bytes .now) (x .end) (s k .pre .1) (x .start + 16) (n k) masked in
+    let same = read-sorted (x .holding) (s k .pre .0) (within (s k)) (ran k .1) ∙ sorted-adopted (maskOf (x .holding)) (x .bytes .now) (x .end) (x .start + 16) (n k) masked in
     (rw (ran k .1, masked), adopted-rows (maskOf (x .holding)) (x .start + 16) _ (x .rows .now) ∙ ap (λ (w : Outcome). rowsAfter w (x .rows .now)) (sym same))
 
 -- any other message has a heading
@@ -80,7 +82,7 @@ of-requires : tie.Need-of-requires
 of-requires c κs =
     let k = c .before in
     let p = s k .pre in
-    (told k .small, sounds (s k .args .holding) (p .0) .few-satellites, rw (of-table k) (tabled (n k)), p .1, told k .there, omega (arith, p .2))
+    (told k .small, sounds (s k .args .holding) (p .0) .few-satellites, rw (of-table k) (tabled (n k)), told k .after)
 
 module _ (c : tie.After-of) where
   abbrev k : tie.After-kind-of
@@ -94,24 +96,21 @@ module _ (c : tie.After-of) where
 
   abbrev headed : Kind → Ended Messages.Heading
   headed q =
-      later (s k .args .start + 16)
-      (run (headingFor q (record { held = h .held; iod = h .iod; n = h .nsat; subtype = n k }) (skyIn (viewOf h))) (bitsFrom (s k .args .bytes .now) (s k .args .end) (s k .args .start + 16)))
+      endFrom (headingFor q (record { held = h .held; iod = h .iod; n = h .nsat; subtype = n k }) (skyIn (viewOf h))) (s k .args .bytes .now) (s k .args .end) (s k .args .start + 16)
 
   said : saidBy (viewOf h) (c .of .result) ≡ headed (kindFor (n k))
-  said = c .of .ensures .0 (viewOf h) (shows h (s k .pre .0) (s k .args .bytes .now) (s k .args .end) (s k .pre .1)) ∙ ap headed (of-table k)
+  said = c .of .ensures .0 (viewOf h) (shows h (s k .pre .0)) ∙ ap headed (of-table k)
 
   reads : headedAt (maskOf h) (s k .args .bytes .now) (s k .args .end) (saidBy (viewOf h) (c .of .result)) ≡ readAt h (s k .args .bytes .now) (s k .args .end) (s k .args .start)
   reads =
       ap (headedAt (maskOf h) (s k .args .bytes .now) (s k .args .end)) said
-      ∙ sym (read-sorted h (s k .pre .0) (s k .args .bytes .now) (s k .args .end) (s k .pre .1) (s k .args .start) (s k .pre .3) (n k) (ran k .0) (ran k .1)
-      ∙ sorted-headed h (s k .pre .0) (s k .args .bytes .now) (s k .args .end) (s k .pre .1) (s k .args .start + 16) (n k) other)
+      ∙ sym (read-sorted h (s k .pre .0) (within (s k)) (ran k .1) ∙ sorted-headed h (s k .pre .0) (told k .after) (n k) other)
 
 body-of-requires : tie.Need-body-of-requires
 body-of-requires c κs =
     let q = c .before in
     let p = s (k q) .pre in
-    let x = s (k q) .args in
-    (p .0, q .of .ensures .1, rw (said q) (begins (x .bytes .now) (x .end) (p .1) (x .start + 16) (told (k q) .there) _), p .1, p .2, p .4)
+    (p .0, q .of .ensures .1, rw (said q) (begins (told (k q) .after) _), p .1, p .2, p .4)
 
 -- refused before that: a stop
 returns-2 : tie.Need-returns-2
@@ -121,7 +120,7 @@ returns-2 c =
     let t = r .before .before .before .before in
     let x = t .args in
     let e = opened-badly _ _ _ (sym (r .before .before .open .ensures) ∙ r .opening .given .1) in
-    let stop = read-stopped (x .holding) (t .pre .0) (x .bytes .now) (x .end) (t .pre .1) (x .start) (t .pre .3) _ _ e in
+    let stop = read-stopped (x .holding) (t .pre .0) (within t) e in
     (ap Answered (c .unopened .ensures ∙ stop .0) ∙ rw e, stop .2 (x .rows .now))
 
 returns-3 : tie.Need-returns-3
@@ -137,4 +136,4 @@ returns-3 c =
 pub find-spec : {M : Type 1} → statement M
 find-spec =
     tie.close
-    (tie.spec (λ c κs. search needs) (λ c. search needs) (λ c κs. search needs) (λ c. search needs) (λ c κs. search needs) (λ c. search needs) returns (λ c. search needs) of-requires body-of-requires returns-2 (λ c. search needs) returns-3)
+    (tie.spec (λ c κs. within (c .before)) (λ c. search needs) (λ c κs. search needs) (λ c. search needs) (λ c κs. search needs) (λ c. search needs) returns (λ c. search needs) of-requires body-of-requires returns-2 (λ c. search needs) returns-3)

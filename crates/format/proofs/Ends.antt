@@ -3,26 +3,27 @@ use mathlib.Core.Path.{_≡_, refl, sym, ap, _∙_}
 use mathlib.Core.Bool.{Bool, true, false, cond}
 use mathlib.Core.List.{List}
 use Prim.Native.Nat.{ℕ, _+_, _-_, _^_, _≤_, _<_}
-use native.Mathlib.Nat.{add-zero}
+use native.Mathlib.Nat.{add-zero, mod-eq-of-lt}
+use native.Mathlib.Decide.{decLt}
 use native.Mathlib.Omega.{arith}
 use lib.ListN.{take}
-use Rattle.adoption.specs.Ends.{Within, endFrom}
+use Rattle.format.specs.Ends.{Within, endFrom}
+use Rattle.bits.proofs.BitLists.{number-spell}
 use Rattle.bits.proofs.Fields.{field-lt}
 use Rattle.bits.proofs.Short.{field-whole, field-short}
-use Rattle.bits.specs.BitLists.{spell}
+use Rattle.bits.specs.BitLists.{number, spell}
 use Rattle.bits.specs.declared.read.Taken.the-variants as Taken
 use Rattle.bits.specs.Places.{field}
 use Rattle.bits.specs.Short.{takenAt}
-use Rattle.format.proofs.Placed.{length-from, drop-from, numbered-there, numbered-short, taking-there, taking-short}
-use Rattle.format.proofs.Runs.{later-later, run-bind, run-bind-badly, taken-le}
+use Rattle.format.proofs.Placed.{length-from, take-from, drop-from}
+use Rattle.format.proofs.Runs.{run-field, run-short, later-later, run-bind, run-bind-badly, taken-le, not-well}
 use Rattle.format.proofs.Steps.{Gives}
 use Rattle.format.specs.declared.Refusal.{Refusal}
 use Rattle.format.specs.declared.Refusal.the-variants.{Short}
-use Rattle.format.specs.Programs as Programs
-use Rattle.format.specs.Programs.{Program, done, refuse, _>>=_, _>>_, taking, numbered, require, Ended, well, badly, later, run}
+use Rattle.format.specs.Programs.{Program, done, _>>=_, _>>_, taking, numbered, require, Ended, well, badly, later, run}
 use Rattle.format.specs.Reading.{bitsFrom}
 
--- ---- a program's end, a test, three programs one after the other
+-- ---- a program's end, a test
 
 module _ {A : Type 0} (bs : List ℕ) (end place : ℕ) where
   pub done-end : (a : A) → endFrom (done a) bs end place ≡ well a place
@@ -33,6 +34,11 @@ module _ {A : Type 0} (bs : List ℕ) (end place : ℕ) where
   unfolding endFrom require _>>_ _>>=_ run later
   test-end true r p = refl
   test-end false r p = refl
+
+  pub test-began : (t : Bool) (r : Refusal) (p : Program A) {a : A} {next : ℕ} → endFrom (require t r >> p) bs end place ≡ well a next → (t ≡ true) × (endFrom p bs end place ≡ well a next)
+  unfolding endFrom require _>>_ _>>=_ run later
+  test-began true r p e = (refl, e)
+  test-began false r p {a} {next} e = absurd (not-well r 0 a next e)
 
 -- ---- what a run that ended well says
 
@@ -95,12 +101,30 @@ module _ {bs : List ℕ} {end place : ℕ} (at : Within bs end place) where
 
   module _ {A : Type 0} (w : ℕ) where
     pub bits-there : (k : List Bool → Program A) → place + w ≤ end → endFrom (taking w >>= k) bs end place ≡ endFrom (k (spell w (field bs place w))) bs end (place + w)
-    unfolding endFrom
-    bits-there k room = ap (later place) (taking-there bs end (at .inside) place w k room) ∙ later-later place w _
+    unfolding endFrom taking _>>=_
+    bits-there k room =
+        ap (later place) (run-field w k (bitsFrom bs end place) (rw (length-from bs end (at .inside) place) (omega arith)) ∙ rw (take-from bs end (at .inside) place w room, drop-from bs end (at .inside) place w))
+        ∙ later-later place w _
 
     pub bits-cut : (k : List Bool → Program A) → end - place < w → endFrom (taking w >>= k) bs end place ≡ badly Short (w - (end - place))
-    unfolding endFrom later
-    bits-cut k short = ap (later place) (taking-short bs end (at .inside) place w k short)
+    unfolding endFrom taking _>>=_ later
+    bits-cut k short = ap (later place) (run-short w k (bitsFrom bs end place) (rw (length-from bs end (at .inside) place) short)) ∙ rw (length-from bs end (at .inside) place)
+
+    pub number-there : (k : ℕ → Program A) → place + w ≤ end → endFrom (numbered w >>= k) bs end place ≡ endFrom (k (field bs place w)) bs end (place + w)
+    unfolding taking numbered _>>=_
+    number-there k room = bits-there (λ b. k (number b)) room ∙ rw (number-spell w (field bs place w), mod-eq-of-lt (field-lt bs place w))
+
+    pub number-cut : (k : ℕ → Program A) → end - place < w → endFrom (numbered w >>= k) bs end place ≡ badly Short (w - (end - place))
+    unfolding taking numbered _>>=_
+    number-cut k short = bits-cut (λ b. k (number b)) short
+
+    -- and back: one that ended well took it
+    pub number-began : (k : ℕ → Program A) {a : A} {next : ℕ} → endFrom (numbered w >>= k) bs end place ≡ well a next → (place + w ≤ end) × (endFrom (k (field bs place w)) bs end (place + w) ≡ well a next)
+    number-began k {a} {next} e = go (decLt (end - place) w)
+      where
+        go : Dec (end - place < w) → (place + w ≤ end) × (endFrom (k (field bs place w)) bs end (place + w) ≡ well a next)
+        go (yes short) = absurd (not-well Short _ a next (sym (number-cut k short) ∙ e))
+        go (no over) = let room : place + w ≤ end = omega (arith, at .room) in (room, sym (number-there k room) ∙ e)
 
   -- as the code took it
   module _ (w : ℕ) {n : ℕ} (e : takenAt bs end place w ≡ Taken.Whole n) where
@@ -120,10 +144,7 @@ module _ {bs : List ℕ} {end place : ℕ} (at : Within bs end place) where
     bits-whole k = rw is-field at (bits-there w k there)
 
     pub number-whole : {A : Type 0} (k : ℕ → Program A) → endFrom (numbered w >>= k) bs end place ≡ endFrom (k n) bs end (place + w)
-    unfolding endFrom
-    number-whole k =
-        ap (later place) (numbered-there bs end (at .inside) place w k there) ∙ later-later place w _
-        ∙ ap (λ (m : ℕ). later (place + w) (run (k m) (bitsFrom bs end (place + w)))) is-field
+    number-whole k = rw is-field at (number-there w k there)
 
   module _ {A : Type 0} (w : ℕ) {missing : ℕ} (e : takenAt bs end place w ≡ Taken.Short missing) where
     pub bits-short : (k : List Bool → Program A) → endFrom (taking w >>= k) bs end place ≡ badly Short missing
@@ -132,7 +153,6 @@ module _ {bs : List ℕ} {end place : ℕ} (at : Within bs end place) where
         bits-cut w k (it .0) ∙ ap (badly Short) (sym (it .1))
 
     pub number-short : (k : ℕ → Program A) → endFrom (numbered w >>= k) bs end place ≡ badly Short missing
-    unfolding endFrom later
     number-short k =
         let it = field-short bs end place w missing e in
-        ap (later place) (numbered-short bs end (at .inside) place w k (it .0)) ∙ ap (badly Short) (sym (it .1))
+        number-cut w k (it .0) ∙ ap (badly Short) (sym (it .1))
