@@ -19,7 +19,7 @@ use Rattle.format.proofs.Steps.{Gives, gives-done, gives-refuse, gives-require,
 use Rattle.heads.specs.declared.heading.Seen.{Seen}
 use Rattle.heads.proofs.Opened.{read-unopened}
 use Rattle.heads.specs.Headings.{gateBy, gatedBy, underBy}
-use Rattle.heads.specs.Sorting.{OfTable, headingFor, underWith, bodiedBy, headedAt, adoptedBy}
+use Rattle.heads.specs.Sorting.{headingFor, bodiedBy, headedAt, adoptedBy}
 use Rattle.holding.specs.declared.Holding.{Holding}
 use Rattle.holding.specs.Held.{skyIn, viewOf, satellitesHeld, cellsHeld}
 use Rattle.holding.specs.Pictures.{maskOf, sound}

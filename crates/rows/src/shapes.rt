@@ -1,8 +1,8 @@
-// The table of the rows' shapes (document 01, sub types 2, 3, 4, 5, 10 and 11), by number: those of sub type 11 first,
-// by its flags.
+// The table of the rows' shapes (document 01, "What is handed out"), by number: those of sub type 11 first, by its
+// flags.
 ghost use mathlib.Core.Path.{_≡_};
 ghost use mathlib.Core.Bool.{false};
-ghost use Prim.Native.Nat.{_≤_, _<_};
+ghost use Prim.Native.Nat.{_≤_};
 ghost use Rattle.format.specs.Messages.{iodeWidth};
 ghost use Rattle.format.specs.Rows.{gap, shapeWidth};
 ghost use Rattle.rows.specs.Shapes.{columnFor, orbitOf, lastOf};
@@ -120,43 +120,41 @@ pub fn packet() -> Shape
     }
 }
 
+// The shape of a number, gaps alone for one past the table.
 pub fn shape_of(i: usize) -> Shape
-    requires { ⌜ i < 8 ⌝ }
     ensures { λ r. ⌜ r ≡ shapeFor i ⌝ }
 {
     match i {
-        NONE => last(shape::gap()),
         LAST => last(shape::counts(15)),
         ORBIT => orbit(iode(0), shape::gap()),
         COMBINED => orbit(iode(0), shape::counts(15)),
         CLOCK => clock(),
         CODE => code(),
         PHASE => phase(),
-        _ => packet(),
+        PACKET => packet(),
+        _ => last(shape::gap()),
     }
 }
 
 // How many bits a row of a system has. Not by shape_of, which is too large to be inlined: here each arm is a sum that
 // the compiler knows.
 pub fn width_in(i: usize, system: u8) -> usize
-    requires { ⌜ i < 8 ⌝ }
     ensures { λ r. ⌜ r ≡ shapeWidth (shapeAt i system) ⌝ }
 {
     match i {
-        NONE => shape::width(last(shape::gap())),
         LAST => shape::width(last(shape::counts(15))),
         ORBIT => shape::width(orbit(iode(system), shape::gap())),
         COMBINED => shape::width(orbit(iode(system), shape::counts(15))),
         CLOCK => shape::width(clock()),
         CODE => shape::width(code()),
         PHASE => shape::width(phase()),
-        _ => shape::width(packet()),
+        PACKET => shape::width(packet()),
+        _ => shape::width(last(shape::gap())),
     }
 }
 
 // And of most systems.
 pub fn width_of(i: usize) -> usize
-    requires { ⌜ i < 8 ⌝ }
     ensures { λ r. ⌜ r ≡ shapeWidth (shapeAt i 0) ⌝ }
 {
     width_in(i, 0)

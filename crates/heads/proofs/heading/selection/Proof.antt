@@ -95,7 +95,7 @@ returns-4 c =
           let whole = network-there (bs p) (x .end) (s .pre .2) (x .place) (s .pre .3) (v .satellites) (x .numbers) (shapeAt (x .shape)) (network p .0)
           (λ e. c .before .before .before .if1 .left (network p .1 ∙ e)) (rw (shows .count) (c .before .before .if2 .left)) in
           rw (whole, shows .count, head, c .chosen .ensures, pick-front (x .n) (field (bs p) (x .place + 5) (x .n)) (v .satellites) (shows .count) (shows .few), ← (add-assoc (x .place) 5 (x .n))),
-      omega arith,
+      s .pre .1,
     )
 
 pub selection-spec : {M : Type 1} → statement M
