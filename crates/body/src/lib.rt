@@ -60,7 +60,7 @@ fn alike(rows: usize, width: usize) -> Extent
 
 // How long the rows of the satellites that are chosen are: of one width, unless an IODE is in them.
 fn satellites_size(h: Holding, shape: usize, chosen: u64) -> Extent
-    requires { ⌜ (sound h ≡ true) × (shape < 5) ⌝ }
+    requires { ⌜ sound h ≡ true ⌝ }
     ensures { λ r. ⌜ Counts (linesOver (viewOf h) (Satellites chosen) shape) r ⌝ }
 {
     if shape < shapes::ORBIT || shape > shapes::COMBINED {

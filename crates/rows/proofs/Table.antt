@@ -90,6 +90,10 @@ row i =
     let it = each-at gaps each (λ _. same (five fine-gap fine-gap fine-gap fine-gap fine-gap (omega arith) (omega arith))) i in
     rw zero-add at it
 
+pub columns-at : (system i : ℕ) → columnsOf (shapeIn i system) ≡ shapeAt i system
+unfolding shapeIn shapeAt
+columns-at system i = columns-of _ (row i .fine system)
+
 pub columns-in : (system i : ℕ) → columnsIn (shapeFor i) system ≡ shapeAt i system
 unfolding shapeIn shapeAt
 columns-in system i = row i .columns system
@@ -141,8 +145,7 @@ pub made-formed : (system i : ℕ) {s : Shape} → s ≡ shapeIn i system → Fo
 made-formed system i made = rw made (formed-at system i)
 
 pub made-width : (system i : ℕ) {s : Shape} {w : ℕ} → s ≡ shapeIn i system → w ≡ shapeWidth (columnsOf s) → w ≡ shapeWidth (shapeAt i system)
-unfolding shapeIn shapeAt
-made-width system i made wide = wide ∙ rw (made, columns-of (listed i .iode) (row i .fine system))
+made-width system i made wide = wide ∙ rw (made, columns-at system i)
 
 -- ---- what callers ask of a row's columns
 
