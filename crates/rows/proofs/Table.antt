@@ -8,8 +8,8 @@ use Prim.Native.Nat.{ℕ, zero, suc, _+_, _≤_, _<_}
 use native.Mathlib.Nat.{zero-add}
 use native.Mathlib.Omega.{arith}
 use lib.ListN.{length}
-use Rattle.format.proofs.Tables.{Each, end, then, each-at}
-use Rattle.format.specs.Messages.{iodeWidth, clockShape, codeShape, phaseShape, combinedShape, packetShape}
+use Rattle.format.proofs.Tables.{Each, end, then, each-at, NoneOf, none-of}
+use Rattle.format.specs.Messages.{iodeWidth, clockShape, codeShape, phaseShape, combinedShape, packetShape, named}
 use Rattle.format.specs.Rows.{Column, gap, plain, counts, widthOf, shapeWidth}
 use Rattle.rows.specs.declared.shape.Shape.{Shape}
 use Rattle.rows.specs.Shapes.{columnOf, columnFor, columnsOf, columnsIn, shapeWith, orbitOf, lastOf, FormedShape, Laid, Narrow}
@@ -112,17 +112,18 @@ formed-at system i = formed-shape _ (row i .fine system)
 pub formed : (i : ℕ) → FormedShape (shapeFor i)
 formed i = formed-at 0 i
 
--- no other number has a row
-abbrev Unlisted : ℕ → Type 0
-Unlisted i = ((((((Unit {0} × (i ≡ 1 → ⊥)) × (i ≡ 2 → ⊥)) × (i ≡ 3 → ⊥)) × (i ≡ 4 → ⊥)) × (i ≡ 5 → ⊥)) × (i ≡ 6 → ⊥)) × (i ≡ 7 → ⊥)
+-- no other number has a row but the first
+abbrev pub listedNumbers : List ℕ
+listedNumbers = 7 ∷ 6 ∷ 5 ∷ 4 ∷ 3 ∷ 2 ∷ 1 ∷ []
 
-unlisted-rows : Each (λ n l. Unlisted n → gaps ≡ l) 0 shapes
-unfolding shapes
+unlisted-rows : Each (λ n l. NoneOf listedNumbers n → gaps ≡ l) 0 shapes
+unfolding shapes named
 unlisted-rows =
-    then (λ _. refl) (then (λ u. absurd (u .0 .0 .0 .0 .0 .0 .1 refl)) (then (λ u. absurd (u .0 .0 .0 .0 .0 .1 refl)) (then (λ u. absurd (u .0 .0 .0 .0 .1 refl))
-    (then (λ u. absurd (u .0 .0 .0 .1 refl)) (then (λ u. absurd (u .0 .0 .1 refl)) (then (λ u. absurd (u .0 .1 refl)) (then (λ u. absurd (u .1 refl)) end)))))))
+    let known = none-of listedNumbers in
+    then (λ _. refl) (then (λ u. absurd (known 1 u refl)) (then (λ u. absurd (known 2 u refl)) (then (λ u. absurd (known 3 u refl)) (then (λ u. absurd (known 4 u refl))
+    (then (λ u. absurd (known 5 u refl)) (then (λ u. absurd (known 6 u refl)) (then (λ u. absurd (known 7 u refl)) end)))))))
 
-pub unlisted : (i : ℕ) → Unlisted i → gaps ≡ listed i
+unlisted : (i : ℕ) → NoneOf listedNumbers i → gaps ≡ listed i
 unfolding listed
 unlisted i u = let it = each-at gaps unlisted-rows (λ _ _. refl) i in (rw zero-add at it) u
 
@@ -137,7 +138,7 @@ unfolding shapes listed shapeAt shapeIn shapeWith orbitOf combinedShape
 orbit-made true system = refl
 orbit-made false system = refl
 
-pub gaps-made : (i : ℕ) (system : ℕ) → Unlisted i → lastOf (columnFor gap) ≡ shapeIn i system
+pub gaps-made : (i : ℕ) (system : ℕ) → NoneOf listedNumbers i → lastOf (columnFor gap) ≡ shapeIn i system
 unfolding shapeAt shapeIn shapeWith lastOf combinedShape
 gaps-made i system u = ap (λ (l : Listed). shapeWith (l .iode) (l .columns system)) (unlisted i u)
 

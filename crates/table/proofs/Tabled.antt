@@ -6,10 +6,10 @@ use Prim.Native.Nat.{ℕ, zero, suc, _+_, _≤_}
 use native.Mathlib.Nat.{add-zero, zero-add}
 use native.Mathlib.Omega.{arith}
 use lib.ListN.{getD}
-use Rattle.format.specs.Messages.{combinedShape, orbitShape, codeShape, phaseShape}
+use Rattle.format.specs.Messages.{combinedShape, orbitShape, codeShape, phaseShape, named}
 use Rattle.format.specs.Rows.{widthOf, shapeWidth}
 use Rattle.format.specs.Table as Table
-use Rattle.format.proofs.Tables.{Each, end, then, each-at}
+use Rattle.format.proofs.Tables.{Each, end, then, each-at, NoneOf, none-of}
 use Rattle.table.specs.declared.Kind.{Kind}
 use Rattle.table.specs.declared.Kind.the-variants.{Other}
 use Rattle.table.specs.Bodies.{FitsKeys}
@@ -55,17 +55,18 @@ table-means n = rw zero-add at (at-row 0 n codeKinds) ∙ ap (λ (ks : List Tabl
 -- ---- which rows are of ours
 
 -- no number but these has a row
-abbrev pub Unlisted : ℕ → Type 0
-Unlisted n = ((((((Unit {0} × (n ≡ 1 → ⊥)) × (n ≡ 2 → ⊥)) × (n ≡ 3 → ⊥)) × (n ≡ 4 → ⊥)) × (n ≡ 5 → ⊥)) × (n ≡ 10 → ⊥)) × (n ≡ 11 → ⊥)
+abbrev pub ours : List ℕ
+ours = 11 ∷ 10 ∷ 5 ∷ 4 ∷ 3 ∷ 2 ∷ 1 ∷ []
 
-unlisted-rows : Each (λ n k. Unlisted n → Other ≡ k) 0 codeKinds
-unfolding codeKinds
+unlisted-rows : Each (λ n k. NoneOf ours n → Other ≡ k) 0 codeKinds
+unfolding codeKinds named
 unlisted-rows =
-    then (λ _. refl) (then (λ u. absurd (u .0 .0 .0 .0 .0 .0 .1 refl)) (then (λ u. absurd (u .0 .0 .0 .0 .0 .1 refl)) (then (λ u. absurd (u .0 .0 .0 .0 .1 refl))
-    (then (λ u. absurd (u .0 .0 .0 .1 refl)) (then (λ u. absurd (u .0 .0 .1 refl)) (then (λ _. refl) (then (λ _. refl) (then (λ _. refl) (then (λ _. refl)
-    (then (λ u. absurd (u .0 .1 refl)) (then (λ u. absurd (u .1 refl)) end)))))))))))
+    let known = none-of ours in
+    then (λ _. refl) (then (λ u. absurd (known 1 u refl)) (then (λ u. absurd (known 2 u refl)) (then (λ u. absurd (known 3 u refl)) (then (λ u. absurd (known 4 u refl))
+    (then (λ u. absurd (known 5 u refl)) (then (λ _. refl) (then (λ _. refl) (then (λ _. refl) (then (λ _. refl)
+    (then (λ u. absurd (known 10 u refl)) (then (λ u. absurd (known 11 u refl)) end)))))))))))
 
-pub unlisted-other : (n : ℕ) → Unlisted n → Other ≡ kindFor n
+pub unlisted-other : (n : ℕ) → NoneOf ours n → Other ≡ kindFor n
 unfolding kindFor
 unlisted-other n u = let it = each-at Other unlisted-rows (λ n _. refl) n in (rw zero-add at it) u
 

@@ -2,6 +2,7 @@
 use mathlib.Core.Path.{_∙_}
 use mathlib.Core.Bool.{true, false}
 use borrow.Author.Needs.{needs}
+use Rattle.format.proofs.Tables.{NoneOf}
 use Rattle.rows.proofs.Laid.{iode-some}
 use Rattle.rows.proofs.Table.{last-made, orbit-made, gaps-made}
 use Rattle.rows.proofs.shapes.shape_of.Statement.{statement}
@@ -29,6 +30,7 @@ returns-7 : tie.Need-returns-7
 returns-7 c = c .packet .ensures ∙ rw (c .before .match .keys7)
 
 returns-8 : tie.Need-returns-8
+unfolding NoneOf
 returns-8 c = c .last2 .ensures ∙ rw (c .before .gap2 .ensures) (gaps-made _ 0 (c .before .before .match .rest))
 
 pub shape-of-spec : {M : Type 1} → statement M

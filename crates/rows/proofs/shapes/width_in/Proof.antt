@@ -4,6 +4,7 @@ use mathlib.Core.Bool.{true, false}
 use borrow.Author.Needs.{needs}
 use Rattle.format.specs.Messages.{clockShape, codeShape, phaseShape, packetShape}
 use Rattle.rows.specs.Table.{shapes, listed, shapeAt, shapeIn}
+use Rattle.format.proofs.Tables.{NoneOf}
 use Rattle.rows.proofs.Laid.{iode-some}
 use Rattle.rows.proofs.Table.{last-made, orbit-made, gaps-made, made-formed, made-width}
 use Rattle.rows.proofs.shapes.width_in.Statement.{statement}
@@ -45,6 +46,7 @@ returns-7 c = rw (c .before .before .match .keys7) (made-width 0 7 (c .before .p
 
 -- past the table
 last2-is : (c : tie.After-last2) → c .last2 .result ≡ shapeIn (c .before .before .before .args .i) (c .before .before .before .args .system)
+unfolding NoneOf
 last2-is c = c .last2 .ensures ∙ rw (c .before .gap2 .ensures) (gaps-made _ _ (c .before .before .match .rest))
 
 returns-8 : tie.Need-returns-8
