@@ -1,5 +1,5 @@
-// The table of the rows' shapes (document 01, "What is handed out"), by number: those of sub type 11 first, by its
-// flags.
+// The table of the rows' shapes (document 01, "What is handed out"), by number: those by the flags of
+// orbit and clock first.
 ghost use mathlib.Core.Path.{_≡_};
 ghost use mathlib.Core.Bool.{false};
 ghost use Prim.Native.Nat.{_≤_};
@@ -11,28 +11,28 @@ use crate::shape;
 use crate::shape::Column;
 use crate::shape::Shape;
 
-// Sub type 11's by its flags: neither is set.
+// By the two flags: neither is set.
 pub const NONE: usize = 0;
 
 // The clock's alone.
 pub const LAST: usize = 1;
 
-// The orbit's alone, which is sub type 2's shape too.
+// The orbit's alone, which the orbit's own message has, too.
 pub const ORBIT: usize = 2;
 
 // Both.
 pub const COMBINED: usize = 3;
 
-// Sub type 3.
+// The clock's own message.
 pub const CLOCK: usize = 4;
 
-// Sub type 4.
+// Code biases.
 pub const CODE: usize = 5;
 
-// Sub type 5.
+// Phase biases.
 pub const PHASE: usize = 6;
 
-// Sub type 10.
+// A packet's part.
 pub const PACKET: usize = 7;
 
 // How many bits an IODE has: 10 for Galileo.
