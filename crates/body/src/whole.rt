@@ -4,7 +4,7 @@ ghost use mathlib.Core.Bool.{true};
 ghost use Prim.Native.Nat.{_+_, _*_, _^_, _≤_, _<_};
 ghost use lib.ListN.{length};
 ghost use Rattle.body.specs.Written.{numbersAt, Room};
-ghost use Rattle.format.specs.Reading.{over};
+ghost use Rattle.format.specs.Reading.{rowRoom, over};
 ghost use Rattle.format.specs.Rows.{bodyWidth};
 ghost use Rattle.holding.specs.Held.{viewOf};
 ghost use Rattle.holding.specs.Pictures.{sound};
@@ -46,7 +46,7 @@ fn by_cells(h: Holding, shape: usize, chosen: u64, bytes: &[u8], at: usize, rows
 }
 
 pub fn fill(h: Holding, body: Body, bytes: &[u8], at: usize, rows: &mut [i32])
-    requires { ⌜ (sound h ≡ true) × Fits body × (at + bodyWidth (linesIn (viewOf h) body) < 2 ^ 32) × (at + bodyWidth (linesIn (viewOf h) body) + 120 ≤ 8 * length (now bytes)) × (2048 ≤ length (now rows)) ⌝ }
+    requires { ⌜ (sound h ≡ true) × Fits body × (at + bodyWidth (linesIn (viewOf h) body) < 2 ^ 32) × (at + bodyWidth (linesIn (viewOf h) body) + 120 ≤ 8 * length (now bytes)) × (rowRoom ≤ length (now rows)) ⌝ }
     ensures { λ _. ⌜ now (rows .exit) ≡ over (numbersAt (linesIn (viewOf h) body) (now (bytes .entry)) at) (now (rows .entry)) ⌝ }
 {
     let keys = body.keys;
