@@ -19,7 +19,7 @@ use Rattle.format.proofs.Sames.{and-true}
 use Rattle.format.proofs.Spells.{packet-count}
 use Rattle.format.specs.Lengths.{total}
 use Rattle.format.specs.Masks.{Satellite, Cell, pick}
-use Rattle.format.specs.Messages.{satelliteLines, cellLines, packetLines, packetShape, clockShape, codeShape, phaseShape, combinedShape}
+use Rattle.format.specs.Messages.{satelliteLines, cellLines, packetLines, packetShape}
 use Rattle.format.specs.Rows.{Column, absent, widthOf, shapeWidth, bodyWidth}
 use Rattle.holding.proofs.Sounds.{Sounds, sounds}
 use Rattle.holding.specs.Bounds.{below, narrow}
@@ -27,10 +27,10 @@ use Rattle.holding.specs.declared.Holding.{Holding}
 use Rattle.holding.specs.Held.{View, stripCells, slotsOf, viewOf}
 use Rattle.holding.specs.Pictures.{maskOf, sound}
 use Rattle.rows.proofs.RowsAt.{Eights, rows-length}
-use Rattle.rows.proofs.Table.{in-table, five-at, columns-in}
+use Rattle.rows.proofs.Table.{five-at, columns-in, no-iode}
 use Rattle.rows.specs.declared.shape.Shape.{Shape}
-use Rattle.rows.specs.Shapes.{columnsIn}
-use Rattle.rows.specs.Table.{shapes, shapeAt, shapeFor}
+use Rattle.rows.specs.Shapes.{columnsIn, Laid, Narrow}
+use Rattle.rows.specs.Table.{shapes, listed, shapeAt, shapeFor}
 use Rattle.table.specs.declared.Body.{Body}
 use Rattle.table.specs.declared.Keys.{Keys}
 use Rattle.table.specs.declared.Keys.the-variants.{Satellites, Cells, Parts}
@@ -45,22 +45,15 @@ use Rattle.body.proofs.Slots.{count-of}
 -- ---- shapes
 
 -- without an IODE one is the same in every system
-pub one-shape : (system i : ℕ) → i < 8 → (i ≡ 2 → ⊥) → (i ≡ 3 → ⊥) → shapeAt i system ≡ shapeAt i 0
-unfolding shapeAt shapes combinedShape clockShape codeShape phaseShape
-one-shape system =
-    in-table (λ i. (i ≡ 2 → ⊥) → (i ≡ 3 → ⊥) → shapeAt i system ≡ shapeAt i 0) (λ _ _. refl) (λ _ _. refl) (λ h _. absurd (h refl)) (λ _ h. absurd (h refl)) (λ _ _. refl) (λ _ _. refl) (λ _ _. refl)
-    (λ _ _. refl)
+pub one-shape : (system i : ℕ) → shapeFor i .iode ≡ false → shapeAt i system ≡ shapeAt i 0
+unfolding columnsIn
+one-shape system i bare =
+    let same : columnsIn (shapeFor i) system ≡ columnsIn (shapeFor i) 0 = rw bare in
+    sym (columns-in system i) ∙ same ∙ columns-in 0 i
 
 -- as the code has it
-made-columns : (shape : ℕ) (t : Shape) → shape < 8 → t ≡ shapeFor shape → columnsIn t ≡ shapeAt shape
-made-columns shape t some made = ap columnsIn made ∙ (λ i system. columns-in system shape some i)
-
--- a cell's has 17 bits at most
-cell-most : (system i : ℕ) → 5 ≤ i → i < 7 → shapeWidth (shapeAt i system) ≤ 17
-unfolding shapeAt shapes codeShape phaseShape shapeWidth widthOf
-cell-most system i some few =
-    in-table (λ i. 5 ≤ i → i < 7 → shapeWidth (shapeAt i system) ≤ 17) (λ h _. absurd (omega arith)) (λ h _. absurd (omega arith)) (λ h _. absurd (omega arith)) (λ h _. absurd (omega arith))
-    (λ h _. absurd (omega arith)) (λ _ _. omega arith) (λ _ _. omega arith) (λ _ h. absurd (omega arith)) i (omega arith) some few
+made-columns : (shape : ℕ) (t : Shape) → t ≡ shapeFor shape → columnsIn t ≡ shapeAt shape
+made-columns shape t made = ap columnsIn made ∙ (λ i system. columns-in system shape i)
 
 -- ---- the cells of satellites that are chosen
 
@@ -106,33 +99,33 @@ packet-eights k (suc n) = more (refl, refl) (packet-eights (suc k) n)
 eights : (v : View) (keys : Keys) (shape : ℕ) → FitsKeys keys shape → Eights (linesOver v keys shape)
 unfolding linesOver FitsKeys satelliteLines cellLines
 eights v (Satellites chosen) shape fits =
-    lines-eights {A = Satellite} (λ s. pos (s .system) ∷ pos (s .number) ∷ absent ∷ []) (λ s. shapeAt shape (s .system)) (pick (spell 64 chosen) (v .satellites)) (λ _. refl) (λ s. five-at (s .system) shape (omega arith))
+    lines-eights {A = Satellite} (λ s. pos (s .system) ∷ pos (s .number) ∷ absent ∷ []) (λ s. shapeAt shape (s .system)) (pick (spell 64 chosen) (v .satellites)) (λ _. refl) (λ s. five-at (s .system) shape)
 eights v (Cells chosen) shape fits =
     lines-eights {A = Cell} (λ c. pos (c .satellite .system) ∷ pos (c .satellite .number) ∷ pos (c .signal) ∷ []) (λ c. shapeAt shape (c .satellite .system))
-    (stripCells (pick (spell 64 chosen) (v .satellites)) (pick (spell 64 chosen) (v .strips))) (λ _. refl) (λ c. five-at (c .satellite .system) shape (omega arith))
+    (stripCells (pick (spell 64 chosen) (v .satellites)) (pick (spell 64 chosen) (v .strips))) (λ _. refl) (λ c. five-at (c .satellite .system) shape)
 eights v (Parts n) shape fits = packet-eights 1 n
 
 -- how many they are and how wide, under so few satellites and cells
 pub few-lines : (v : View) (keys : Keys) (shape : ℕ) → length (v .satellites) ≤ 64 → length (stripCells (v .satellites) (v .strips)) ≤ 256 → FitsKeys keys shape → Few (linesOver v keys shape)
 unfolding linesOver FitsKeys satelliteLines cellLines
-few-lines v (Satellites chosen) shape sats cells fits = few-satellites shape chosen (v .satellites) (omega arith) sats
+few-lines v (Satellites chosen) shape sats cells fits = few-satellites shape chosen (v .satellites) sats
 few-lines v (Cells chosen) shape sats cells fits =
     let some : List Cell = stripCells (pick (spell 64 chosen) (v .satellites)) (pick (spell 64 chosen) (v .strips)) in
     let less = cells-few (spell 64 chosen) (v .satellites) (v .strips) in
     record {
       rows = rw length-map (omega arith);
-      bits = omega (arith, cell-width (shapeAt shape) some, total-most (λ (c : Cell). shapeWidth (shapeAt shape (c .satellite .system))) 17 some (λ c. cell-most (c .satellite .system) shape (fits .0) (fits .1)));
+      bits = omega (arith, cell-width (shapeAt shape) some, total-most (λ (c : Cell). shapeWidth (shapeAt shape (c .satellite .system))) 17 some (λ c. rw (one-shape (c .satellite .system) shape (fits .0 .iode)) (fits .1)));
     }
 few-lines v (Parts n) shape sats cells fits = record { rows = omega (arith, packet-count 1 n); bits = omega (arith, packet-width 1 n) }
 
 -- ---- what a body's keys say
 
 module _ (body : Body) (fits : Fits body) where
-  pub satellites-fit : {chosen : ℕ} → body .keys ≡ Satellites chosen → body .shape < 5
+  pub satellites-fit : {chosen : ℕ} → body .keys ≡ Satellites chosen → Laid (shapeFor (body .shape))
   unfolding FitsKeys
   satellites-fit known = rw known at fits
 
-  pub cells-fit : {chosen : ℕ} → body .keys ≡ Cells chosen → (5 ≤ body .shape) × (body .shape < 7)
+  pub cells-fit : {chosen : ℕ} → body .keys ≡ Cells chosen → Narrow (shapeFor (body .shape)) × (shapeWidth (shapeAt (body .shape) 0) ≤ 17)
   unfolding FitsKeys
   cells-fit known = rw known at fits
 
@@ -146,20 +139,20 @@ lines-known v body known = rw known
 
 -- ---- rows of one width
 
-pub cells-alike : (v : View) (chosen shape n width : ℕ) → 5 ≤ shape → shape < 7 → n ≡ length (stripCells (pick (spell 64 chosen) (v .satellites)) (pick (spell 64 chosen) (v .strips)))
+pub cells-alike : (v : View) (chosen shape n width : ℕ) → shapeFor shape .iode ≡ false → n ≡ length (stripCells (pick (spell 64 chosen) (v .satellites)) (pick (spell 64 chosen) (v .strips)))
     → width ≡ shapeWidth (shapeAt shape 0) → Counts (linesOver v (Cells chosen) shape) (record { bits = n * width; rows = n })
 unfolding linesOver cellLines
-cells-alike v chosen shape n width some few many wide =
+cells-alike v chosen shape n width bare many wide =
     let cells : List Cell = stripCells (pick (spell 64 chosen) (v .satellites)) (pick (spell 64 chosen) (v .strips)) in
     let same : (c : Cell) → shapeWidth (shapeAt shape (c .satellite .system)) ≡ width =
-    λ c. ap shapeWidth (one-shape (c .satellite .system) shape (omega arith) (λ e. omega arith) (λ e. omega arith)) ∙ sym wide in
+    λ c. ap shapeWidth (one-shape (c .satellite .system) shape bare) ∙ sym wide in
     record {
       bits = ap (λ (k : ℕ). k * width) many ∙ mul-comm (length cells) width ∙ sym (cell-width (shapeAt shape) cells ∙ total-same _ width cells same);
       rows = many ∙ sym (length-map cells _);
     }
 
 pub parts-alike : (v : View) (n shape width : ℕ) → shape ≡ 7 → width ≡ shapeWidth (shapeAt shape 0) → Counts (linesOver v (Parts n) shape) (record { bits = n * width; rows = n })
-unfolding linesOver shapeAt shapes packetShape shapeWidth widthOf
+unfolding linesOver shapeAt listed shapes packetShape shapeWidth widthOf
 parts-alike v n shape width last wide =
     let w : width ≡ 40 = wide ∙ rw last in
     record { bits = rw w (omega (arith, packet-width 1 n)); rows = sym (packet-count 1 n) }
@@ -212,13 +205,13 @@ module _ (h : Holding) (e : sound h ≡ true) where
   unfolding linesOver
   by-shape chosen shape = alone-chosen (shapeAt shape) chosen (slotsOf h)
 
-  pub by-satellites : (chosen shape : ℕ) (t : Shape) → shape < 8 → t ≡ shapeFor shape → chosenLines chosen (alone (columnsIn t) (slotsOf h)) ≡ linesOver (viewOf h) (Satellites chosen) shape
-  by-satellites chosen shape t some made = ap (λ (f : ℕ → List Column). chosenLines chosen (alone f (slotsOf h))) (made-columns shape t some made) ∙ by-shape chosen shape
+  pub by-satellites : (chosen shape : ℕ) (t : Shape) → t ≡ shapeFor shape → chosenLines chosen (alone (columnsIn t) (slotsOf h)) ≡ linesOver (viewOf h) (Satellites chosen) shape
+  by-satellites chosen shape t made = ap (λ (f : ℕ → List Column). chosenLines chosen (alone f (slotsOf h))) (made-columns shape t made) ∙ by-shape chosen shape
 
-  pub by-cells : (chosen shape : ℕ) (t : Shape) → shape < 8 → t ≡ shapeFor shape → chosenLines chosen (striped (columnsIn t) (slotsOf h) (h .strips)) ≡ linesOver (viewOf h) (Cells chosen) shape
+  pub by-cells : (chosen shape : ℕ) (t : Shape) → t ≡ shapeFor shape → chosenLines chosen (striped (columnsIn t) (slotsOf h) (h .strips)) ≡ linesOver (viewOf h) (Cells chosen) shape
   unfolding linesOver
-  by-cells chosen shape t some made =
-      ap (λ (f : ℕ → List Column). chosenLines chosen (striped f (slotsOf h) (h .strips))) (made-columns shape t some made) ∙ striped-chosen (shapeAt shape) chosen (slotsOf h) (h .strips)
+  by-cells chosen shape t made =
+      ap (λ (f : ℕ → List Column). chosenLines chosen (striped f (slotsOf h) (h .strips))) (made-columns shape t made) ∙ striped-chosen (shapeAt shape) chosen (slotsOf h) (h .strips)
 
   -- ---- their bounds
 
@@ -238,8 +231,8 @@ module _ (h : Holding) (e : sound h ≡ true) where
 
   -- ---- satellites whose rows have no IODE
 
-  pub alike : (chosen shape width : ℕ) → chosen < 2 ^ 64 → shape < 8 → (shape ≡ 2 → ⊥) → (shape ≡ 3 → ⊥) → width ≡ shapeWidth (shapeAt shape 0)
+  pub alike : (chosen shape width : ℕ) → chosen < 2 ^ 64 → (shape ≡ 2 → ⊥) → (shape ≡ 3 → ⊥) → width ≡ shapeWidth (shapeAt shape 0)
       → let some = ones (chosen / 2 ^ (64 - h .nsat)) in Counts (linesOver (viewOf h) (Satellites chosen) shape) (record { bits = some * width; rows = some })
   unfolding linesOver
-  alike chosen shape width small some not-orbit not-both wide =
-      satellites-alike (shapeAt shape) width chosen (h .nsat) _ (slotsOf h) (λ system. ap shapeWidth (one-shape system shape some not-orbit not-both) ∙ sym wide) small many few refl
+  alike chosen shape width small not-orbit not-both wide =
+      satellites-alike (shapeAt shape) width chosen (h .nsat) _ (slotsOf h) (λ system. ap shapeWidth (one-shape system shape (no-iode shape not-orbit not-both)) ∙ sym wide) small many few refl

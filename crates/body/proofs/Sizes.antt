@@ -81,15 +81,15 @@ pub record Few (lines : List Line) : Type 0 where
   pub rows : length lines ≤ 256
   pub bits : bodyWidth lines ≤ 4544
 
-pub few-satellites : (shape c : ℕ) (sats : List Satellite) → shape < 8 → length sats ≤ 64 → Few (satelliteLines (shapeAt shape) (pick (spell 64 c) sats))
+pub few-satellites : (shape c : ℕ) (sats : List Satellite) → length sats ≤ 64 → Few (satelliteLines (shapeAt shape) (pick (spell 64 c) sats))
 unfolding satelliteLines
-few-satellites shape c sats some few =
+few-satellites shape c sats few =
     let chosen : List Satellite = pick (spell 64 c) sats in
     let less = pick-few (spell 64 c) sats in
     record {
       rows = rw length-map (omega arith);
-      bits = omega (arith, satellite-width (shapeAt shape) chosen, total-most (λ (s : Satellite). shapeWidth (shapeAt shape (s .system))) 71 chosen (λ s. width-at (s .system) shape some));
+      bits = omega (arith, satellite-width (shapeAt shape) chosen, total-most (λ (s : Satellite). shapeWidth (shapeAt shape (s .system))) 71 chosen (λ s. width-at (s .system) shape));
     }
 
-pub few-alone : (shape c : ℕ) (sats : List Satellite) → shape < 8 → length sats ≤ 64 → Few (chosenLines c (alone (shapeAt shape) sats))
-few-alone shape c sats some few = rw (alone-chosen (shapeAt shape) c sats) (few-satellites shape c sats some few)
+pub few-alone : (shape c : ℕ) (sats : List Satellite) → length sats ≤ 64 → Few (chosenLines c (alone (shapeAt shape) sats))
+few-alone shape c sats few = rw (alone-chosen (shapeAt shape) c sats) (few-satellites shape c sats few)

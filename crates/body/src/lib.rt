@@ -13,7 +13,7 @@ ghost use lib.ListN.{length};
 ghost use Rattle.bits.specs.BitLists.{spell};
 ghost use Rattle.body.specs.Written.{Counts};
 ghost use Rattle.format.specs.Masks.{pick};
-ghost use Rattle.format.specs.Reading.{over};
+ghost use Rattle.format.specs.Reading.{rowRoom, over};
 ghost use Rattle.format.specs.Rows.{bodyWidth};
 ghost use Rattle.holding.specs.Held.{stripCells, slotsOf, viewOf};
 ghost use Rattle.holding.specs.Pictures.{sound};
@@ -60,7 +60,7 @@ fn alike(rows: usize, width: usize) -> Extent
 
 // How long the rows of the satellites that are chosen are: of one width, unless an IODE is in them.
 fn satellites_size(h: Holding, shape: usize, chosen: u64) -> Extent
-    requires { ⌜ (sound h ≡ true) × (shape < 5) ⌝ }
+    requires { ⌜ sound h ≡ true ⌝ }
     ensures { λ r. ⌜ Counts (linesOver (viewOf h) (Satellites chosen) shape) r ⌝ }
 {
     if shape < shapes::ORBIT || shape > shapes::COMBINED {
@@ -102,7 +102,7 @@ pub fn size(h: Holding, body: Body) -> Extent
 // The rows of the body whose bits begin at a place, into the row buffer. Where the string ends too soon behind the
 // body for windows, the rows are read from a copy with zeros behind it.
 pub fn fill(h: Holding, body: Body, bits: usize, bytes: &[u8], at: usize, rows: &mut [i32])
-    requires { ⌜ (sound h ≡ true) × Fits body × (bits ≡ bodyWidth (linesIn (viewOf h) body)) × (at + bits < 2 ^ 32) × (2048 ≤ length (now rows)) ⌝ }
+    requires { ⌜ (sound h ≡ true) × Fits body × (bits ≡ bodyWidth (linesIn (viewOf h) body)) × (at + bits < 2 ^ 32) × (rowRoom ≤ length (now rows)) ⌝ }
     ensures { λ _. ⌜ now (rows .exit) ≡ over (flatten (rowsAt (linesIn (viewOf h) body) (now (bytes .entry)) at)) (now (rows .entry)) ⌝ }
 {
     if (at + bits + 127) / 8 <= bytes.len() {

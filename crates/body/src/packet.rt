@@ -1,4 +1,4 @@
-// Rows of a packet's part (document 01, sub type 10), numbered from 1 in the signal column.
+// Rows of a packet's part (document 01, "What is handed out"), numbered from 1 in the signal column.
 ghost use mathlib.Core.Path.{_≡_};
 ghost use Rattle.body.specs.Written.{numbersAt, Room};
 ghost use Rattle.format.specs.Messages.{packetLines};

@@ -115,7 +115,7 @@ fn picked(chosen: u64, n: usize) -> usize
 
 // How many bits and rows the satellites that are chosen have.
 pub fn size(ids: &[u8], masks: &[u64], shape: usize, chosen: u64) -> Extent
-    requires { ⌜ (length (now ids) ≤ length (now masks)) × (narrow 40 (now masks) ≡ true) × (length (slotSatellites (now ids) (now masks)) ≤ 64) × (shape < 8) ⌝ }
+    requires { ⌜ (length (now ids) ≤ length (now masks)) × (narrow 40 (now masks) ≡ true) × (length (slotSatellites (now ids) (now masks)) ≤ 64) ⌝ }
     ensures { λ r. ⌜ Counts (chosenLines chosen (alone (shapeAt shape) (slotSatellites (now (ids .entry)) (now (masks .entry))))) r ⌝ }
 {
     let mut marks = chosen;

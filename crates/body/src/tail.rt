@@ -10,16 +10,18 @@ fn least(a: usize, b: usize) -> usize
     if a < b { a } else { b }
 }
 
-// 584 bytes hold every body from its first byte on, and the windows behind it.
-pub fn tail(bytes: &[u8], from: usize) -> [u8; 584]
+// So many bytes hold every body from its first byte on, and the windows behind it.
+pub const COPY: usize = 584;
+
+pub fn tail(bytes: &[u8], from: usize) -> [u8; COPY]
     requires { ⌜ from < 2 ^ 32 ⌝ }
     ensures { λ r. ⌜ ((i : ℕ) → i < 584 → getD r i 0 ≡ getD (now (bytes .entry)) (from + i) 0) ⌝ }
 {
-    let mut rest = [0u8; 584];
+    let mut rest = [0u8; COPY];
     if bytes.len() <= from {
         return rest;
     }
-    let n = least(bytes.len() - from, 584);
+    let n = least(bytes.len() - from, COPY);
     let mut i = 0;
     while i < n {
         rest[i] = bytes[from + i];

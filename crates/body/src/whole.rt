@@ -4,10 +4,12 @@ ghost use mathlib.Core.Bool.{true};
 ghost use Prim.Native.Nat.{_+_, _*_, _^_, _≤_, _<_};
 ghost use lib.ListN.{length};
 ghost use Rattle.body.specs.Written.{numbersAt, Room};
-ghost use Rattle.format.specs.Reading.{over};
+ghost use Rattle.format.specs.Reading.{rowRoom, over};
 ghost use Rattle.format.specs.Rows.{bodyWidth};
 ghost use Rattle.holding.specs.Held.{viewOf};
 ghost use Rattle.holding.specs.Pictures.{sound};
+ghost use Rattle.rows.specs.Shapes.{Laid, Narrow};
+ghost use Rattle.rows.specs.Table.{shapeFor};
 ghost use Rattle.table.specs.declared.Keys.the-variants.{Satellites, Cells};
 ghost use Rattle.table.specs.Bodies.{linesIn, linesOver, Fits};
 use crate::cells;
@@ -20,7 +22,7 @@ use table::Keys;
 
 // A row for each satellite that is chosen.
 fn by_satellites(h: Holding, shape: usize, chosen: u64, bytes: &[u8], at: usize, rows: &mut [i32])
-    requires { ⌜ (sound h ≡ true) × (shape < 5) × Room (linesOver (viewOf h) (Satellites chosen) shape) (now bytes) at (now rows) ⌝ }
+    requires { ⌜ (sound h ≡ true) × Laid (shapeFor shape) × Room (linesOver (viewOf h) (Satellites chosen) shape) (now bytes) at (now rows) ⌝ }
     ensures { λ _. ⌜ now (rows .exit) ≡ over (numbersAt (linesOver (viewOf h) (Satellites chosen) shape) (now (bytes .entry)) at) (now (rows .entry)) ⌝ }
 {
     let ids = h.ids;
@@ -32,7 +34,7 @@ fn by_satellites(h: Holding, shape: usize, chosen: u64, bytes: &[u8], at: usize,
 
 // A row for each cell of the satellites that are chosen.
 fn by_cells(h: Holding, shape: usize, chosen: u64, bytes: &[u8], at: usize, rows: &mut [i32])
-    requires { ⌜ (sound h ≡ true) × (5 ≤ shape) × (shape < 7) × Room (linesOver (viewOf h) (Cells chosen) shape) (now bytes) at (now rows) ⌝ }
+    requires { ⌜ (sound h ≡ true) × Narrow (shapeFor shape) × Room (linesOver (viewOf h) (Cells chosen) shape) (now bytes) at (now rows) ⌝ }
     ensures { λ _. ⌜ now (rows .exit) ≡ over (numbersAt (linesOver (viewOf h) (Cells chosen) shape) (now (bytes .entry)) at) (now (rows .entry)) ⌝ }
 {
     let ids = h.ids;
@@ -44,7 +46,7 @@ fn by_cells(h: Holding, shape: usize, chosen: u64, bytes: &[u8], at: usize, rows
 }
 
 pub fn fill(h: Holding, body: Body, bytes: &[u8], at: usize, rows: &mut [i32])
-    requires { ⌜ (sound h ≡ true) × Fits body × (at + bodyWidth (linesIn (viewOf h) body) < 2 ^ 32) × (at + bodyWidth (linesIn (viewOf h) body) + 120 ≤ 8 * length (now bytes)) × (2048 ≤ length (now rows)) ⌝ }
+    requires { ⌜ (sound h ≡ true) × Fits body × (at + bodyWidth (linesIn (viewOf h) body) < 2 ^ 32) × (at + bodyWidth (linesIn (viewOf h) body) + 120 ≤ 8 * length (now bytes)) × (rowRoom ≤ length (now rows)) ⌝ }
     ensures { λ _. ⌜ now (rows .exit) ≡ over (numbersAt (linesIn (viewOf h) body) (now (bytes .entry)) at) (now (rows .entry)) ⌝ }
 {
     let keys = body.keys;

@@ -2,7 +2,7 @@
 -- And a law of the kinds that adopt no mask.
 -- Assumes nothing.
 use mathlib.Core.Path.{_≡_, refl}
-use mathlib.Core.Bool.{Bool}
+use mathlib.Core.Bool.{Bool, true, false, cond}
 use mathlib.Core.List.{List, [], _∷_, _++_, append-nil, append-assoc}
 use Prim.Native.Nat.{ℕ, zero, suc, _+_, _^_, _<_}
 use native.Mathlib.Nat.{add-zero, zero-add}
@@ -13,7 +13,7 @@ use lib.ListN.{length, getD}
 use Rattle.bits.specs.BitLists.{spell}
 use Rattle.format.specs.declared.Refusal.the-variants.{NoMask, OtherIssue}
 use Rattle.format.specs.Masks.{Mask, Held, nothing, mask, skyOf}
-use Rattle.format.specs.Messages.{Content, Heading, Common, common}
+use Rattle.format.specs.Messages.{Content, Heading, Common, common, named}
 use Rattle.format.specs.Programs.{Program, done}
 use Rattle.format.specs.Rows.{bodyWidth, rowsOf}
 use Rattle.format.specs.Table.{Message, Kind, MaskedKind, other, kinds, table, gate, underMask, keeping, byKind, opening, messageBy}
@@ -35,6 +35,20 @@ each-at {A} {P} {k} d (then law laws) rest (suc n) =
 pub in-table : {P : ℕ → Kind → Type 0} → Each P 0 kinds → ((n : ℕ) → P n other) → (n : ℕ) → P n (table n)
 unfolding table
 in-table laws rest n = rw zero-add at (each-at other laws rest n)
+
+-- what the last arm of a match knows: the number is none of these, the last arm's first
+unfoldable pub NoneOf : List ℕ → ℕ → Type 0
+NoneOf [] n = Unit {0}
+NoneOf (k ∷ ks) n = NoneOf ks n × (n ≡ k → ⊥)
+
+pub none-of : (ks : List ℕ) (n : ℕ) → NoneOf ks n → named n ks ≡ true → ⊥
+unfolding NoneOf named
+none-of [] n none e = let z : _≡_ {A = ℕ} 0 1 = cc in omega arith
+none-of (k ∷ ks) n none e = go (eqb n k) refl e (none-of ks n (none .0))
+  where
+    go : (b : Bool) → eqb n k ≡ b → cond b true (named n ks) ≡ true → (named n ks ≡ true → ⊥) → ⊥
+    go true same e behind = none .1 (eqb-true n k same)
+    go false not e behind = behind e
 
 -- the number and the sub type
 opening-gives : Gives opening (λ n b. (n < 2 ^ 4) × (b ≡ spell 12 4073 ++ spell 4 n))

@@ -18,35 +18,9 @@ use Rattle.format.specs.Reading.{idle, refused, endedAt, readFrom, bitsFrom}
 use Rattle.format.specs.Table.{table, byKind, opening, messageBy}
 use Rattle.format.proofs.Ends.{done-end, test-began, onward, number-began, then-well, then-badly}
 use Rattle.format.proofs.Placed.{blank-from}
-use Rattle.format.proofs.Tables.{Each, end, then, each-at}
-use Rattle.heads.specs.Sorting.{OfTable}
 use Rattle.heads.proofs.Sorted.{endedBy, ended-from}
-use Rattle.table.specs.declared.Kind.the-variants.{Other}
-use Rattle.table.specs.Kinds.{codeKinds, kindFor, kindBy, LaidOut}
+use Rattle.table.specs.Kinds.{kindFor, kindBy}
 use Rattle.table.proofs.Tabled.{table-means}
-
--- every kind of the table has a layout that is known
-differ : false ≡ true → ⊥
-differ e = let z : _≡_ {A = ℕ} 0 1 = cc in omega arith
-
-of-satellites : (shape : ℕ) → shape < 5 → LaidOut (record { cells = false; flagged = false; shape = shape })
-of-satellites shape few = record { with-flags = λ e. absurd (differ e); of-satellites = λ _. few; of-cells = λ e. absurd (differ e) }
-
-of-cells : (shape : ℕ) → (5 ≤ shape) × (shape < 7) → LaidOut (record { cells = true; flagged = false; shape = shape })
-of-cells shape some = record { with-flags = λ e. absurd (differ e); of-satellites = λ e. absurd (differ (sym e)); of-cells = λ _. some }
-
-with-flags : LaidOut (record { cells = false; flagged = true; shape = 0 })
-with-flags = record { with-flags = λ _. (refl, refl); of-satellites = λ _. omega arith; of-cells = λ e. absurd (differ e) }
-
-layouts : Each (λ n k. OfTable k) 0 codeKinds
-unfolding codeKinds OfTable
-layouts =
-    then tt (then tt (then (of-satellites 2 (omega arith)) (then (of-satellites 4 (omega arith)) (then (of-cells 5 (omega arith, omega arith)) (then (of-cells 6 (omega arith, omega arith))
-    (then tt (then tt (then tt (then tt (then tt (then with-flags end)))))))))))
-
-pub tabled : (n : ℕ) → OfTable (kindFor n)
-unfolding kindFor OfTable
-tabled n = each-at Other layouts (λ _. tt) n
 
 module _ {bs : List ℕ} {end place : ℕ} (at : Within bs end place) where
   -- number and sub type were read

@@ -17,14 +17,6 @@ use Rattle.holding.specs.Held.{isHeld, issueOf, satellitesHeld, cellsHeld}
 use Rattle.table.specs.declared.Kind.{Kind}
 use Rattle.table.specs.declared.Kind.the-variants.{Other, Mask, Packet, Masked}
 use Rattle.table.specs.declared.Layout.{Layout}
-use Rattle.table.specs.Kinds.{LaidOut}
-
--- a layout that the table has
-unfoldable pub OfTable : Kind → Type 0
-OfTable Other = Unit {0}
-OfTable Mask = Unit {0}
-OfTable Packet = Unit {0}
-OfTable (Masked l) = LaidOut l
 
 abbrev pub underWith : Seen → Layout → Under
 underWith s l = record { held = s .held; iod = s .iod; n = s .n; subtype = s .subtype; layout = l }

@@ -7,9 +7,10 @@ ghost use Rattle.format.specs.Messages as Messages;
 ghost use Rattle.holding.specs.Held.{View, skyIn};
 ghost use Rattle.heads.specs.Heads.{commonOf, Small};
 ghost use Rattle.heads.specs.Headings.{headWith, chosenAt, Shows, saidBy, FitsHeading, networked, networkBy, afterFlags, gatedBy, underBy};
-ghost use Rattle.heads.specs.Sorting.{OfTable, headingFor};
-ghost use Rattle.table.specs.Kinds.{LaidOut};
-ghost use Rattle.rows.specs.Table.{shapeAt};
+ghost use Rattle.heads.specs.Sorting.{headingFor};
+ghost use Rattle.table.specs.Kinds.{LaidOut, OfTable};
+ghost use Rattle.rows.specs.Shapes.{Laid};
+ghost use Rattle.rows.specs.Table.{shapeAt, shapeFor};
 ghost use Rattle.table.specs.Shapes.{shapesFrom};
 use crate::CommonHead;
 use crate::CommonTaken;
@@ -101,7 +102,7 @@ fn selection(
     numbers: Head,
     shape: usize,
 ) -> Heading
-    requires { ⌜ (n ≤ 64) × (shape < 4) × Within (now bytes) end place ⌝ }
+    requires { ⌜ (n ≤ 64) × Laid (shapeFor shape) × Within (now bytes) end place ⌝ }
     ensures { λ r. ⌜ ((v : View) → Shows v n → saidBy v r ≡ endFrom (networkBy (v .satellites) numbers (shapeAt shape)) (now (bytes .entry)) end place) ⌝ }
     ensures { λ r. ⌜ FitsHeading r ⌝ }
 {

@@ -1,17 +1,19 @@
--- The table of shapes: each is formed and has its columns in every system, those of satellites are laid and those of cells narrow.
+-- The table of shapes: each is formed and has its columns in every system; those of satellites are laid, and those of cells narrow.
 -- Assumes nothing.
 use mathlib.Core.Path.{_≡_, refl, sym, ap, _∙_}
 use mathlib.Core.Bool.{Bool, true, false, cond}
 use mathlib.Core.List.{List, [], _∷_}
 use mathlib.Core.Logic.{inl, inr}
 use Prim.Native.Nat.{ℕ, zero, suc, _+_, _≤_, _<_}
+use native.Mathlib.Nat.{zero-add}
 use native.Mathlib.Omega.{arith}
 use lib.ListN.{length}
-use Rattle.format.specs.Messages.{iodeWidth, clockShape, codeShape, phaseShape, combinedShape, packetShape}
-use Rattle.format.specs.Rows.{Column, gap, counts, widthOf, shapeWidth}
+use Rattle.format.proofs.Tables.{Each, end, then, each-at, NoneOf, none-of}
+use Rattle.format.specs.Messages.{iodeWidth, clockShape, codeShape, phaseShape, combinedShape, packetShape, named}
+use Rattle.format.specs.Rows.{Column, gap, plain, counts, widthOf, shapeWidth}
 use Rattle.rows.specs.declared.shape.Shape.{Shape}
 use Rattle.rows.specs.Shapes.{columnOf, columnFor, columnsOf, columnsIn, shapeWith, orbitOf, lastOf, FormedShape, Laid, Narrow}
-use Rattle.rows.specs.Table.{shapes, shapeAt, shapeIn, shapeFor}
+use Rattle.rows.specs.Table.{Listed, bare, gaps, shapes, listed, shapeAt, shapeIn, shapeFor}
 use Rattle.rows.proofs.Columns.{Fine, fine-gap, fine-plain, fine-counts, column-back, width-for, formed-for}
 use Rattle.rows.proofs.Laid.{iode-some, laid-orbit, laid-bare, columns-width}
 
@@ -39,100 +41,145 @@ formed-shape iode (five {a} {b} {c} {d} fa fb fc fd fe room more) =
       longest = omega (arith, width-for b, width-for c, width-for d);
     }
 
--- ---- a law of the table
+-- ---- the rows of the table
 
-pub in-table : (P : ℕ → Type 0) → P 0 → P 1 → P 2 → P 3 → P 4 → P 5 → P 6 → P 7 → (i : ℕ) → i < 8 → P i
-in-table P a b c d e f g h zero some = a
-in-table P a b c d e f g h (suc zero) some = b
-in-table P a b c d e f g h (suc (suc zero)) some = c
-in-table P a b c d e f g h (suc (suc (suc zero))) some = d
-in-table P a b c d e f g h (suc (suc (suc (suc zero)))) some = e
-in-table P a b c d e f g h (suc (suc (suc (suc (suc zero))))) some = f
-in-table P a b c d e f g h (suc (suc (suc (suc (suc (suc zero)))))) some = g
-in-table P a b c d e f g h (suc (suc (suc (suc (suc (suc (suc zero))))))) some = h
-in-table P a b c d e f g h (suc (suc (suc (suc (suc (suc (suc (suc i)))))))) some = absurd (omega arith)
+-- what holds of a row: its columns are fine, the code has them in every system, and but for two there is no IODE
+record Row (n : ℕ) (l : Listed) : Type 0 where
+  fine : (system : ℕ) → FineShape (l .columns system)
+  columns : (system : ℕ) → columnsIn (shapeWith (l .iode) (l .columns 0)) system ≡ l .columns system
+  bare : (n ≡ 2 → ⊥) → (n ≡ 3 → ⊥) → l .iode ≡ false
 
--- none of the first seven, as the last arm of a match has it
-abbrev Rest : ℕ → Type 0
-Rest i = ((((((Unit {0} × (i ≡ 0 → ⊥)) × (i ≡ 1 → ⊥)) × (i ≡ 2 → ⊥)) × (i ≡ 3 → ⊥)) × (i ≡ 4 → ⊥)) × (i ≡ 5 → ⊥)) × (i ≡ 6 → ⊥)
+-- without an IODE, the same in every system
+same : {n : ℕ} {cs : List Column} → FineShape cs → Row n (bare (λ _. cs))
+unfolding columnsIn columnsOf shapeWith
+same fine = record { fine = λ _. fine; columns = λ _. columns-of false fine; bare = λ _ _. refl }
 
-pub seventh : (i : ℕ) → i < 8 → Rest i → i ≡ 7
-seventh i some h =
-    let large : 4 ≤ i = omega (arith, h .0 .0 .0) in
-    omega (arith, h .0 .0 .1, h .0 .1, h .1)
+c15 : Fine (counts 15)
+c15 = fine-counts 15 (omega arith) (omega arith)
 
-fine-at : (system i : ℕ) → i < 8 → FineShape (shapeAt i system)
-unfolding shapes shapeAt combinedShape clockShape codeShape phaseShape packetShape widthOf
-fine-at system =
-    let wide = iode-some system refl in
-    let iode = fine-plain (iodeWidth system) (wide .0) (omega arith) in
-    let byte = fine-plain 8 (omega arith) (omega arith) in
-    let c15 = fine-counts 15 (omega arith) (omega arith) in
+-- an orbit and one column more
+orbiting : {n : ℕ} {e : Column} → Fine e → ((n ≡ 2 → ⊥) → (n ≡ 3 → ⊥) → ⊥)
+    → Row n (record { iode = true; columns = λ system. plain (iodeWidth system) ∷ counts 15 ∷ counts 13 ∷ counts 13 ∷ e ∷ [] })
+unfolding columnsIn columnsOf columnOf columnFor shapeWith widthOf
+orbiting fine two =
     let c13 = fine-counts 13 (omega arith) (omega arith) in
-    in-table (λ i. FineShape (shapeAt i system)) (five fine-gap fine-gap fine-gap fine-gap fine-gap (omega arith) (omega arith))
-    (five fine-gap fine-gap fine-gap fine-gap c15 (omega arith) (omega arith))
-    (five iode c15 c13 c13 fine-gap (omega arith) (omega arith))
-    (five iode c15 c13 c13 c15 (omega arith) (omega arith))
-    (five c15 fine-gap fine-gap fine-gap fine-gap (omega arith) (omega arith))
-    (five (fine-counts 11 (omega arith) (omega arith)) fine-gap fine-gap fine-gap fine-gap (omega arith) (omega arith))
-    (five c15 (fine-plain 2 (omega arith) (omega arith)) fine-gap fine-gap fine-gap (omega arith) (omega arith))
-    (five byte byte byte byte byte (omega arith) (omega arith))
+    record {
+      fine = λ system.
+          let wide = iode-some system refl in
+          five (fine-plain (iodeWidth system) (wide .0) (omega arith)) c15 c13 c13 fine (omega arith) (omega arith);
+      columns = λ system. rw (column-back fine);
+      bare = λ a b. absurd (two a b);
+    }
 
-pub columns-at : (system i : ℕ) → i < 8 → columnsOf (shapeIn i system) ≡ shapeAt i system
-unfolding shapeIn
-columns-at system i some = columns-of _ (fine-at system i some)
+each : Each Row 0 shapes
+unfolding shapes combinedShape clockShape codeShape phaseShape packetShape widthOf
+each =
+    let byte = fine-plain 8 (omega arith) (omega arith) in
+    then (same (five fine-gap fine-gap fine-gap fine-gap fine-gap (omega arith) (omega arith)))
+    (then (same (five fine-gap fine-gap fine-gap fine-gap c15 (omega arith) (omega arith)))
+    (then (orbiting fine-gap (λ two _. two refl))
+    (then (orbiting c15 (λ _ three. three refl))
+    (then (same (five c15 fine-gap fine-gap fine-gap fine-gap (omega arith) (omega arith)))
+    (then (same (five (fine-counts 11 (omega arith) (omega arith)) fine-gap fine-gap fine-gap fine-gap (omega arith) (omega arith)))
+    (then (same (five c15 (fine-plain 2 (omega arith) (omega arith)) fine-gap fine-gap fine-gap (omega arith) (omega arith)))
+    (then (same (five byte byte byte byte byte (omega arith) (omega arith))) end)))))))
 
-pub formed-at : (system i : ℕ) → i < 8 → FormedShape (shapeIn i system)
-unfolding shapeIn
-formed-at system i some = formed-shape _ (fine-at system i some)
+row : (i : ℕ) → Row i (listed i)
+unfolding listed combinedShape widthOf
+row i =
+    let it = each-at gaps each (λ _. same (five fine-gap fine-gap fine-gap fine-gap fine-gap (omega arith) (omega arith))) i in
+    rw zero-add at it
+
+pub columns-at : (system i : ℕ) → columnsOf (shapeIn i system) ≡ shapeAt i system
+unfolding shapeIn shapeAt
+columns-at system i = columns-of _ (row i .fine system)
+
+pub columns-in : (system i : ℕ) → columnsIn (shapeFor i) system ≡ shapeAt i system
+unfolding shapeIn shapeAt
+columns-in system i = row i .columns system
+
+-- but for two, the same in every system
+pub no-iode : (i : ℕ) → (i ≡ 2 → ⊥) → (i ≡ 3 → ⊥) → shapeFor i .iode ≡ false
+unfolding shapeIn shapeWith
+no-iode i = row i .bare
 
 -- ---- what the code makes
 
+formed-at : (system i : ℕ) → FormedShape (shapeIn i system)
+unfolding shapeIn shapeAt
+formed-at system i = formed-shape _ (row i .fine system)
+
+pub formed : (i : ℕ) → FormedShape (shapeFor i)
+formed i = formed-at 0 i
+
+-- no other number has a row but the first
+abbrev pub listedNumbers : List ℕ
+listedNumbers = 7 ∷ 6 ∷ 5 ∷ 4 ∷ 3 ∷ 2 ∷ 1 ∷ []
+
+unlisted-rows : Each (λ n l. NoneOf listedNumbers n → gaps ≡ l) 0 shapes
+unfolding shapes named
+unlisted-rows =
+    let known = none-of listedNumbers in
+    then (λ _. refl) (then (λ u. absurd (known 1 u refl)) (then (λ u. absurd (known 2 u refl)) (then (λ u. absurd (known 3 u refl)) (then (λ u. absurd (known 4 u refl))
+    (then (λ u. absurd (known 5 u refl)) (then (λ u. absurd (known 6 u refl)) (then (λ u. absurd (known 7 u refl)) end)))))))
+
+unlisted : (i : ℕ) → NoneOf listedNumbers i → gaps ≡ listed i
+unfolding listed
+unlisted i u = let it = each-at gaps unlisted-rows (λ _ _. refl) i in (rw zero-add at it) u
+
 -- without an orbit and with one, by the clock's flag
 pub last-made : (clock : Bool) (system : ℕ) → lastOf (columnFor (cond clock (counts 15) gap)) ≡ shapeIn (cond clock 1 0) system
-unfolding shapes shapeAt shapeIn shapeWith lastOf combinedShape
+unfolding shapes listed shapeAt shapeIn shapeWith lastOf combinedShape
 last-made true system = refl
 last-made false system = refl
 
 pub orbit-made : (clock : Bool) (system : ℕ) → orbitOf (iodeWidth system) (columnFor (cond clock (counts 15) gap)) ≡ shapeIn (cond clock 3 2) system
-unfolding shapes shapeAt shapeIn shapeWith orbitOf combinedShape
+unfolding shapes listed shapeAt shapeIn shapeWith orbitOf combinedShape
 orbit-made true system = refl
 orbit-made false system = refl
 
-pub made-formed : (system i : ℕ) → i < 8 → {s : Shape} → s ≡ shapeIn i system → FormedShape s
-made-formed system i some made = rw made (formed-at system i some)
+pub gaps-made : (i : ℕ) (system : ℕ) → NoneOf listedNumbers i → lastOf (columnFor gap) ≡ shapeIn i system
+unfolding shapeAt shapeIn shapeWith lastOf combinedShape
+gaps-made i system u = ap (λ (l : Listed). shapeWith (l .iode) (l .columns system)) (unlisted i u)
 
-pub made-width : (system i : ℕ) → i < 8 → {s : Shape} {w : ℕ} → s ≡ shapeIn i system → w ≡ shapeWidth (columnsOf s) → w ≡ shapeWidth (shapeAt i system)
-made-width system i some made wide = wide ∙ rw (made, columns-at system i some)
+pub made-formed : (system i : ℕ) {s : Shape} → s ≡ shapeIn i system → FormedShape s
+made-formed system i made = rw made (formed-at system i)
 
-pub formed : (i : ℕ) → i < 8 → FormedShape (shapeFor i)
-formed i some = formed-at 0 i some
-
-pub columns-in : (system i : ℕ) → i < 8 → columnsIn (shapeFor i) system ≡ shapeAt i system
-unfolding columnsIn columnOf columnFor shapes shapeAt shapeIn shapeWith iodeWidth combinedShape clockShape codeShape phaseShape packetShape
-columns-in system = in-table (λ i. columnsIn (shapeFor i) system ≡ shapeAt i system) refl refl refl refl refl refl refl refl
+pub made-width : (system i : ℕ) {s : Shape} {w : ℕ} → s ≡ shapeIn i system → w ≡ shapeWidth (columnsOf s) → w ≡ shapeWidth (shapeAt i system)
+made-width system i made wide = wide ∙ rw (made, columns-at system i)
 
 -- ---- what callers ask of a row's columns
 
-pub five-at : (system i : ℕ) → i < 8 → length (shapeAt i system) ≡ 5
+pub five-at : (system i : ℕ) → length (shapeAt i system) ≡ 5
 unfolding columnsIn
-five-at system i some = ap length (sym (columns-in system i some))
+five-at system i = ap length (sym (columns-in system i))
 
-pub width-at : (system i : ℕ) → i < 8 → shapeWidth (shapeAt i system) ≤ 71
-width-at system i some = rw columns-in at (columns-width (shapeFor i) system (formed i some))
+pub width-at : (system i : ℕ) → shapeWidth (shapeAt i system) ≤ 71
+width-at system i = rw columns-in at (columns-width (shapeFor i) system (formed i))
 
 -- ---- layouts
 
-pub laid : (i : ℕ) → i < 5 → Laid (shapeFor i)
-unfolding shapes shapeAt shapeIn shapeWith columnFor orbitOf iodeWidth combinedShape clockShape
-laid i few =
-    in-table (λ i. i < 5 → Laid (shapeFor i)) (λ _. laid-bare (shapeFor 0) refl refl (inl refl)) (λ _. laid-bare (shapeFor 1) refl refl (inr refl)) (λ _. laid-orbit 8 (columnFor gap))
-    (λ _. laid-orbit 8 (columnFor (counts 15))) (λ _. laid-bare (shapeFor 4) refl refl (inl refl)) (λ h. absurd (omega arith)) (λ h. absurd (omega arith))
-    (λ h. absurd (omega arith)) i (omega arith) few
+-- by the two flags
+pub laid : (i : ℕ) → i < 4 → Laid (shapeFor i)
+unfolding shapes listed shapeAt shapeIn shapeWith columnFor orbitOf iodeWidth combinedShape
+laid zero few = laid-bare (shapeFor 0) refl refl (inl refl)
+laid (suc zero) few = laid-bare (shapeFor 1) refl refl (inr refl)
+laid (suc (suc zero)) few = laid-orbit 8 (columnFor gap)
+laid (suc (suc (suc zero))) few = laid-orbit 8 (columnFor (counts 15))
+laid (suc (suc (suc (suc i)))) few = absurd (omega arith)
 
-pub narrow : (i : ℕ) → 4 ≤ i → i < 7 → Narrow (shapeFor i)
-unfolding shapes shapeAt shapeIn shapeWith columnFor clockShape codeShape phaseShape
-narrow i some few =
-    in-table (λ i. 4 ≤ i → i < 7 → Narrow (shapeFor i)) (λ h _. absurd (omega arith)) (λ h _. absurd (omega arith)) (λ h _. absurd (omega arith)) (λ h _. absurd (omega arith))
-    (λ _ _. record { iode = refl; fourth = refl; fifth = refl }) (λ _ _. record { iode = refl; fourth = refl; fifth = refl })
-    (λ _ _. record { iode = refl; fourth = refl; fifth = refl }) (λ _ h. absurd (omega arith)) i (omega arith) some few
+-- a narrow one is laid
+pub narrow-laid : {s : Shape} → Narrow s → Laid s
+narrow-laid {s} n = laid-bare s (n .iode) (n .fourth) (inl (n .fifth))
+
+pub clock-narrow : Narrow (shapeFor 4)
+unfolding shapes listed shapeAt shapeIn shapeWith columnFor clockShape
+clock-narrow = record { iode = refl; fourth = refl; fifth = refl }
+
+pub code-narrow : Narrow (shapeFor 5)
+unfolding shapes listed shapeAt shapeIn shapeWith columnFor codeShape
+code-narrow = record { iode = refl; fourth = refl; fifth = refl }
+
+pub phase-narrow : Narrow (shapeFor 6)
+unfolding shapes listed shapeAt shapeIn shapeWith columnFor phaseShape
+phase-narrow = record { iode = refl; fourth = refl; fifth = refl }

@@ -1,25 +1,50 @@
--- The table of the rows' shapes by number (document 01, "Message layouts"), and each as the code has it.
-use mathlib.Core.Bool.{false, true, _||_}
+-- The table of the rows' shapes by number (document 01, "What is handed out"), and each as the code has it.
+use mathlib.Core.Bool.{Bool, false, true}
 use mathlib.Core.List.{List, [], _∷_}
 use Prim.Native.Nat.{ℕ}
-use lib.Dec.{eqb}
 use lib.ListN.{getD}
 use Rattle.format.specs.Messages.{clockShape, codeShape, phaseShape, combinedShape, packetShape}
 use Rattle.format.specs.Rows.{Column}
 use Rattle.rows.specs.declared.shape.Shape.{Shape}
 use Rattle.rows.specs.Shapes.{shapeWith}
 
--- a combined message's by its flags, of which the third is an orbit message's too, then those of clock, code bias, phase bias and packet
-unfoldable pub shapes : List (ℕ → List Column)
+-- a system's columns, and whether the first is an IODE
+pub record Listed : Type 0 where
+  pub iode : Bool
+  pub columns : ℕ → List Column
+
+abbrev pub bare : (ℕ → List Column) → Listed
+bare columns = record { iode = false; columns = columns }
+
+abbrev orbiting : (ℕ → List Column) → Listed
+orbiting columns = record { iode = true; columns = columns }
+
+-- gaps alone, as every number past the table has them
+abbrev pub gaps : Listed
+gaps = bare (combinedShape false false)
+
+-- by the two flags of orbit and clock, of which the third is the orbit's own message too; then clock, code bias, phase bias and packet
+unfoldable pub shapes : List Listed
 shapes =
-    combinedShape false false ∷ combinedShape false true ∷ combinedShape true false ∷ combinedShape true true ∷ clockShape ∷ codeShape ∷ phaseShape ∷ (λ _. packetShape) ∷ []
+    gaps
+    ∷ bare (combinedShape false true)
+    ∷ orbiting (combinedShape true false)
+    ∷ orbiting (combinedShape true true)
+    ∷ bare clockShape
+    ∷ bare codeShape
+    ∷ bare phaseShape
+    ∷ bare (λ _. packetShape)
+    ∷ []
+
+unfoldable pub listed : ℕ → Listed
+listed i = getD shapes i gaps
 
 unfoldable pub shapeAt : ℕ → ℕ → List Column
-shapeAt i system = getD shapes i (λ _. []) system
+shapeAt i system = listed i .columns system
 
--- as the code has it for a system: two begin with an IODE
+-- as the code has it for a system
 unfoldable pub shapeIn : ℕ → ℕ → Shape
-shapeIn i system = shapeWith (eqb i 2 || eqb i 3) (shapeAt i system)
+shapeIn i system = shapeWith (listed i .iode) (shapeAt i system)
 
 -- and for most
 abbrev pub shapeFor : ℕ → Shape

@@ -3,6 +3,7 @@ ghost use mathlib.Core.Path.{_≡_};
 ghost use Prim.Native.Nat.{_%_, _^_, _≤_, _<_};
 ghost use Rattle.format.specs.Rows.{gap, plain, counts, valueOf, shapeWidth};
 ghost use Rattle.rows.specs.Shapes.{columnFor, columnOf, columnsOf, Formed, FormedShape};
+use format::ABSENT;
 
 // A column of v1 to v5, as the numbers that turn bits into its value: nothing, a number, or two's complement. Of 32
 // bits each, since what they make has 32: a loop's machine code then adds and masks with them where they lie.
@@ -29,7 +30,7 @@ pub fn gap() -> Column
 {
     Column {
         width: 0,
-        half: 32768,
+        half: -ABSENT as u32,
         mask: 0,
     }
 }

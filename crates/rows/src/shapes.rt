@@ -1,8 +1,8 @@
-// The table of the rows' shapes (document 01, "Message layouts"), by number: those of a combined message first, by its
-// flags.
+// The table of the rows' shapes (document 01, "What is handed out"), by number: those by the flags of
+// orbit and clock first.
 ghost use mathlib.Core.Path.{_≡_};
 ghost use mathlib.Core.Bool.{false};
-ghost use Prim.Native.Nat.{_≤_, _<_};
+ghost use Prim.Native.Nat.{_≤_};
 ghost use Rattle.format.specs.Messages.{iodeWidth};
 ghost use Rattle.format.specs.Rows.{gap, shapeWidth};
 ghost use Rattle.rows.specs.Shapes.{columnFor, orbitOf, lastOf};
@@ -11,19 +11,19 @@ use crate::shape;
 use crate::shape::Column;
 use crate::shape::Shape;
 
-// A combined message's by its flags: neither is set.
+// By the two flags: neither is set.
 pub const NONE: usize = 0;
 
 // The clock's alone.
 pub const LAST: usize = 1;
 
-// The orbit's alone, which is an orbit message's shape too.
+// The orbit's alone, which the orbit's own message has, too.
 pub const ORBIT: usize = 2;
 
 // Both.
 pub const COMBINED: usize = 3;
 
-// Clocks.
+// The clock's own message.
 pub const CLOCK: usize = 4;
 
 // Code biases.
@@ -32,7 +32,7 @@ pub const CODE: usize = 5;
 // Phase biases.
 pub const PHASE: usize = 6;
 
-// Parts of a packet.
+// A packet's part.
 pub const PACKET: usize = 7;
 
 // How many bits an IODE has: 10 for Galileo.
@@ -120,43 +120,41 @@ pub fn packet() -> Shape
     }
 }
 
+// The shape of a number, gaps alone for one past the table.
 pub fn shape_of(i: usize) -> Shape
-    requires { ⌜ i < 8 ⌝ }
     ensures { λ r. ⌜ r ≡ shapeFor i ⌝ }
 {
     match i {
-        NONE => last(shape::gap()),
         LAST => last(shape::counts(15)),
         ORBIT => orbit(iode(0), shape::gap()),
         COMBINED => orbit(iode(0), shape::counts(15)),
         CLOCK => clock(),
         CODE => code(),
         PHASE => phase(),
-        _ => packet(),
+        PACKET => packet(),
+        _ => last(shape::gap()),
     }
 }
 
 // How many bits a row of a system has. Not by shape_of, which is too large to be inlined: here each arm is a sum that
 // the compiler knows.
 pub fn width_in(i: usize, system: u8) -> usize
-    requires { ⌜ i < 8 ⌝ }
     ensures { λ r. ⌜ r ≡ shapeWidth (shapeAt i system) ⌝ }
 {
     match i {
-        NONE => shape::width(last(shape::gap())),
         LAST => shape::width(last(shape::counts(15))),
         ORBIT => shape::width(orbit(iode(system), shape::gap())),
         COMBINED => shape::width(orbit(iode(system), shape::counts(15))),
         CLOCK => shape::width(clock()),
         CODE => shape::width(code()),
         PHASE => shape::width(phase()),
-        _ => shape::width(packet()),
+        PACKET => shape::width(packet()),
+        _ => shape::width(last(shape::gap())),
     }
 }
 
 // And of most systems.
 pub fn width_of(i: usize) -> usize
-    requires { ⌜ i < 8 ⌝ }
     ensures { λ r. ⌜ r ≡ shapeWidth (shapeAt i 0) ⌝ }
 {
     width_in(i, 0)

@@ -2,7 +2,7 @@
 use mathlib.Core.Bool.{Bool, true, false, cond}
 use mathlib.Core.List.{List, [], _∷_}
 use mathlib.Core.Path.{_≡_}
-use Prim.Native.Nat.{ℕ, _≤_, _<_}
+use Prim.Native.Nat.{ℕ}
 use lib.ListN.{getD}
 use Rattle.format.specs.Masks.{Sky}
 use Rattle.format.specs.Messages.{Heading, Common, rowsAlone, overSatellites, overCells, flagged, packet, maskMessage}
@@ -16,6 +16,7 @@ use Rattle.table.specs.declared.Kind.{Kind}
 use Rattle.table.specs.declared.Kind.the-variants.{Other, Mask, Packet, Masked}
 use Rattle.table.specs.declared.Layout.{Layout}
 use Rattle.rows.specs.Table.{shapeAt}
+use Rattle.table.specs.Bodies.{FitsKeys}
 use Rattle.table.specs.Shapes.{shapesFrom}
 
 unfoldable pub keysFor : Bool → ℕ → Keys
@@ -42,11 +43,16 @@ codeKinds =
 unfoldable pub kindFor : ℕ → Kind
 kindFor n = getD codeKinds n Other
 
--- what is known of a layout: with flags it is satellites', from the first shape on; else its shape is one of satellites, or of cells
+-- what is known of a layout: with flags it is satellites', from the first shape on; else its shape is one that its keys can have
 pub record LaidOut (l : Layout) : Type 0 where
   pub with-flags : l .flagged ≡ true → (l .cells ≡ false) × (l .shape ≡ 0)
-  pub of-satellites : l .cells ≡ false → l .shape < 5
-  pub of-cells : l .cells ≡ true → (5 ≤ l .shape) × (l .shape < 7)
+  pub fits : (chosen : ℕ) → FitsKeys (keysFor (l .cells) chosen) (l .shape)
+
+unfoldable pub OfTable : Kind → Type 0
+OfTable Other = Unit {0}
+OfTable Mask = Unit {0}
+OfTable Packet = Unit {0}
+OfTable (Masked l) = LaidOut l
 
 -- ---- what they mean
 

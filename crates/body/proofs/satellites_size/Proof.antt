@@ -15,7 +15,7 @@ use Rattle.body.proofs.satellites_size.Tie as tie
 size-alike-requires : tie.Need-size-alike-requires
 size-alike-requires c κs =
     let s = c .before .before in
-    (omega (arith, few (s .args .h) (s .pre .0)), omega (arith, c .width-of .ensures, width-at 0 (s .args .shape) (omega arith)))
+    (omega (arith, few (s .args .h) (s .pre)), omega (arith, c .width-of .ensures, width-at 0 (s .args .shape)))
 
 returns : tie.Need-returns
 returns c =
@@ -24,21 +24,21 @@ returns c =
     let x = s .args in
     let not-orbit : x .shape ≡ 2 → ⊥ = λ e. ⊎-elim (λ w. omega arith) (λ w. omega (arith, ltb-true 3 (x .shape) (w .1 .taken))) (j .if1 .came) in
     let not-both : x .shape ≡ 3 → ⊥ = λ e. ⊎-elim (λ w. omega arith) (λ w. omega (arith, ltb-true 3 (x .shape) (w .1 .taken))) (j .if1 .came) in
-    rw (c .size-alike .ensures) (alike (x .h) (s .pre .0) (x .chosen) (x .shape) _ (omega arith) (omega arith) not-orbit not-both (c .before .width-of .ensures))
+    rw (c .size-alike .ensures) (alike (x .h) (s .pre) (x .chosen) (x .shape) _ (omega arith) not-orbit not-both (c .before .width-of .ensures))
 
 size-requires : tie.Need-size-requires
 size-requires c κs =
     let s = c .before .before .before .before .before .before in
-    let fit = masked (s .args .h) (s .pre .0) in
-    (fit .0, fit .1, omega (arith, many (s .args .h) (s .pre .0), few (s .args .h) (s .pre .0)), omega arith)
+    let fit = masked (s .args .h) (s .pre) in
+    (fit .0, fit .1, omega (arith, many (s .args .h) (s .pre), few (s .args .h) (s .pre)))
 
 returns-2 : tie.Need-returns-2
 returns-2 c =
     let s = c .before .before .before .before .before .before .before in
-    subst (λ (l : List Line). Counts l (c .size .result)) (by-shape (s .args .h) (s .pre .0) (s .args .chosen) (s .args .shape)) (c .size .ensures)
+    subst (λ (l : List Line). Counts l (c .size .result)) (by-shape (s .args .h) (s .pre) (s .args .chosen) (s .args .shape)) (c .size .ensures)
 
 pub satellites-size-spec : {M : Type 1} → statement M
 satellites-size-spec =
     tie.close
-    (tie.spec (λ c κs. search needs) size-alike-requires returns (λ c. let s = c .before .before .before .before in counted (s .args .h) (s .pre .0))
-    (λ c. let s = c .before .before .before .before .before in prefix (s .args .h) (s .pre .0)) (λ c. search needs) size-requires returns-2)
+    (tie.spec (λ c κs. search needs) size-alike-requires returns (λ c. let s = c .before .before .before .before in counted (s .args .h) (s .pre))
+    (λ c. let s = c .before .before .before .before .before in prefix (s .args .h) (s .pre)) (λ c. search needs) size-requires returns-2)

@@ -7,31 +7,20 @@ use Rattle.format.specs.Rows.{Line}
 use Rattle.holding.specs.Held.{viewOf}
 use Rattle.rows.proofs.Table.{width-at}
 use Rattle.body.specs.Written.{Counts}
-use Rattle.body.proofs.Bodies.{few-chosen, satellites-fit, cells-fit, parts-fit, lines-known, cells-alike, parts-alike}
+use Rattle.body.proofs.Bodies.{few-chosen, cells-fit, parts-fit, lines-known, cells-alike, parts-alike}
 use Rattle.body.proofs.size.Statement.{statement}
 use Rattle.body.proofs.size.Tie as tie
-
-width-of-requires : tie.Need-width-of-requires
-width-of-requires c κs =
-    let s = c .before .before .before .before in
-    omega (arith, cells-fit (s .args .body) (s .pre .1) (c .before .before .keys2 .given .1))
 
 alike-requires : tie.Need-alike-requires
 alike-requires c κs =
     let s = c .before .before .before .before .before in
-    let fit = cells-fit (s .args .body) (s .pre .1) (c .before .before .before .keys2 .given .1) in
-    (omega (arith, c .before .cells-chosen .ensures, few-chosen (s .args .h) (s .pre .0) (c .before .before .before .keys2 .given .0 .0)), omega (arith, c .width-of .ensures, width-at 0 (s .args .body .shape) (omega (arith, fit))))
-
-width-of-requires-2 : tie.Need-width-of-requires-2
-width-of-requires-2 c κs =
-    let s = c .before .before .before in
-    omega (arith, parts-fit (s .args .body) (s .pre .1) (c .before .keys3 .given .1))
+    (omega (arith, c .before .cells-chosen .ensures, few-chosen (s .args .h) (s .pre .0) (c .before .before .before .keys2 .given .0 .0)), omega (arith, c .width-of .ensures, width-at 0 (s .args .body .shape)))
 
 alike-requires-2 : tie.Need-alike-requires-2
 alike-requires-2 c κs =
     let s = c .before .before .before .before in
     let fit = parts-fit (s .args .body) (s .pre .1) (c .before .before .keys3 .given .1) in
-    (omega (arith, fit), omega (arith, c .width-of2 .ensures, width-at 0 (s .args .body .shape) (omega (arith, fit))))
+    (omega (arith, fit), omega (arith, c .width-of2 .ensures, width-at 0 (s .args .body .shape)))
 
 returns : tie.Need-returns
 returns c =
@@ -44,7 +33,7 @@ returns-2 c =
     let known = c .before .before .before .before .keys2 .given in
     let fit = cells-fit (s .args .body) (s .pre .1) (known .1) in
     subst (λ (l : List Line). Counts l (c .alike .result)) (lines-known (viewOf (s .args .h)) (s .args .body) (known .1))
-    (rw (c .alike .ensures) (cells-alike (viewOf (s .args .h)) (known .0 .0) (s .args .body .shape) _ _ (fit .0) (fit .1) (c .before .before .cells-chosen .ensures) (c .before .width-of .ensures)))
+    (rw (c .alike .ensures) (cells-alike (viewOf (s .args .h)) (known .0 .0) (s .args .body .shape) _ _ (fit .0 .iode) (c .before .before .cells-chosen .ensures) (c .before .width-of .ensures)))
 
 returns-3 : tie.Need-returns-3
 returns-3 c =
@@ -57,6 +46,6 @@ pub size-spec : {M : Type 1} → statement M
 size-spec =
     tie.close
     (tie.spec (λ c. search needs)
-    (λ c κs. let s = c .before .before .before in (s .pre .0, satellites-fit (s .args .body) (s .pre .1) (c .before .keys .given .1)))
-    (λ c. search needs) (λ c κs. search needs) width-of-requires alike-requires (λ c. search needs) width-of-requires-2 alike-requires-2 returns
+    (λ c κs. search needs)
+    (λ c. search needs) (λ c κs. search needs) (λ c κs. search needs) alike-requires (λ c. search needs) (λ c κs. search needs) alike-requires-2 returns
     returns-2 returns-3)

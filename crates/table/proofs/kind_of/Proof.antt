@@ -3,6 +3,7 @@ use mathlib.Core.Path.{_≡_, refl, sym, ap, _∙_}
 use Prim.Native.Nat.{ℕ}
 use lib.ListN.{getD}
 use borrow.Author.Needs.{needs}
+use Rattle.format.proofs.Tables.{NoneOf}
 use Rattle.table.specs.declared.Kind.{Kind}
 use Rattle.table.specs.declared.Kind.the-variants.{Other, Mask, Packet}
 use Rattle.table.specs.Kinds.{codeKinds, kindFor}
@@ -45,6 +46,7 @@ unfolding codeKinds
 returns-7 c = row _ 11 (c .match .keys7) _ refl
 
 returns-8 : tie.Need-returns-8
+unfolding NoneOf
 returns-8 c = unlisted-other _ (c .match .rest)
 
 pub kind-of-spec : {M : Type 1} → statement M

@@ -13,7 +13,7 @@ use Rattle.format.specs.Rows.{Column, Line, absent, shapeWidth}
 use Rattle.rows.proofs.Table.{made-formed, columns-at}
 use Rattle.rows.specs.At.{valuesAt}
 use Rattle.rows.specs.Shapes.{columnsOf}
-use Rattle.rows.specs.Table.{shapes, shapeAt}
+use Rattle.rows.specs.Table.{shapes, listed, shapeAt}
 use Rattle.body.proofs.Going.{Going, going-start, Row, going-row, going-end}
 use Rattle.body.proofs.Keys.{key, keyed}
 use Rattle.body.proofs.packet.fill.Statement.{statement}
@@ -61,8 +61,8 @@ module _ (c : tie.In-loop Inv-loop μ-loop) where
   few = omega (arith, c .before .loop .inv .1, going .few, going .count)
 
   columns : columnsOf (c .before .before .before .packet .result) ≡ packetShape
-  unfolding shapeAt shapes
-  columns = ap columnsOf (c .before .before .before .packet .ensures) ∙ columns-at 0 7 (omega arith)
+  unfolding shapeAt listed shapes
+  columns = ap columnsOf (c .before .before .before .packet .ensures) ∙ columns-at 0 7
 
   wide : c .before .before .width .result ≡ shapeWidth packetShape
   wide = c .before .before .width .ensures ∙ ap shapeWidth columns
@@ -71,7 +71,7 @@ wide-requires : tie.Need-wide-requires Inv-loop μ-loop
 wide-requires c κs =
     let p = c .before in
     let w = row p in
-    (w .part, omega (arith, w .near), made-formed 0 7 (omega arith) (p .before .before .before .packet .ensures), omega (arith, w .whole))
+    (w .part, omega (arith, w .near), made-formed 0 7 (p .before .before .before .packet .ensures), omega (arith, w .whole))
 
 loop-again : tie.Need-loop-again Inv-loop μ-loop
 loop-again c =
@@ -90,7 +90,7 @@ returns c =
 pub fill-spec : {M : Type 1} → statement M
 fill-spec =
     tie.close
-    (tie.spec Inv-loop μ-loop (λ c κs. search needs) (λ c κs. made-formed 0 7 (omega arith) (c .packet .ensures)) loop-holds (λ c. omega arith)
+    (tie.spec Inv-loop μ-loop (λ c κs. search needs) (λ c κs. made-formed 0 7 (c .packet .ensures)) loop-holds (λ c. omega arith)
     (λ c. omega (arith, row c .room)) (λ c. omega (arith, row c .room)) (λ c. omega arith) (λ c. search needs) (λ c. row c .room)
     (λ c. record { sfits = omega (arith, few (c .before)) }) wide-requires
     (λ c. let p = c .before .before .before in omega (arith, row p .near, wide p)) (λ c. omega (arith, c .before .before .before .loop-test .taken))

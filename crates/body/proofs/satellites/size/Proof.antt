@@ -73,7 +73,7 @@ module _ (c : tie.After-width-in Inv-loop μ-loop) where
 
   room : (p .before .loop .bits + some * c .width-in .result ≤ 4544) × (p .before .loop .count + some ≤ 256)
   room =
-      let most = few-alone (s .args .shape) (s .args .chosen) (fromSlot (s .args .ids .now) (s .args .masks .now) 0) (s .pre .3) (s .pre .2) in
+      let most = few-alone (s .args .shape) (s .args .chosen) (fromSlot (s .args .ids .now) (s .args .masks .now) 0) (s .pre .2) in
       (omega (arith, bits, most .bits), omega (arith, rows, most .rows))
 
 loop-again : tie.Need-loop-again Inv-loop μ-loop

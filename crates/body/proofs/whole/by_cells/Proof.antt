@@ -1,12 +1,11 @@
 -- `body::whole::by_cells` meets its contract. Assumes nothing.
 use mathlib.Core.Path.{sym, ap, _∙_}
 use mathlib.Core.List.{List}
-use native.Mathlib.Omega.{arith}
 use borrow.Author.Needs.{needs}
 use Rattle.format.specs.Reading.{over}
 use Rattle.format.specs.Rows.{Line}
 use Rattle.holding.proofs.Sounds.{sounds}
-use Rattle.rows.proofs.Table.{made-formed, narrow}
+use Rattle.rows.proofs.Table.{made-formed}
 use Rattle.body.specs.Written.{numbersAt}
 use Rattle.body.proofs.Bodies.{counted, prefix, masked, covered, by-cells}
 use Rattle.body.proofs.whole.by_cells.Statement.{statement}
@@ -22,9 +21,9 @@ fill-requires c κs =
       fit .0,
       fit .1,
       covered (x .h) (s .pre .0),
-      made-formed 0 (x .shape) (omega arith) made,
-      rw made (narrow (x .shape) (omega arith) (s .pre .2)),
-      rw (by-cells (x .h) (s .pre .0) (x .chosen) (x .shape) _ (omega arith) made) (s .pre .3),
+      made-formed 0 (x .shape) made,
+      rw made (s .pre .1),
+      rw (by-cells (x .h) (s .pre .0) (x .chosen) (x .shape) _ made) (s .pre .2),
     )
 
 returns : tie.Need-returns
@@ -32,7 +31,7 @@ returns c =
     let o = c .before .before .before .before .before .before in
     let s = o .before .before .before .before .before in
     let x = s .args in
-    c .before .fill .ensures ∙ ap (λ (l : List Line). over (numbersAt l (x .bytes .now) (x .at)) (x .rows .now)) (by-cells (x .h) (s .pre .0) (x .chosen) (x .shape) _ (omega arith) (o .shape-of .ensures))
+    c .before .fill .ensures ∙ ap (λ (l : List Line). over (numbersAt l (x .bytes .now) (x .at)) (x .rows .now)) (by-cells (x .h) (s .pre .0) (x .chosen) (x .shape) _ (o .shape-of .ensures))
 
 pub by-cells-spec : {M : Type 1} → statement M
 by-cells-spec =

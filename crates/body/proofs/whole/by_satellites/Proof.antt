@@ -1,12 +1,11 @@
 -- `body::whole::by_satellites` meets its contract. Assumes nothing.
 use mathlib.Core.Path.{sym, ap, _∙_}
 use mathlib.Core.List.{List}
-use native.Mathlib.Omega.{arith}
 use borrow.Author.Needs.{needs}
 use Rattle.format.specs.Reading.{over}
 use Rattle.format.specs.Rows.{Line}
 use Rattle.holding.proofs.Sounds.{sounds}
-use Rattle.rows.proofs.Table.{made-formed, laid}
+use Rattle.rows.proofs.Table.{made-formed}
 use Rattle.body.specs.Written.{numbersAt}
 use Rattle.body.proofs.Bodies.{counted, prefix, masked, by-satellites}
 use Rattle.body.proofs.whole.by_satellites.Statement.{statement}
@@ -19,14 +18,14 @@ fill-requires c κs =
     let x = s .args in
     let fit = masked (x .h) (s .pre .0) in
     let made = o .shape-of .ensures in
-    (fit .0, fit .1, made-formed 0 (x .shape) (omega arith) made, rw made (laid (x .shape) (s .pre .1)), rw (by-satellites (x .h) (s .pre .0) (x .chosen) (x .shape) _ (omega arith) made) (s .pre .2))
+    (fit .0, fit .1, made-formed 0 (x .shape) made, rw made (s .pre .1), rw (by-satellites (x .h) (s .pre .0) (x .chosen) (x .shape) _ made) (s .pre .2))
 
 returns : tie.Need-returns
 returns c =
     let o = c .before .before .before .before .before in
     let s = o .before .before .before .before in
     let x = s .args in
-    c .before .fill .ensures ∙ ap (λ (l : List Line). over (numbersAt l (x .bytes .now) (x .at)) (x .rows .now)) (by-satellites (x .h) (s .pre .0) (x .chosen) (x .shape) _ (omega arith) (o .shape-of .ensures))
+    c .before .fill .ensures ∙ ap (λ (l : List Line). over (numbersAt l (x .bytes .now) (x .at)) (x .rows .now)) (by-satellites (x .h) (s .pre .0) (x .chosen) (x .shape) _ (o .shape-of .ensures))
 
 pub by-satellites-spec : {M : Type 1} → statement M
 by-satellites-spec =

@@ -24,8 +24,7 @@ by-cells-requires c κs =
     let k = c .before .before in
     let s = k .before .before .before in
     let known = k .keys2 .given .1 in
-    let fit = cells-fit (s .args .body) (s .pre .1) known in
-    (s .pre .0, fit .0, fit .1, roomy (s .args .h) (s .pre .0) (s .args .body) _ _ _ known (s .pre .1) (s .pre .2) (s .pre .3) (s .pre .4))
+    (s .pre .0, cells-fit (s .args .body) (s .pre .1) known .0, roomy (s .args .h) (s .pre .0) (s .args .body) _ _ _ known (s .pre .1) (s .pre .2) (s .pre .3) (s .pre .4))
 
 fill-requires : tie.Need-fill-requires
 unfolding linesOver

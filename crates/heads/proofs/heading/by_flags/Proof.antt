@@ -21,7 +21,9 @@ use Rattle.heads.specs.Headings.{headWith, saidBy, FitsHeading, rowed, n
 use Rattle.heads.proofs.Picked.{pick-all}
 use Rattle.heads.proofs.heading.by_flags.Statement.{statement}
 use Rattle.heads.proofs.heading.by_flags.Tie as tie
-use Rattle.rows.specs.Table.{shapeAt}
+use Rattle.rows.proofs.Table.{laid}
+use Rattle.rows.specs.Shapes.{Laid}
+use Rattle.rows.specs.Table.{shapeAt, shapeFor}
 use Rattle.table.specs.Bodies.{linesIn, linesOver, FitsKeys}
 use Rattle.table.specs.Shapes.{shapesFrom}
 
@@ -61,6 +63,13 @@ module _ (c : tie.After-head) where
       let flags = start .args .flags in
       rw (toZ-pos w32 {n = flags / 4} (omega (arith, start .pre .3)), toZ-pos w32 {n = flags / 2 % 2} (omega arith)) at (c .head .ensures)
 
+  -- its shape is one by two flags
+  fits : Laid (shapeFor (start .args .under .layout .shape + start .args .flags / 2))
+  fits = laid _ (omega (arith, start .pre .2, start .pre .3))
+
+selection-requires : tie.Need-selection-requires
+selection-requires c κs = let p = start (c .before) .pre in (p .1, fits (c .before), p .5)
+
 returns : tie.Need-returns
 unfolding skyIn
 returns c =
@@ -81,8 +90,8 @@ returns-2 c =
     let x = s .args in (
       λ v shows.
           rw (made p, without (x .under) (x .h) (x .flags) (s .pre .3) (skyIn v) (c .if1 .left), done-end, pick-all (v .satellites) (omega (arith, shows .count, shows .few))),
-      omega (arith, s .pre .2, s .pre .3),
+      fits p,
     )
 
 pub by-flags-spec : {M : Type 1} → statement M
-by-flags-spec = tie.close (tie.spec (λ c. search needs) (λ c. search needs) (λ c. search needs) (λ c κs. search needs) (λ c κs. search needs) returns returns-2)
+by-flags-spec = tie.close (tie.spec (λ c. search needs) (λ c. search needs) (λ c. search needs) (λ c κs. search needs) selection-requires returns returns-2)

@@ -23,9 +23,9 @@ use Rattle.holding.specs.Held.{View, skyIn}
 use Rattle.rows.specs.Table.{shapeAt}
 use Rattle.table.specs.declared.Keys.the-variants.{Satellites, Cells}
 use Rattle.table.specs.declared.Layout.{Layout}
-use Rattle.table.specs.Bodies.{linesIn, linesOver, FitsKeys}
+use Rattle.table.specs.Bodies.{linesIn, linesOver}
 use Rattle.table.specs.Shapes.{shapesFrom}
-use Rattle.table.specs.Kinds.{keysFor, LaidOut, overBy, programBy}
+use Rattle.table.specs.Kinds.{keysFor, overBy, programBy}
 
 module _ (u : Under) (h : CommonHead) (sky : Sky) where
   -- the gate's three ways
@@ -71,14 +71,6 @@ alone-lines l v n shows = go (l .cells)
     go true = all-cells v n shows (l .shape)
     go false = all-satellites v n shows (l .shape)
 
-alone-fits : (l : Layout) → LaidOut l → FitsKeys (keysFor (l .cells) 18446744073709551615) (l .shape)
-unfolding keysFor FitsKeys
-alone-fits l laid = go (l .cells) (laid .of-satellites) (laid .of-cells)
-  where
-    go : (b : Bool) → (b ≡ false → l .shape < 5) → (b ≡ true → (5 ≤ l .shape) × (l .shape < 7)) → FitsKeys (cond b (Cells 18446744073709551615) (Satellites 18446744073709551615)) (l .shape)
-    go true few some = some refl
-    go false few some = few refl
-
 returns : tie.Need-returns
 unfolding saidBy FitsHeading endFrom run later
 returns c =
@@ -119,7 +111,7 @@ returns-4 c =
             alone-lines (x .under .layout) v (x .under .n) shows,
             done-end,
           ),
-      rw (c .over .ensures) (alone-fits (x .under .layout) (s .pre .2)),
+      rw (c .over .ensures) (s .pre .2 .fits _),
     )
 
 pub gated-spec : {M : Type 1} → statement M

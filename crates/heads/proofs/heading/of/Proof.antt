@@ -3,12 +3,12 @@ use borrow.Author.Needs.{needs}
 use Rattle.format.specs.Ends.{endFrom}
 use Rattle.format.specs.Programs.{later, run}
 use Rattle.heads.specs.Headings.{saidBy, FitsHeading}
-use Rattle.heads.specs.Sorting.{OfTable, headingFor}
+use Rattle.heads.specs.Sorting.{headingFor}
 use Rattle.heads.proofs.heading.of.Statement.{statement}
 use Rattle.heads.proofs.heading.of.Tie as tie
 use Rattle.table.specs.declared.Kind.the-variants.{Masked}
 use Rattle.table.specs.declared.Layout.{Layout}
-use Rattle.table.specs.Kinds.{LaidOut}
+use Rattle.table.specs.Kinds.{LaidOut, OfTable}
 
 laid : (l : Layout) → OfTable (Masked l) → LaidOut l
 unfolding OfTable

@@ -69,7 +69,7 @@ returns-4 c =
       λ v shows.
           let whole = network-there (s p .pre .2) (v .satellites) (x .numbers) (shapeAt (x .shape)) (there p) (c .before .before .before .if1 .left) (rw (shows .count) (c .before .before .if2 .left)) in
           rw (whole, shows .count, head, c .chosen .ensures, pick-front (x .n) (field (x .bytes .now) (x .place + 5) (x .n)) (v .satellites) (shows .count) (shows .few)),
-      omega arith,
+      s p .pre .1,
     )
 
 pub selection-spec : {M : Type 1} → statement M

@@ -13,7 +13,7 @@ use Rattle.format.specs.Table.{opening}
 use Rattle.heads.specs.Heads.{openingBy}
 use Rattle.heads.specs.Headings.{saidBy}
 use Rattle.heads.specs.Sorting.{headingFor, headedAt}
-use Rattle.heads.proofs.Opened.{Opened, opened, tabled}
+use Rattle.heads.proofs.Opened.{Opened, opened}
 use Rattle.holding.specs.declared.Holding.{Holding}
 use Rattle.holding.specs.Held.{skyIn, viewOf}
 use Rattle.holding.specs.Pictures.{maskOf}
@@ -27,6 +27,7 @@ use Rattle.table.proofs.Kind.{the-type}
 use Rattle.table.specs.declared.Kind.{Kind}
 use Rattle.table.specs.declared.Kind.the-variants as Kinds
 use Rattle.table.specs.Kinds.{kindFor}
+use Rattle.table.proofs.Tabled.{tabled}
 
 -- any kind but a mask is answered
 other-found : (k : Kind) (o : Outcome) → (k ≡ Kinds.Mask → ⊥) → Answered (answerOf o) ≡ foundAs k o

@@ -3,12 +3,12 @@ use mathlib.Core.Path.{_∙_}
 use borrow.Author.Needs.{needs}
 use Rattle.format.specs.Messages.{clockShape}
 use Rattle.rows.specs.Shapes.{shapeWith}
-use Rattle.rows.specs.Table.{shapes, shapeAt, shapeIn}
+use Rattle.rows.specs.Table.{shapes, listed, shapeAt, shapeIn}
 use Rattle.rows.proofs.shapes.clock.Statement.{statement}
 use Rattle.rows.proofs.shapes.clock.Tie as tie
 
 returns : tie.Need-returns
-unfolding clockShape shapeWith shapes shapeAt shapeIn
+unfolding clockShape shapeWith shapes listed shapeAt shapeIn
 returns c = c .three .ensures ∙ rw (c .before .gap2 .ensures, c .before .before .gap .ensures, c .before .before .before .counts .ensures)
 
 pub clock-spec : {M : Type 1} → statement M

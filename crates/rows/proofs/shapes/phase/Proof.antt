@@ -3,12 +3,12 @@ use mathlib.Core.Path.{_∙_}
 use borrow.Author.Needs.{needs}
 use Rattle.format.specs.Messages.{phaseShape}
 use Rattle.rows.specs.Shapes.{shapeWith}
-use Rattle.rows.specs.Table.{shapes, shapeAt, shapeIn}
+use Rattle.rows.specs.Table.{shapes, listed, shapeAt, shapeIn}
 use Rattle.rows.proofs.shapes.phase.Statement.{statement}
 use Rattle.rows.proofs.shapes.phase.Tie as tie
 
 returns : tie.Need-returns
-unfolding phaseShape shapeWith shapes shapeAt shapeIn
+unfolding phaseShape shapeWith shapes listed shapeAt shapeIn
 returns c = c .three .ensures ∙ rw (c .before .gap .ensures, c .before .before .plain .ensures, c .before .before .before .counts .ensures)
 
 pub phase-spec : {M : Type 1} → statement M
