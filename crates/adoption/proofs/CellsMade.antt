@@ -16,7 +16,7 @@ use Rattle.adoption.specs.declared.Grown.{Grown}
 use Rattle.adoption.specs.declared.Step.the-variants as Step
 use Rattle.format.specs.Ends.{Within, endFrom}
 use Rattle.adoption.specs.Growing.{HasRoom, settled}
-use Rattle.adoption.specs.Stages.{masksBy, tested, cellsBy}
+use Rattle.adoption.specs.Stages.{masksBy}
 use Rattle.bits.proofs.BitLists.{number-spell, length-spell, length-bits}
 use Rattle.bits.proofs.Bridge.{spell-field}
 use Rattle.bits.specs.BitLists.{number, spell, bits}
@@ -24,7 +24,7 @@ use Rattle.bits.specs.Places.{field}
 use Rattle.format.proofs.Runs.{drop-take}
 use Rattle.format.specs.declared.Refusal.the-variants as Refusal
 use Rattle.format.specs.Masks.{System, Mask, mask, placesFrom, satellites, cells}
-use Rattle.format.specs.Messages.{systemWith}
+use Rattle.format.specs.Messages.{systemWith, fewCells, flaggedCells}
 use Rattle.format.specs.Programs.{well, badly}
 use Rattle.holding.proofs.Built.{begun-picture, strips-ones, flatMap-snoc, system-built}
 use Rattle.holding.proofs.PicturedStrips.{length-strips, picture-strips}
@@ -60,8 +60,8 @@ cells-with m s long = rw flatMap-snoc (simp length-append (rw (strips-ones s lon
 -- the test of the cells and the slot are where the program ends
 settled-end : (h : Holding) (m : Mask) (s : System) → h ≡ pictureOf (mask m) → length (m .systems) < 5 → length (s .signals) ≡ 16 → h .nsat + length (stripsOf s) ≤ 64
     → (bs : List ℕ) (end at : ℕ)
-    → settled h (withStrips h (stripsOf s)) (s .id) (number (s .satellites)) (number (s .signals)) (s .flag) at ≡ grownBy m (endFrom (tested (m .systems) s) bs end at)
-unfolding settled grownBy tested
+    → settled h (withStrips h (stripsOf s)) (s .id) (number (s .satellites)) (number (s .signals)) (s .flag) at ≡ grownBy m (endFrom (fewCells (m .systems) s) bs end at)
+unfolding settled grownBy fewCells
 settled-end h m s e room long few bs end at =
     rw (begun-strips h m s e few, settled, system-built m s room long, cells-with m s long, test-end, done-end) (by (leb (length (cells (m .systems ++ (s ∷ [])))) 256))
   where
@@ -86,11 +86,11 @@ module _ {h : Holding} {sats : ℕ} (r : HasRoom h sats) (id signals : ℕ) (lon
   module _ {bs : List ℕ} {end place : ℕ} (at : Within bs end place) where
     -- where the cells end behind a flag
     abbrev ends : ℕ → Grown
-    ends flag = grownBy m (endFrom (cellsBy (m .systems) id (masksBy sats signals) flag) bs end place)
+    ends flag = grownBy m (endFrom (flaggedCells (m .systems) id (masksBy sats signals) flag) bs end place)
 
     with-flag : (flag : ℕ) (bits : List Bool) (next : ℕ)
         → let s = systemWith id (masksBy sats signals) flag bits in
-        settled h (withStrips h (stripsOf s)) id sats signals (eqb flag 1) next ≡ grownBy m (endFrom (tested (m .systems) s) bs end next)
+        settled h (withStrips h (stripsOf s)) id sats signals (eqb flag 1) next ≡ grownBy m (endFrom (fewCells (m .systems) s) bs end next)
     unfolding systemWith
     with-flag flag bits next =
         let s = systemWith id (masksBy sats signals) flag bits in
@@ -107,10 +107,10 @@ module _ {h : Holding} {sats : ℕ} (r : HasRoom h sats) (id signals : ℕ) (lon
     plain-strips = rw (satellites-are, number-spell 16 signals, mod-eq-of-lt long)
 
     pub plain-made : settled h (withStrips h (replicate (ones sats) signals)) id sats signals false place ≡ ends 0
-    unfolding cellsBy spell
+    unfolding flaggedCells spell
     plain-made =
         ap (λ (strips : List ℕ). settled h (withStrips h strips) id sats signals false place) (sym plain-strips) ∙ with-flag 0 [] place
-        ∙ ap (grownBy m) (rw zero-mul (sym (rw add-zero at (bits-there at 0 (λ b. tested (m .systems) (systemWith id (masksBy sats signals) 0 b)) (omega (arith, at .room))))))
+        ∙ ap (grownBy m) (rw zero-mul (sym (rw add-zero at (bits-there at 0 (λ b. fewCells (m .systems) (systemWith id (masksBy sats signals) 0 b)) (omega (arith, at .room))))))
 
     -- flag 1: those from the next bits of the cell mask, whose bits may be missing
     abbrev width : ℕ
@@ -120,8 +120,8 @@ module _ {h : Holding} {sats : ℕ} (r : HasRoom h sats) (id signals : ℕ) (lon
     width-is = rw (satellites-are, signals-are)
 
     pub mask-short : end - place < ones sats * ones signals
-        → endFrom (cellsBy (m .systems) id (masksBy sats signals) 1) bs end place ≡ badly Refusal.Short (ones sats * ones signals - (end - place))
-    unfolding cellsBy
+        → endFrom (flaggedCells (m .systems) id (masksBy sats signals) 1) bs end place ≡ badly Refusal.Short (ones sats * ones signals - (end - place))
+    unfolding flaggedCells
     mask-short short = rw (← width-is, one-mul) (bits-cut at width _ (rw width-is short))
 
     flagged-strips : place + width ≤ end → stripsOf (systemWith id (masksBy sats signals) 1 (spell width (field bs place width))) ≡ stripsFrom (ones sats) (spell 16 signals) (drop place (bits bs))
@@ -136,11 +136,11 @@ module _ {h : Holding} {sats : ℕ} (r : HasRoom h sats) (id signals : ℕ) (lon
 
     pub flagged-made : place + ones sats * ones signals ≤ end
         → settled h (withStrips h (stripsFrom (ones sats) (spell 16 signals) (drop place (bits bs)))) id sats signals true (place + ones sats * ones signals) ≡ ends 1
-    unfolding cellsBy
+    unfolding flaggedCells
     flagged-made there =
         let fits : place + width ≤ end = rw width-is there in
         let cellMask = spell width (field bs place width) in
         let s = systemWith id (masksBy sats signals) 1 cellMask in
         ap (λ (strips : List ℕ). settled h (withStrips h strips) id sats signals true (place + ones sats * ones signals)) (sym (flagged-strips fits))
         ∙ ap (λ (w : ℕ). settled h (withStrips h (stripsOf s)) id sats signals true (place + w)) (sym width-is) ∙ with-flag 1 cellMask (place + width)
-        ∙ ap (grownBy m) (rw one-mul (sym (bits-there at width (λ b. tested (m .systems) (systemWith id (masksBy sats signals) 1 b)) fits)))
+        ∙ ap (grownBy m) (rw one-mul (sym (bits-there at width (λ b. fewCells (m .systems) (systemWith id (masksBy sats signals) 1 b)) fits)))

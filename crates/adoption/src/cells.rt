@@ -5,8 +5,8 @@ ghost use Prim.Native.Nat.{_<_};
 ghost use Rattle.adoption.specs.Adoptions.{maskIn, grownBy};
 ghost use Rattle.format.specs.Ends.{Within, endFrom};
 ghost use Rattle.adoption.specs.Growing.{HasRoom, settled};
-ghost use Rattle.adoption.specs.Stages.{masksBy, cellsBy};
-ghost use Rattle.format.specs.Messages.{systemCells};
+ghost use Rattle.adoption.specs.Stages.{masksBy};
+ghost use Rattle.format.specs.Messages.{systemCells, flaggedCells};
 use crate::Grown;
 use crate::Step;
 use crate::grow;
@@ -46,7 +46,7 @@ fn settle(before: Holding, grown: Holding, m: Masks, flag: bool, place: usize) -
 // The cell mask at a place, behind a flag that is set.
 fn flagged_cells(h: Holding, bytes: &[u8], end: usize, place: usize, m: Masks) -> Grown
     requires { ⌜ HasRoom h (m .satellites) × Within (now bytes) end place ⌝ }
-    ensures { λ r. ⌜ r ≡ grownBy (maskIn h) (endFrom (cellsBy (maskIn h .systems) (m .id) (masksBy (m .satellites) (m .signals)) 1) (now (bytes .entry)) end place) ⌝ }
+    ensures { λ r. ⌜ r ≡ grownBy (maskIn h) (endFrom (flaggedCells (maskIn h .systems) (m .id) (masksBy (m .satellites) (m .signals)) 1) (now (bytes .entry)) end place) ⌝ }
 {
     let n = set_places::count(m.satellites);
     let width = n * set_places::count(m.signals as u64);

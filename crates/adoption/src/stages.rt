@@ -4,9 +4,9 @@ ghost use mathlib.Core.Path.{_≡_};
 ghost use Prim.Native.Nat.{_^_, _≤_, _<_};
 ghost use lib.ListN.{length, take};
 ghost use Rattle.format.specs.Ends.{Within, endFrom};
-ghost use Rattle.adoption.specs.Stages.{endNamed, endMasked, FitsMasked, signalsAfter};
+ghost use Rattle.adoption.specs.Stages.{endNamed, endMasked, FitsMasked};
 ghost use Rattle.bits.specs.BitLists.{spell};
-ghost use Rattle.format.specs.Messages.{systemId, systemMasks};
+ghost use Rattle.format.specs.Messages.{systemId, systemMasks, systemSignals};
 use bits::read::Taken;
 use bits::read::take_field;
 use format::Refusal;
@@ -58,7 +58,7 @@ pub enum Masked {
 // The signal mask at a place, after a satellite mask.
 fn read_signals(id: u8, satellites: u64, bytes: &[u8], end: usize, place: usize) -> Masked
     requires { ⌜ (id < 5) × (satellites < 2 ^ 40) × Within (now bytes) end place ⌝ }
-    ensures { λ r. ⌜ endMasked r ≡ endFrom (signalsAfter id (spell 40 satellites)) (now (bytes .entry)) end place ⌝ }
+    ensures { λ r. ⌜ endMasked r ≡ endFrom (systemSignals id (spell 40 satellites)) (now (bytes .entry)) end place ⌝ }
     ensures { λ r. ⌜ FitsMasked r ⌝ }
 {
     let taken = take_field(bytes, end, place, SIGNAL_MASK);

@@ -16,7 +16,7 @@ use Rattle.bits.proofs.Bridge.{spell-bit}
 use Rattle.format.specs.Assigned.{known, assigned, satellitePlaces, signalPlaces}
 use Rattle.format.specs.Good.{goodSystem, goodSystems, good}
 use Rattle.format.specs.Masks.{System, mask, satellites, placesFrom}
-use Rattle.format.specs.Messages.{common, headOf, named, system, systems, maskMessage, systemId, BothMasks, systemMasks, systemCells, systemWith, idsOf}
+use Rattle.format.specs.Messages.{common, headOf, named, system, systems, maskMessage, systemId, BothMasks, systemMasks, systemSignals, systemCells, flaggedCells, fewCells, systemWith, idsOf}
 use Rattle.format.specs.Rows.{absent}
 use Rattle.format.specs.Spelling.{put, putCommon, putSystem, putMask}
 use Rattle.format.proofs.Sames.{and-true, true-and}
@@ -47,7 +47,7 @@ pub record MasksFit (n id : ℕ) (k : BothMasks) : Type 0 where
   given : assigned signalPlaces id (k .signals) ≡ true
 
 pub masks-give : (n id : ℕ) → Gives (systemMasks n id) (λ k m. MasksFit n id k × (m ≡ k .satellites ++ k .signals))
-unfolding systemMasks
+unfolding systemMasks systemSignals
 masks-give n id =
     gives-taking _ _ λ sats whole.
     gives-require _ _ _ λ placed.
@@ -57,7 +57,7 @@ masks-give n id =
     gives-done (record { whole = whole; placed = placed; few = few; long = long; given = given }, rw append-nil)
 
 pub system-gives : (before : List System) → Gives (system before) (λ s m. (goodSystem before s ≡ true) × (putSystem s ≡ m))
-unfolding system systemCells systemWith goodSystem putSystem
+unfolding system systemCells flaggedCells fewCells systemWith goodSystem putSystem
 system-gives before =
     gives-bind (id-gives (idsOf before)) λ id front fresh.
     gives-bind (masks-give (length (satellites before)) id) λ k masks fit.

@@ -16,7 +16,7 @@ use Rattle.format.specs.Assigned.{satellitePlaces, signalPlaces, known, 
 use Rattle.format.specs.declared.Head.{Head}
 use Rattle.format.specs.Good.{goodSystem, goodSystems, good}
 use Rattle.format.specs.Masks.{System, Mask, mask, placesFrom, satellites, cells}
-use Rattle.format.specs.Messages.{Common, common, headOf, named, system, systems, Adopted, maskMessage, idsOf, systemId, systemMasks, systemCells, systemWith}
+use Rattle.format.specs.Messages.{Common, common, headOf, named, system, systems, Adopted, maskMessage, idsOf, systemId, systemMasks, systemSignals, systemCells, flaggedCells, fewCells, systemWith}
 use Rattle.format.specs.Programs.{Program, _>>=_, numbered, well, run}
 use Rattle.format.specs.Rows.{absent}
 use Rattle.format.specs.Spelling.{put, putCommon, putSystem, putMask}
@@ -70,7 +70,7 @@ reads-bit k true h = reads-numbered k 1 1 (omega arith) (h 1 (omega arith) refl)
 reads-bit k false h = reads-numbered k 1 0 (omega arith) (h 0 (omega arith) refl)
 
 system-reads : (before : List System) (s : System) → GoodSystem before s → Reads (system before) (putSystem s) s
-unfolding system systemId systemMasks systemCells systemWith putSystem known
+unfolding system systemId systemMasks systemSignals systemCells flaggedCells fewCells systemWith putSystem known
 system-reads before s g =
     reads-bind _ (reads-end (spell 4 (s .id))
     (reads-numbered _ 4 (s .id) (omega (arith, leb-true (s .id) 4 (g .known-id)))

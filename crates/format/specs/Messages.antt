@@ -166,25 +166,37 @@ pub record BothMasks : Type 0 where
   pub satellites : List Bool
   pub signals : List Bool
 
+unfoldable pub systemSignals : ℕ → List Bool → Program BothMasks
+systemSignals id sats = do
+  signals ← taking 16
+  require (assigned signalPlaces id signals) Reserved
+  done (record { satellites = sats; signals = signals })
+
 unfoldable pub systemMasks : ℕ → ℕ → Program BothMasks
 systemMasks n id = do
   sats ← taking 40
   require (assigned satellitePlaces id sats) Reserved
   require (leb (n + length (placesFrom 0 sats)) 64) Size
-  signals ← taking 16
-  require (assigned signalPlaces id signals) Reserved
-  done (record { satellites = sats; signals = signals })
+  systemSignals id sats
 
 -- then the cells: the cell mask has no bits where the flag is 0
 unfoldable pub systemWith : ℕ → BothMasks → ℕ → List Bool → Masks.System
 systemWith id k flag bits = record { id = id; satellites = k .satellites; signals = k .signals; flag = eqb flag 1; cells = bits }
 
+unfoldable pub fewCells : List Masks.System → Masks.System → Program Masks.System
+fewCells before s = do
+  require (leb (length (cells (before ++ (s ∷ [])))) 256) Size
+  done s
+
+unfoldable pub flaggedCells : List Masks.System → ℕ → BothMasks → ℕ → Program Masks.System
+flaggedCells before id k flag = do
+  bits ← taking (flag * (length (placesFrom 0 (k .satellites)) * length (placesFrom 0 (k .signals))))
+  fewCells before (systemWith id k flag bits)
+
 unfoldable pub systemCells : List Masks.System → ℕ → BothMasks → Program Masks.System
 systemCells before id k = do
   flag ← numbered 1
-  bits ← taking (flag * (length (placesFrom 0 (k .satellites)) * length (placesFrom 0 (k .signals))))
-  require (leb (length (cells (before ++ (systemWith id k flag bits ∷ [])))) 256) Size
-  done (systemWith id k flag bits)
+  flaggedCells before id k flag
 
 unfoldable pub system : List Masks.System → Program Masks.System
 system before = do

@@ -12,12 +12,12 @@ use Rattle.adoption.proofs.Holds.{holds, refused-held}
 use Rattle.adoption.specs.Adoptions.{maskIn, grownBy}
 use Rattle.format.specs.Ends.{Within, endFrom}
 use Rattle.adoption.specs.Growing.{settled}
-use Rattle.adoption.specs.Stages.{masksBy, tested, cellsBy}
+use Rattle.adoption.specs.Stages.{masksBy}
 use Rattle.bits.specs.declared.read.Taken.the-variants.{Whole}
 use Rattle.bits.specs.Short.{takenAt}
 use Rattle.format.specs.declared.Refusal.the-variants.{Short}
 use Rattle.format.specs.Masks.{System}
-use Rattle.format.specs.Messages.{BothMasks, systemCells}
+use Rattle.format.specs.Messages.{BothMasks, systemCells, fewCells, flaggedCells}
 use Rattle.format.specs.Programs.{Program}
 use Rattle.holding.specs.Building.{withStrips}
 use Rattle.holding.specs.declared.Holding.{Holding}
@@ -44,11 +44,11 @@ module _ (c : tie.After-known-told2) where
   ends : (n : ℕ) → flag ≡ n
       → let x = s .args in
       endFrom (systemCells (maskIn (x .h) .systems) (x .m .id) both) (x .bytes .now) (x .end) (x .place)
-      ≡ endFrom (cellsBy (maskIn (x .h) .systems) (x .m .id) both n) (x .bytes .now) (x .end) (x .place + 1)
-  unfolding systemCells cellsBy tested
+      ≡ endFrom (flaggedCells (maskIn (x .h) .systems) (x .m .id) both n) (x .bytes .now) (x .end) (x .place + 1)
+  unfolding systemCells flaggedCells fewCells
   ends n is =
       let x = s .args in
-      let cells : ℕ → Program System = cellsBy (maskIn (x .h) .systems) (x .m .id) both in
+      let cells : ℕ → Program System = flaggedCells (maskIn (x .h) .systems) (x .m .id) both in
       number-whole (s .pre .1) 1 there cells ∙ ap (λ (f : ℕ). endFrom (cells f) (x .bytes .now) (x .end) (x .place + 1)) is
 
 returns : tie.Need-returns

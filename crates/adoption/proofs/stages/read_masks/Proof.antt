@@ -10,13 +10,13 @@ use lib.Dec.{leb}
 use Rattle.format.proofs.Ends.{after-field, fits, bits-short}
 use Rattle.adoption.proofs.StageEnds.{satellites-end}
 use Rattle.format.specs.Ends.{endFrom}
-use Rattle.adoption.specs.Stages.{endMasked, FitsMasked, signalsAfter}
+use Rattle.adoption.specs.Stages.{endMasked, FitsMasked}
 use Rattle.bits.specs.BitLists.{spell}
 use Rattle.bits.specs.declared.read.Taken.the-variants.{Whole}
 use Rattle.bits.specs.Short.{takenAt}
 use Rattle.format.specs.Assigned.{satellitePlaces, assigned}
 use Rattle.format.specs.declared.Refusal.the-variants.{Size, Reserved}
-use Rattle.format.specs.Messages.{systemMasks}
+use Rattle.format.specs.Messages.{systemMasks, systemSignals}
 use Rattle.format.specs.Programs.{badly}
 use Rattle.adoption.proofs.stages.read_masks.Statement.{statement}
 use Rattle.adoption.proofs.stages.read_masks.Tie as tie
@@ -38,7 +38,7 @@ module _ (c : tie.After-known-told2) where
   ends :
       endFrom (systemMasks (s .args .n) (s .args .id)) (s .args .bytes .now) (s .args .end) (s .args .place)
       ≡ cond (assigned satellitePlaces (s .args .id) (spell 40 sats))
-      (cond (leb (s .args .n + ones sats) 64) (endFrom (signalsAfter (s .args .id) (spell 40 sats)) (s .args .bytes .now) (s .args .end) (s .args .place + 40)) (badly Size 0)) (badly Reserved 0)
+      (cond (leb (s .args .n + ones sats) 64) (endFrom (systemSignals (s .args .id) (spell 40 sats)) (s .args .bytes .now) (s .args .end) (s .args .place + 40)) (badly Size 0)) (badly Reserved 0)
   ends = satellites-end (s .pre .2) (s .args .n) (s .args .id) there
 
 returns : tie.Need-returns

@@ -4,9 +4,10 @@ use Prim.Native.Nat.{_^_, _<_}
 use native.Mathlib.Omega.{arith}
 use borrow.Author.Needs.{needs}
 use borrow.Author.Tests.{not-true, not-false}
+use Rattle.format.specs.Messages.{systemSignals}
 use Rattle.format.proofs.Ends.{fits, bits-short}
 use Rattle.adoption.proofs.StageEnds.{signals-end}
-use Rattle.adoption.specs.Stages.{endMasked, FitsMasked, signalsAfter}
+use Rattle.adoption.specs.Stages.{endMasked, FitsMasked}
 use Rattle.bits.specs.BitLists.{spell}
 use Rattle.bits.specs.declared.read.Taken.the-variants.{Whole}
 use Rattle.bits.specs.Short.{takenAt}
@@ -32,7 +33,7 @@ returns c =
     (sym (signals-end (s p .pre .2) (x .id) (spell 40 (x .satellites)) (there p) ∙ rw (sym (c .before .signals-assigned .ensures) ∙ not-true _ (c .if1 .taken))), tt)
 
 returns-2 : tie.Need-returns-2
-unfolding endMasked FitsMasked signalsAfter
+unfolding endMasked FitsMasked systemSignals
 returns-2 c =
     let took = c .before .before .before in
     (sym (bits-short (took .before .before .pre .2) 16 (sym (took .take-field .ensures) ∙ c .before .taken .given .1) _), tt)
