@@ -28,6 +28,13 @@ use Rattle.heads.specs.Heads.{commonOf}
 use Rattle.heads.specs.Headings.{headWith, networked, rowed, networkBy, afterFlags}
 use Rattle.table.specs.Shapes.{shapesFrom}
 
+-- ---- three fields, of which the code has a fourth of no bits
+
+module _ {A : Type 0} {bs : List ℕ} {end place : ℕ} (at : Within bs end place) (a b c : ℕ) (k : List ℕ → Program A) where
+  three-cut : {m : ℕ} → takenAt bs end place (bitsOf (a ∷ b ∷ c ∷ [])) ≡ Taken.Short m → endFrom (together (a ∷ b ∷ c ∷ []) k) bs end place ≡ badly Short (shortBy (a ∷ b ∷ c ∷ 0 ∷ []) (end - place))
+  unfolding shortBy
+  three-cut e = fields-short at (a ∷ b ∷ c ∷ []) k e ∙ rw (le-ltb (end - place - a - b - c) 0 (omega arith))
+
 -- ---- a packet's part
 
 -- what its three fields say, and the six bits that they are
@@ -39,13 +46,6 @@ packetWith indicator counter size = record {
 
 unfoldable pub packetOf : ℕ → Messages.Heading
 packetOf n = packetWith (n / 32) (n / 4 % 8) (n % 4)
-
--- ---- three fields, of which the code has a fourth of no bits
-
-module _ {A : Type 0} {bs : List ℕ} {end place : ℕ} (at : Within bs end place) (a b c : ℕ) (k : List ℕ → Program A) where
-  three-cut : {m : ℕ} → takenAt bs end place (bitsOf (a ∷ b ∷ c ∷ [])) ≡ Taken.Short m → endFrom (together (a ∷ b ∷ c ∷ []) k) bs end place ≡ badly Short (shortBy (a ∷ b ∷ c ∷ 0 ∷ []) (end - place))
-  unfolding shortBy
-  three-cut e = fields-short at (a ∷ b ∷ c ∷ []) k e ∙ rw (le-ltb (end - place - a - b - c) 0 (omega arith))
 
 module _ {bs : List ℕ} {end place : ℕ} (at : Within bs end place) where
   abbrev with-three : List ℕ → Program Messages.Heading

@@ -9,6 +9,7 @@ use denote.Enum.Declared.{tagOf}
 use Rattle.format.specs.declared.Answer.{Answer}
 use Rattle.format.specs.declared.Answer.the-variants as Answers
 use Rattle.format.specs.declared.Refusal.{Refusal}
+use Rattle.format.specs.Ends.{Within}
 use Rattle.format.specs.Reading.{lentAfter, rowsAfter, answerOf}
 use Rattle.holding.specs.declared.Holding.{Holding}
 use Rattle.reader.specs.declared.message.Found.the-variants.{Answered}
@@ -17,8 +18,11 @@ use Rattle.reader.specs.declared.Verdict.the-variants.{Good, Refused}
 use Rattle.reader.specs.Readings.{lentBy, outcomeAt, testsOf, testedBy, readAt, foundAt, soughtBy, soughtAt}
 use Rattle.reader.proofs.Findings.{FoundMask, found-mask, found-answer}
 use Rattle.reader.proofs.Lents.{sound-lent}
-use Rattle.reader.proofs.Outcomes.{within, Fine, tested-outcome, outcome-tested, all-good, begun}
+use Rattle.reader.proofs.Outcomes.{Fine, tested-outcome, outcome-tested, all-good, begun}
 use Rattle.reader.proofs.message.Found.{the-type}
+
+pub within : {h : Holding} {bs : List ℕ} {end start room : ℕ} → Fine h bs end start room → Within bs end start
+within f = record { inside = f .inside .lent; short = omega (arith, f .inside .limit); room = f .inside .there }
 
 module _ (h : Holding) (bs : List ℕ) (end start : ℕ) (rows : List ℤ) where
   abbrev verdict : Verdict
@@ -43,7 +47,7 @@ module _ (h : Holding) (bs : List ℕ) (end start : ℕ) (rows : List ℤ) where
   pub record SoughtMask : Type 0 where
     pub fine : Fine h bs end start (length rows)
     pub reads : outcomeAt h bs end start rows ≡ readAt h bs end start
-    pub found : FoundMask h (fine .held) (within (fine .inside))
+    pub found : FoundMask h (fine .held) (within fine)
 
   pub record SoughtAnswer (a : Answer) : Type 0 where
     pub says : a ≡ answerOf (outcomeAt h bs end start rows)
@@ -56,7 +60,7 @@ module _ (h : Holding) (bs : List ℕ) (end start : ℕ) (rows : List ℤ) where
       go : (v : Verdict) → verdict ≡ v → tagOf the-type (soughtBy v (foundAt h bs end start)) ≡ 0 → SoughtMask
       go Good e tag =
           let fine = good-lent e in
-          record { fine = fine; reads = good-reads e; found = found-mask h (fine .held) (within (fine .inside)) tag }
+          record { fine = fine; reads = good-reads e; found = found-mask h (fine .held) (within fine) tag }
       go (Refused r) e tag = absurd (omega arith)
 
   pub sought-answer : (a : Answer) → soughtAt h bs end start (length rows) ≡ Answered a → SoughtAnswer a
@@ -66,7 +70,7 @@ module _ (h : Holding) (bs : List ℕ) (end start : ℕ) (rows : List ℤ) where
       go : (v : Verdict) → verdict ≡ v → soughtBy v (foundAt h bs end start) ≡ Answered a → SoughtAnswer a
       go Good e said =
           let fine = good-lent e in
-          let it = found-answer h (fine .held) (within (fine .inside)) a said in
+          let it = found-answer h (fine .held) (within fine) a said in
           record { says = it .says ∙ sym (ap answerOf (good-reads e)); keeps = ap lentAfter (good-reads e) ∙ it .keeps ∙ sym (sound-lent h (fine .held)) }
       go (Refused r) e said =
           let it = refused-lent r e in
