@@ -103,10 +103,8 @@ run-bind (done b) k l a taken e =
 run-bind (refuse r) k l a taken e = absurd (not-well r 0 a taken e)
 run-bind (field w next) k l a taken e =
     let b = began w next l a taken e in
-    run-field w (λ bs. next bs >>= k) l (b .room) ∙ ap (later w) (run-bind (next (take w l)) k (drop w l) a (b .rest) (b .goes))
-    ∙ later-later w (b .rest) (run (k a) (drop (b .rest) (drop w l)))
-    ∙ ap (λ (m : List Bool). later (w + b .rest) (run (k a) m)) (drop-drop (b .rest) w l)
-    ∙ ap (λ (n : ℕ). later n (run (k a) (drop n l))) (sym (b .sum))
+    run-field w (λ bs. next bs >>= k) l (b .room)
+    ∙ rw (run-bind (next (take w l)) k (drop w l) a (b .rest) (b .goes), later-later, drop-drop (b .rest) w l, ← (b .sum))
 
 pub run-bind-badly : {A B : Type 0} (p : Program A) (k : A → Program B) (l : List Bool) (r : Refusal) (missing : ℕ) → run p l ≡ badly r missing
     → run (p >>= k) l ≡ badly r missing
