@@ -1,14 +1,15 @@
 -- The cells of a good mask from its picture: satellite by satellite, the places of its strip.
 -- Assumes nothing.
-use mathlib.Core.Path.{_≡_, refl, sym, ap, ap₂, _∙_}
+use mathlib.Core.Path.{_≡_, refl, sym, ap₂, _∙_}
 use mathlib.Core.Bool.{Bool, true, false, cond}
-use mathlib.Core.List.{List, [], _∷_, _++_, append-assoc, map, flatMap}
+use mathlib.Core.List.{List, [], _∷_, _++_, append-assoc, flatMap}
 use Prim.Native.Nat.{ℕ}
 use native.Mathlib.Nat.{suc-inj}
 use native.Mathlib.Omega.{arith}
 use lib.Dec.{ltb}
-use lib.ListN.{length, drop, replicate, length-map}
+use lib.ListN.{length, replicate, length-map}
 use Rattle.bits.specs.BitLists.{number}
+use Rattle.format.proofs.Picks.{pick-nil, pick-append, pick-map}
 use Rattle.format.proofs.Sames.{and-true}
 use Rattle.format.specs.Good.{goodSystem, goodSystems, good}
 use Rattle.format.specs.Masks.{System, Mask, mask, Satellite, placesFrom, pick, satellitesOf, pairsOf, cellsOf, satellites, cells}
@@ -17,29 +18,6 @@ use Rattle.holding.specs.Held.{cellsAt, stripCells}
 use Rattle.holding.specs.Pictures.{stripsFrom, stripsOf}
 use Rattle.holding.proofs.Spreads.{places-spread}
 use Rattle.holding.proofs.PicturedStrips.{length-strips, length-satellites, spell-bits, spell-strip}
-
--- ---- picking
-
-module _ {A : Type 0} where
-  pub pick-nil : (bits : List Bool) → _≡_ {A = List A} (pick bits []) []
-  unfolding pick
-  pick-nil [] = refl
-  pick-nil (b ∷ bits) = refl
-
-  -- the bits that the first list leaves select from the second
-  pub pick-append : (bits : List Bool) (xs ys : List A) → pick bits (xs ++ ys) ≡ pick bits xs ++ pick (drop (length xs) bits) ys
-  unfolding pick
-  pick-append bits [] ys = rw pick-nil
-  pick-append [] (x ∷ xs) ys = refl
-  pick-append (true ∷ bits) (x ∷ xs) ys = ap (λ (l : List A). x ∷ l) (pick-append bits xs ys)
-  pick-append (false ∷ bits) (x ∷ xs) ys = pick-append bits xs ys
-
-  pub pick-map : {B : Type 0} (f : A → B) (bits : List Bool) (xs : List A) → pick bits (map f xs) ≡ map f (pick bits xs)
-  unfolding pick
-  pick-map f [] xs = refl
-  pick-map f (b ∷ bits) [] = refl
-  pick-map {B} f (true ∷ bits) (x ∷ xs) = ap (λ (l : List B). f x ∷ l) (pick-map f bits xs)
-  pick-map f (false ∷ bits) (x ∷ xs) = pick-map f bits xs
 
 -- ---- one system
 

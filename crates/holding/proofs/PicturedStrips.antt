@@ -1,21 +1,18 @@
 -- The sizes of a good mask and of its picture: a strip for each satellite, at most 64 satellites and 256 cells.
 -- Assumes nothing.
 use mathlib.Core.Path.{_≡_, refl, sym, ap, _∙_}
-use mathlib.Core.Bool.{Bool, true, false, cond, not}
+use mathlib.Core.Bool.{Bool, true, false, cond}
 use mathlib.Core.List.{List, [], _∷_, _++_, append-assoc, append-nil, flatMap}
-use Prim.Native.Nat.{ℕ, zero, suc, _+_, _*_, _≤_}
+use Prim.Native.Nat.{ℕ, zero, suc, _≤_}
 use native.Mathlib.Omega.{arith}
-use lib.Dec.{eqb, leb, ltb}
+use lib.Dec.{ltb}
 use lib.ListN.{length, drop, replicate, length-append, length-map, length-replicate}
 use lib.Seq.{append-snoc}
-use borrow.Author.Tests.{eqb-true, leb-true}
 use Rattle.bits.proofs.BitLists.{spell-number}
 use Rattle.bits.specs.BitLists.{number, spell}
 use Rattle.format.proofs.Sames.{and-true}
-use Rattle.format.specs.Assigned.{satellitePlaces, signalPlaces, known, assigned}
 use Rattle.format.specs.Good.{goodSystem, goodSystems, good}
 use Rattle.format.specs.Masks.{System, Mask, mask, placesFrom, satellitesOf, satellites, cells}
-use Rattle.format.specs.Messages.{named}
 use Rattle.format.proofs.MakesBack.{GoodSystem, good-system}
 use Rattle.holding.specs.Pictures.{stripsFrom, stripsOf}
 use Rattle.holding.specs.Spread.{spread}

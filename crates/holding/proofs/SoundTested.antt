@@ -1,25 +1,23 @@
 -- The test of a lent holding slot by slot, of specs/Testing.antt, holds of the picture of a good holding, and so of every sound struct.
 -- Assumes nothing.
 use mathlib.Core.Path.{_≡_, refl, sym, _∙_}
-use mathlib.Core.Bool.{Bool, true, false, cond, not}
+use mathlib.Core.Bool.{Bool, true, false, cond}
 use mathlib.Core.List.{List, [], _∷_, _++_, append-assoc, append-nil, map, map-append, flatMap}
 use Prim.Native.Nat.{ℕ, zero, suc, _+_, _-_, _^_, _≤_, _<_}
 use native.Mathlib.Omega.{arith}
 use lib.Count.{ones}
-use lib.Dec.{eqb, leb, ltb}
+use lib.Dec.{ltb}
 use lib.ListN.{length, drop, replicate, length-append, length-map, length-replicate}
 use lib.Seq.{append-snoc, take-at, drop-at}
 use borrow.Author.Tests.{leb-true, lt-ltb, le-leb}
 use Rattle.bits.proofs.BitLists.{number-lt}
 use Rattle.bits.specs.BitLists.{number}
 use Rattle.format.proofs.Sames.{and-true, true-and, eqb-refl}
-use Rattle.format.specs.Assigned.{satellitePlaces, signalPlaces, known, assigned}
+use Rattle.format.specs.Assigned.{known}
 use Rattle.format.specs.Good.{goodSystem, goodSystems, good}
 use Rattle.format.specs.Masks.{System, Held, nothing, mask, placesFrom, satellites, cells}
-use Rattle.format.specs.Messages.{named}
 use Rattle.holding.specs.declared.Holding.{Holding}
 use Rattle.holding.specs.Building.{onesIn}
-use Rattle.format.specs.Messages.{named}
 use Rattle.format.proofs.MakesBack.{GoodSystem, good-system}
 use Rattle.holding.specs.Pictures.{filled, stripsFrom, stripsOf, pictureOf, maskOf, sound}
 use Rattle.holding.specs.Spread.{spread}

@@ -14,7 +14,7 @@ use Rattle.format.specs.declared.Refusal.the-variants as Refusal
 use Rattle.format.specs.Programs.{well, badly, later, run}
 use Rattle.heads.specs.Headings.{chosenAt, saidBy, FitsHeading, rowed}
 use Rattle.heads.proofs.Headed.{network-short, network-none, network-cut, network-there}
-use Rattle.heads.proofs.Picked.{pick-front}
+use Rattle.format.proofs.Picks.{pick-front}
 use Rattle.heads.proofs.heading.selection.Statement.{statement}
 use Rattle.heads.proofs.heading.selection.Tie as tie
 use Rattle.table.specs.Bodies.{linesIn, linesOver, FitsKeys}
@@ -94,7 +94,7 @@ returns-4 c =
       λ v shows.
           let whole = network-there (bs p) (x .end) (s .pre .2) (x .place) (s .pre .3) (v .satellites) (x .numbers) (shapeAt (x .shape)) (network p .0)
           (λ e. c .before .before .before .if1 .left (network p .1 ∙ e)) (rw (shows .count) (c .before .before .if2 .left)) in
-          rw (whole, shows .count, head, c .chosen .ensures, pick-front (x .n) (field (bs p) (x .place + 5) (x .n)) (v .satellites) (shows .count) (shows .few), ← (add-assoc (x .place) 5 (x .n))),
+          rw (whole, shows .count, head, c .chosen .ensures, pick-front (x .n) (field (bs p) (x .place + 5) (x .n)) (v .satellites) (shows .few), ← (add-assoc (x .place) 5 (x .n))),
       omega arith,
     )
 
