@@ -252,12 +252,12 @@ four-first (a ∷ b ∷ c ∷ []) room = absurd (omega arith)
 four-first (a ∷ b ∷ c ∷ d ∷ bs) room = refl
 
 -- what the test of lent bytes says of them
-record Passed (bs : List ℕ) : Type 0 where
-  long : size ≤ length bs
-  held : getD bs 0 0 ≤ 1
-  flags : truths (take 5 (drop 11 bs)) ≡ true
+pub record Passed (bs : List ℕ) : Type 0 where
+  pub long : size ≤ length bs
+  pub held : getD bs 0 0 ≤ 1
+  pub flags : truths (take 5 (drop 11 bs)) ≡ true
 
-passed : (bs : List ℕ) → passes bs ≡ true → Passed bs
+pub passed : (bs : List ℕ) → passes bs ≡ true → Passed bs
 unfolding passes
 passed bs e =
     let long = and-true (leb size (length bs)) _ e in
@@ -303,7 +303,7 @@ unfolding sound maskOf good pictureOf sameHolding stray withSystem
 stray-none = refl
 
 -- so bytes that say a sound holding pass the test
-sound-passes : (bs : List ℕ) → sound (holdingIn bs) ≡ true → passes bs ≡ true
+pub sound-passes : (bs : List ℕ) → sound (holdingIn bs) ≡ true → passes bs ≡ true
 unfolding holdingIn
 sound-passes bs e = go (passes bs) e
   where

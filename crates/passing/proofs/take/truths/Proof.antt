@@ -1,13 +1,14 @@
 -- `passing::take::truths` meets its contract.
 -- Assumes nothing.
 use mathlib.Core.Path.{sym}
+use mathlib.Core.Bool.{and-true}
 use lib.Dec.{leb}
 use lib.ListN.{getD}
 use native.Mathlib.Omega.{arith}
 use borrow.Author.Needs.{needs}
 use borrow.Author.Tests.{le-leb, lt-leb}
 use Rattle.passing.specs.Passing.{truths}
-use Rattle.passing.proofs.Littles.{five, and-last}
+use Rattle.passing.proofs.Littles.{five}
 use Rattle.passing.proofs.take.truths.Statement.{statement}
 use Rattle.passing.proofs.take.truths.Tie as tie
 
@@ -39,7 +40,7 @@ returns-5 : tie.Need-returns-5
 unfolding truths
 returns-5 c =
     let bs = c .before .before .before .before .before .before .before .before .before .args .bytes .now in
-    rw (five 0 bs 11 (omega arith), le-leb (getD bs 11 0) 1 (omega arith), le-leb (getD bs 12 0) 1 (omega arith), le-leb (getD bs 13 0) 1 (omega arith), le-leb (getD bs 14 0) 1 (omega arith)) (sym (and-last (leb (getD bs 15 0) 1)))
+    rw (five 0 bs 11 (omega arith), le-leb (getD bs 11 0) 1 (omega arith), le-leb (getD bs 12 0) 1 (omega arith), le-leb (getD bs 13 0) 1 (omega arith), le-leb (getD bs 14 0) 1 (omega arith)) (sym (and-true (leb (getD bs 15 0) 1)))
 
 pub truths-spec : {M : Type 1} → statement M
 truths-spec =
