@@ -17,7 +17,7 @@ use Rattle.bits.specs.BitLists.{number, spell}
 use Rattle.format.proofs.Sames.{and-true, true-and}
 use Rattle.format.specs.Assigned.{satellitePlaces, known, assigned}
 use Rattle.format.specs.Good.{goodSystem, good}
-use Rattle.format.specs.Masks.{System, placesFrom, pick, cellsOf, satellites, cells}
+use Rattle.format.specs.Masks.{System, placesFrom, pick, satellites, cells}
 use Rattle.format.specs.Messages.{named, idsOf}
 use Rattle.holding.specs.Building.{onesIn}
 use Rattle.holding.specs.Bounds.{below, narrow}
@@ -28,8 +28,8 @@ use Rattle.holding.specs.Testing.{stripFits, stripsFit, masksFit, slotFi
 use Rattle.holding.proofs.Bounds.{below-take}
 use Rattle.holding.proofs.Places.{ones-places}
 use Rattle.holding.proofs.Spreads.{length-pick, spread-pick, within-and}
-use Rattle.holding.proofs.PicturedStrips.{length-satellites}
-use Rattle.holding.proofs.Built.{strips-ones, flatMap-snoc}
+use Rattle.holding.proofs.PicturedStrips.{satellites-snoc, cells-snoc}
+use Rattle.holding.proofs.Built.{strips-ones}
 
 -- ---- the strips of a slot
 
@@ -116,14 +116,6 @@ pub record After (before : List System) (ids : List ℕ) (n c : ℕ) : Type 0 wh
   pub same : ids ≡ map (λ s. s .id) before
   pub sats : n ≡ length (satellites before)
   pub held : c ≡ length (cells before)
-
-pub satellites-snoc : (before : List System) (s : System) → length (satellites (before ++ (s ∷ []))) ≡ length (satellites before) + length (placesFrom 0 (s .satellites))
-unfolding satellites
-satellites-snoc before s = rw flatMap-snoc (simp length-append (rw (length-satellites s)))
-
-pub cells-snoc : (before : List System) (s : System) → length (cells (before ++ (s ∷ []))) ≡ length (cells before) + length (cellsOf s)
-unfolding cells
-cells-snoc before s = rw flatMap-snoc (simp length-append)
 
 -- what a slot that fits says
 pub record Fits (before : List System) (ids : List ℕ) (n c id sats signals : ℕ) (flag : Bool) (strips : List ℕ) : Type 0 where

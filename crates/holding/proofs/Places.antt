@@ -44,18 +44,15 @@ unfolding placesFrom spell
 no-place zero k = refl
 no-place (suc w) k = rw zero-div (no-place w (suc k))
 
--- a mask moved up, with zeros after it, names the same places
-pub places-up : (w z n k : ℕ) → n < 2 ^ w → placesFrom k (spell (w + z) (n * 2 ^ z)) ≡ placesFrom k (spell w n)
-places-up w z n k small =
-    ap (λ (m : ℕ). placesFrom k (spell (w + z) m)) (sym (add-zero (n * 2 ^ z)))
-    ∙ ap (placesFrom k) (spell-append w z n 0 (pow-pos z))
-    ∙ places-append (spell w n) (spell z 0) k
-    ∙ ap (λ (ps : List ℕ). placesFrom k (spell w n) ++ ps) (no-place z (k + length (spell w n)))
-    ∙ append-nil (placesFrom k (spell w n))
-
--- the same in a word of as many bits, where no bit is moved out
-pub places-shifted : (w z n : ℕ) → n < 2 ^ w → n * 2 ^ z < 2 ^ (w + z) → placesFrom 0 (spell (w + z) (n * 2 ^ z % 2 ^ (w + z))) ≡ placesFrom 0 (spell w n)
-places-shifted w z n small room = rw (mod-eq-of-lt room) (places-up w z n 0 small)
+-- a mask moved up in a word of as many bits more, with zeros after it and no bit moved out, names the same places
+pub places-shifted : (w z n : ℕ) → n * 2 ^ z < 2 ^ (w + z) → placesFrom 0 (spell (w + z) (n * 2 ^ z % 2 ^ (w + z))) ≡ placesFrom 0 (spell w n)
+places-shifted w z n room =
+    rw (mod-eq-of-lt room)
+    (ap (λ (m : ℕ). placesFrom 0 (spell (w + z) m)) (sym (add-zero (n * 2 ^ z)))
+    ∙ ap (placesFrom 0) (spell-append w z n 0 (pow-pos z))
+    ∙ places-append (spell w n) (spell z 0) 0
+    ∙ ap (λ (ps : List ℕ). placesFrom 0 (spell w n) ++ ps) (no-place z (0 + length (spell w n)))
+    ∙ append-nil (placesFrom 0 (spell w n)))
 
 -- p zeros above a number only move its places
 places-down : (p w n k : ℕ) → n < 2 ^ w → placesFrom k (spell (p + w) n) ≡ placesFrom (k + p) (spell w n)

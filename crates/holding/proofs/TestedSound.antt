@@ -22,10 +22,10 @@ use Rattle.holding.specs.Bounds.{narrow}
 use Rattle.holding.specs.Pictures.{filled, stripsOf, pictureOf, systemOf, systemsOf, maskOf, sameHolding, sound}
 use Rattle.holding.specs.Testing.{slotFits, emptySlots, emptyStrips, slotsFit, tested}
 use Rattle.holding.proofs.Places.{ones-places}
-use Rattle.holding.proofs.PicturedStrips.{length-satellites}
+use Rattle.holding.proofs.PicturedStrips.{length-satellites, satellites-snoc, cells-snoc}
 use Rattle.holding.proofs.PicturedSame.{sameHolding-refl}
 use Rattle.holding.proofs.Bounds.{below-at, below-drop}
-use Rattle.holding.proofs.OneSlot.{number-mask, After, satellites-snoc, cells-snoc, fits}
+use Rattle.holding.proofs.OneSlot.{number-mask, After, fits}
 use Rattle.holding.proofs.Sounds.{Shaped}
 
 -- ---- filled lists

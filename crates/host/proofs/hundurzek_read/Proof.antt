@@ -81,9 +81,6 @@ module _ (c : tie.After-enum-told) where
   unfolding hostOutcome outcomeAt
   good = reading-good (lentBy (holdingIn (lent k))) (s k .args .bytes .now) (s k .args .end) (s k .args .start) (s k .args .rows .now) (is-holding (holdingIn (lent k)) ∙ found .fine .held)
 
-add-adopt : tie.Need-add-adopt
-add-adopt c = let f = found (c .before) in omega (arith, f .found .room, f .fine .inside .limit)
-
 adopt-requires : tie.Need-adopt-requires
 adopt-requires c κs =
     let e = c .before in
@@ -109,4 +106,6 @@ returns-2 c =
 pub hundurzek-read-spec : {M : Type 1} → statement M
 hundurzek-read-spec =
     tie.close
-    (tie.spec (λ c κs. search needs) (λ c κs. search needs) (λ c. search needs) (λ c κs. search needs) (λ c. search needs) add-adopt adopt-requires (λ c κs. search needs) (λ c. search needs) (λ c. search needs) returns (λ c. search needs) (λ c. search needs) returns-2)
+    (tie.spec (λ c κs. search needs) (λ c κs. search needs) (λ c. search needs) (λ c κs. search needs) (λ c. search needs)
+    (λ c. let f = found (c .before) in omega (arith, f .found .room, f .fine .inside .limit)) adopt-requires (λ c κs. search needs)
+    (λ c. search needs) (λ c. search needs) returns (λ c. search needs) (λ c. search needs) returns-2)

@@ -11,9 +11,6 @@ returns : tie.Need-returns
 unfolding leftBytes
 returns c = rw (c .if1 .taken) refl
 
-holding-over-requires : tie.Need-holding-over-requires
-holding-over-requires c κs = c .before .before .before .pre (c .before .if1 .left)
-
 returns-2 : tie.Need-returns-2
 unfolding leftBytes
 returns-2 c =
@@ -21,4 +18,4 @@ returns-2 c =
     rw (ne-eqb (s .args .messages) 0 (c .before .before .before .before .if1 .left)) (c .before .before .holding-over .ensures)
 
 pub leave-spec : {M : Type 1} → statement M
-leave-spec = tie.close (tie.spec returns holding-over-requires (λ c. search needs) returns-2)
+leave-spec = tie.close (tie.spec returns (λ c κs. c .before .before .before .pre (c .before .if1 .left)) (λ c. search needs) returns-2)

@@ -23,9 +23,6 @@ loop-holds : tie.Need-loop-holds Inv-loop μ-loop
 unfolding littles
 loop-holds c = (omega arith, refl, refl)
 
-array-write-strips : tie.Need-array-write-strips Inv-loop μ-loop
-array-write-strips c = omega arith
-
 loop-again : tie.Need-loop-again Inv-loop μ-loop
 loop-again c =
     let bs : List ℕ = c .before .before .before .before .args .bytes .now in
@@ -50,5 +47,5 @@ returns c =
 pub strips-spec : {M : Type 1} → statement M
 strips-spec =
     tie.close
-    (tie.spec Inv-loop μ-loop loop-holds (λ c. search needs) (λ c. search needs) (λ c κs. search needs) (λ c. search needs) array-write-strips
+    (tie.spec Inv-loop μ-loop loop-holds (λ c. search needs) (λ c. search needs) (λ c κs. search needs) (λ c. search needs) (λ c. omega arith)
     (λ c. search needs) (λ c. search needs) loop-again returns)
