@@ -1,5 +1,4 @@
--- How many cells some strips have: in parts, four at a time, and where the strips behind are not used.
--- Assumes nothing.
+-- How many cells some strips have: in parts, four at a time, and where the strips behind are not used. Assumes nothing.
 use mathlib.Core.Path.{_≡_, refl, ap, _∙_}
 use mathlib.Core.Bool.{true}
 use mathlib.Core.List.{List, [], _∷_, _++_}

@@ -1,6 +1,6 @@
 -- The test of strips that are not used, in parts and four at a time. Assumes nothing.
 use mathlib.Core.Path.{_≡_, refl, sym, ap, _∙_}
-use mathlib.Core.Bool.{Bool, _&&_}
+use mathlib.Core.Bool.{Bool, _&&_, and-true}
 use mathlib.Core.List.{List, [], _∷_, _++_}
 use Prim.Native.Nat.{ℕ, _+_, _-_, _^_, _≤_, _<_}
 use native.Mathlib.Omega.{arith}
@@ -8,7 +8,7 @@ use lib.Dec.{eqb}
 use lib.ListN.{length, getD, take, drop, take-append-drop}
 use lib.Seq.{take-add, drop-drop}
 use Rattle.holding.specs.Testing.{four, emptyStrips}
-use Rattle.holding.proofs.Tests.{and-assoc, and-end, and-again}
+use Rattle.holding.proofs.Tests.{and-assoc, and-again}
 use Rattle.holding.proofs.Fours.{four-strips, eqb-four}
 
 empty-append : (strips more : List ℕ) → emptyStrips (strips ++ more) ≡ (emptyStrips strips && emptyStrips more)
@@ -50,5 +50,5 @@ pub empty-four : (strips : List ℕ) (i : ℕ) → i + 4 ≤ length strips → (
     → eqb (four (getD strips i 0) (getD strips (i + 1) 0) (getD strips (i + 2) 0) (getD strips (i + 3) 0)) 0 ≡ emptyStrips (take 4 (drop i strips))
 unfolding emptyStrips
 empty-four strips i room thin =
-    rw (four-strips strips i room, and-end)
+    rw (four-strips strips i room, and-true)
     (eqb-four (getD strips i 0) (getD strips (i + 1) 0) (getD strips (i + 2) 0) (getD strips (i + 3) 0) 0 0 0 0 (thin i) (thin (i + 1)) (thin (i + 2)) (omega arith) (omega arith) (omega arith))

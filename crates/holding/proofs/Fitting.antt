@@ -1,5 +1,4 @@
--- The tests of specs/Testing.antt, one strip or slot at a time.
--- Assumes nothing.
+-- The tests of specs/Testing.antt, one strip or slot at a time. Assumes nothing.
 use mathlib.Core.Path.{_≡_, refl, ap, _∙_}
 use mathlib.Core.Bool.{Bool, true, false, _&&_, not}
 use mathlib.Core.List.{List}

@@ -1,5 +1,6 @@
 -- The test of a slot's strips in parts, four at a time. Assumes nothing.
 use mathlib.Core.Path.{_≡_, refl, sym, ap, _∙_}
+use mathlib.Core.Bool as Bools
 use mathlib.Core.Bool.{Bool, true, _&&_}
 use mathlib.Core.List.{List, [], _∷_, _++_}
 use Prim.Native.Nat.{ℕ, _+_, _-_, _^_, _≤_, _<_}
@@ -8,7 +9,7 @@ use lib.ListN.{length, getD, take, drop}
 use lib.Seq.{take-add, drop-drop}
 use Rattle.format.proofs.Sames.{and-true}
 use Rattle.holding.specs.Testing.{stripFits, stripsFit, four}
-use Rattle.holding.proofs.Tests.{and-assoc, and-end}
+use Rattle.holding.proofs.Tests.{and-assoc}
 use Rattle.holding.proofs.Fours.{four-strips, fit-four}
 
 module _ (flag : Bool) (g : ℕ) where
@@ -36,4 +37,4 @@ module _ (flag : Bool) (g : ℕ) where
       → stripFits flag (four g g g g) (four (getD strips i 0) (getD strips (i + 1) 0) (getD strips (i + 2) 0) (getD strips (i + 3) 0)) ≡ stripsFit flag g (take 4 (drop i strips))
   unfolding stripFits stripsFit
   fit-joined strips i small room thin =
-      rw (four-strips strips i room, and-end) (fit-four g small flag _ _ _ (getD strips (i + 3) 0) (thin i) (thin (i + 1)) (thin (i + 2)))
+      rw (four-strips strips i room, Bools.and-true) (fit-four g small flag _ _ _ (getD strips (i + 3) 0) (thin i) (thin (i + 1)) (thin (i + 2)))

@@ -1,5 +1,4 @@
--- One slot of the struct: where it meets the test of specs/Testing.antt, it says a good system, and its strips are that system's.
--- Assumes nothing.
+-- One slot of the struct: where it meets the test of specs/Testing.antt, it says a good system, and its strips are that system's. Assumes nothing.
 use mathlib.Core.Path.{_≡_, refl, sym, ap, ap₂, _∙_}
 use mathlib.Core.Bool.{Bool, true, false, cond, not}
 use mathlib.Core.List.{List, [], _∷_, _++_, map, map-append, flatMap}

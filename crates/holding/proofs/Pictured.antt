@@ -1,5 +1,4 @@
--- A good holding and its picture: each says the other, and the test of a lent struct holds of just the pictures of good holdings.
--- Assumes nothing.
+-- A good holding and its picture: each says the other, and the test of a lent struct holds of just the pictures of good holdings. Assumes nothing.
 use mathlib.Core.Path.{_≡_, refl, ap, ap₂, _∙_}
 use mathlib.Core.Bool.{Bool, true, false, cond}
 use mathlib.Core.List.{List, [], _∷_, _++_, append-assoc, flatMap, map}

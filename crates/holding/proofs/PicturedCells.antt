@@ -1,5 +1,4 @@
--- The cells of a good mask from its picture: satellite by satellite, the places of its strip.
--- Assumes nothing.
+-- The cells of a good mask from its picture: satellite by satellite, the places of its strip. Assumes nothing.
 use mathlib.Core.Path.{_≡_, refl, sym, ap₂, _∙_}
 use mathlib.Core.Bool.{Bool, true, cond}
 use mathlib.Core.List.{List, [], _∷_, _++_, append-assoc, flatMap}

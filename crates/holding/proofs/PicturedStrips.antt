@@ -1,5 +1,4 @@
--- The sizes of a good mask and of its picture: a strip for each satellite, at most 64 satellites and 256 cells.
--- Assumes nothing.
+-- The sizes of a good mask and of its picture: a strip for each satellite, at most 64 satellites and 256 cells. Assumes nothing.
 use mathlib.Core.Path.{_≡_, refl, ap, _∙_}
 use mathlib.Core.Bool.{Bool, true, false, cond}
 use mathlib.Core.List.{List, [], _∷_, _++_, append-assoc, append-nil, flatMap}

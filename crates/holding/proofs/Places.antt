@@ -1,5 +1,4 @@
--- The places that a mask names, from the number that holds the mask: how many, which, and none beyond the assigned ones.
--- Assumes nothing.
+-- The places that a mask names, from the number that holds the mask: how many, which, and none beyond the assigned ones. Assumes nothing.
 use mathlib.Core.Path.{_≡_, refl, sym, ap, _∙_}
 use mathlib.Core.Bool.{Bool, true, false}
 use mathlib.Core.List.{List, [], _∷_, _++_, append-nil}

@@ -1,5 +1,4 @@
--- A struct that meets the test slot by slot of specs/Testing.antt is sound: it says a good holding and is its picture.
--- Assumes nothing.
+-- A struct that meets the test slot by slot of specs/Testing.antt is sound: it says a good holding and is its picture. Assumes nothing.
 use mathlib.Core.Path.{_≡_, refl, sym, ap, ap₂, _∙_}
 use mathlib.Core.Bool.{Bool, true, false, cond, not, _&&_}
 use mathlib.Core.List.{List, [], _∷_, _++_, append-assoc, map, flatMap}

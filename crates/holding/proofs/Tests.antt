@@ -1,20 +1,16 @@
 -- Tests as Booleans. Assumes nothing.
 use mathlib.Core.Path.{_≡_, refl, sym}
-use mathlib.Core.Bool.{Bool, true, false, _&&_}
+use mathlib.Core.Bool.{Bool, true, false, _&&_, and-true}
 
 pub and-assoc : (a b c : Bool) → (a && (b && c)) ≡ ((a && b) && c)
 and-assoc false b c = refl
 and-assoc true b c = refl
 
-pub and-end : (a : Bool) → (a && true) ≡ a
-and-end false = refl
-and-end true = refl
-
 pub and-swap : (a b c : Bool) → ((a && b) && c) ≡ ((a && c) && b)
 and-swap false b c = refl
 and-swap true false false = refl
 and-swap true false true = refl
-and-swap true true c = sym (and-end c)
+and-swap true true c = sym (and-true c)
 
 -- a test that was made already
 pub and-again : (a b c : Bool) → ((a && b) && (b && c)) ≡ (a && (b && c))

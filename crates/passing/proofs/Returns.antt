@@ -1,5 +1,4 @@
--- A holding passed as bytes and back is the same holding, and its bytes are the only ones that say it.
--- Assumes nothing.
+-- A holding passed as bytes and back is the same holding, and its bytes are the only ones that say it. Assumes nothing.
 use mathlib.Core.Path.{_≡_, refl, sym, ap, ap₂, _∙_}
 use mathlib.Core.Bool.{Bool, true, false, cond}
 use mathlib.Core.List.{List, [], _∷_, _++_, append-assoc, map}

@@ -55,6 +55,4 @@ returns-2 c =
     (answered a, sym (ap (λ (l : Lent). bytesAfter l (x .holding .now)) stays ∙ ap (λ (h : Holding). over (bytesOf h) (x .holding .now)) (sounds (x .held) (s a .pre .3) .picture) ∙ s a .pre .5))
 
 pub adopt-spec : {M : Type 1} → statement M
-adopt-spec =
-    tie.close
-    (tie.spec (λ c κs. search needs) (λ c. search needs) holding-over-requires (λ c. search needs) returns returns-2)
+adopt-spec = tie.close (tie.spec (λ c κs. search needs) (λ c. search needs) holding-over-requires (λ c. search needs) returns returns-2)

@@ -1,5 +1,4 @@
--- `host::leave` meets its contract.
--- Assumes nothing.
+-- `host::leave` meets its contract. Assumes nothing.
 use mathlib.Core.Path.{refl}
 use borrow.Author.Needs.{needs}
 use borrow.Author.Tests.{ne-eqb}

@@ -1,5 +1,4 @@
--- `host::number` meets its contract.
--- Assumes nothing.
+-- `host::number` meets its contract. Assumes nothing.
 use borrow.Author.Needs.{needs}
 use Rattle.host.proofs.Numbered.{by-tag}
 use Rattle.host.proofs.number.Statement.{statement}

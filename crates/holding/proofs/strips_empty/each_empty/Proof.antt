@@ -1,8 +1,7 @@
 -- `holding::strips_empty::each_empty` meets its contract. The loop's invariant: the strips are empty from the first on just if nothing is gathered and they
--- are from the i-th on.
--- Assumes nothing.
+-- are from the i-th on. Assumes nothing.
 use mathlib.Core.Path.{_≡_, refl, sym, ap, _∙_}
-use mathlib.Core.Bool.{Bool, _&&_}
+use mathlib.Core.Bool.{Bool, _&&_, and-true}
 use Prim.Native.Nat.{_+_, _-_, _≤_}
 use native.Mathlib.Omega.{arith}
 use native.Mathlib.Numerals.{add-one}
@@ -12,7 +11,6 @@ use lib.ListN.{length, getD, drop, drop-of-length-le}
 use Rattle.holding.specs.Testing.{emptyStrips}
 use Rattle.holding.proofs.Fitting.{empty-strip}
 use Rattle.holding.proofs.Noughts.{gather}
-use Rattle.holding.proofs.Tests.{and-end}
 use Rattle.holding.proofs.strips_empty.each_empty.Statement.{statement}
 use Rattle.holding.proofs.strips_empty.each_empty.Tie as tie
 
@@ -35,7 +33,7 @@ unfolding emptyStrips
 returns c =
     let x = c .before .before .args in
     let all : length (x .strips .now) ≤ c .before .loop .i = omega arith in
-    sym (c .before .loop .inv .1 ∙ rw (drop-of-length-le (x .strips .now) all) (and-end _))
+    sym (c .before .loop .inv .1 ∙ rw (drop-of-length-le (x .strips .now) all) (and-true _))
 
 pub each-empty-spec : {M : Type 1} → statement M
 each-empty-spec =

@@ -1,6 +1,5 @@
 -- `holding::strips_empty::strips_empty` meets its contract. The loop's invariant: nothing is gathered just if none of the strips passed is used, nor one of
--- the last four.
--- Assumes nothing.
+-- the last four. Assumes nothing.
 use mathlib.Core.Path.{_≡_, sym, ap, _∙_}
 use mathlib.Core.Bool.{Bool, _&&_}
 use Prim.Native.Nat.{_-_, _≤_}

@@ -1,5 +1,4 @@
--- `holding::strips_fit::strips_fit` meets its contract. The loop's invariant: the strips passed fit.
--- Assumes nothing.
+-- `holding::strips_fit::strips_fit` meets its contract. The loop's invariant: the strips passed fit. Assumes nothing.
 use mathlib.Core.Path.{_≡_, sym, _∙_}
 use mathlib.Core.Bool.{true}
 use Prim.Native.Nat.{ℕ, _+_, _-_, _≤_}

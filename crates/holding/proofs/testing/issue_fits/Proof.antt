@@ -1,5 +1,4 @@
--- `holding::testing::issue_fits` meets its contract.
--- Assumes nothing.
+-- `holding::testing::issue_fits` meets its contract. Assumes nothing.
 use borrow.Author.Tests.{eq-eqb, ne-eqb}
 use Rattle.holding.proofs.testing.issue_fits.Statement.{statement}
 use Rattle.holding.proofs.testing.issue_fits.Tie as tie

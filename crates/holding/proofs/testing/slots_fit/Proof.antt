@@ -1,6 +1,5 @@
 -- `holding::testing::slots_fit` meets its contract. The loop's invariant: the whole test is that of what is left, after the n satellites of the slots
--- passed and the cells of their strips.
--- Assumes nothing.
+-- passed and the cells of their strips. Assumes nothing.
 use mathlib.Core.Path.{_≡_, sym, _∙_}
 use mathlib.Core.Bool.{false, _&&_}
 use mathlib.Core.List.{[]}

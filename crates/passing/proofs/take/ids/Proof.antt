@@ -1,5 +1,4 @@
--- `passing::take::ids` meets its contract.
--- Assumes nothing.
+-- `passing::take::ids` meets its contract. Assumes nothing.
 use mathlib.Core.Path.{sym}
 use borrow.Author.Needs.{needs}
 use native.Mathlib.Omega.{arith}

@@ -1,5 +1,4 @@
--- `passing::take::said` meets its contract.
--- Assumes nothing.
+-- `passing::take::said` meets its contract. Assumes nothing.
 use native.Mathlib.Omega.{arith}
 use borrow.Author.Needs.{needs}
 use Rattle.passing.specs.Passing.{truth, said}

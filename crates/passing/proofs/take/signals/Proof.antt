@@ -1,5 +1,4 @@
--- `passing::take::signals` meets its contract.
--- Assumes nothing.
+-- `passing::take::signals` meets its contract. Assumes nothing.
 use mathlib.Core.Path.{sym}
 use borrow.Author.Needs.{needs}
 use Rattle.passing.proofs.Littles.{five-littles}

@@ -1,5 +1,4 @@
--- `passing::take::strips` meets its contract. The loop's invariant: the strips passed are the numbers in their bytes.
--- Assumes nothing.
+-- `passing::take::strips` meets its contract. The loop's invariant: the strips passed are the numbers in their bytes. Assumes nothing.
 use mathlib.Core.Path.{_≡_, refl, sym, ap, _∙_}
 use mathlib.Core.List.{List}
 use Prim.Native.Nat.{ℕ, _-_, _*_, _≤_}

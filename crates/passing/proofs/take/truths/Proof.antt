@@ -1,5 +1,4 @@
--- `passing::take::truths` meets its contract.
--- Assumes nothing.
+-- `passing::take::truths` meets its contract. Assumes nothing.
 use mathlib.Core.Path.{sym}
 use mathlib.Core.Bool.{and-true}
 use lib.Dec.{leb}

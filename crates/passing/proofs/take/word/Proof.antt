@@ -1,5 +1,4 @@
--- `passing::take::word` meets its contract.
--- Assumes nothing.
+-- `passing::take::word` meets its contract. Assumes nothing.
 use native.Mathlib.Omega.{arith}
 use Prim.Native.Nat.{_+_}
 use borrow.Author.Needs.{needs}
