@@ -14,4 +14,7 @@ unfolding truth
 returns c = ap (λ (l : List ℕ). map truth l) (sym (five 0 (c .before .before .before .before .before .args .bytes .now) 11 (omega arith)))
 
 pub flags-spec : {M : Type 1} → statement M
-flags-spec = tie.close (tie.spec (λ c. search needs) (λ c. search needs) (λ c. search needs) (λ c. search needs) (λ c. search needs) returns)
+flags-spec =
+    tie.close
+    (tie.spec (λ c. search needs) (λ c. search needs) (λ c. search needs) (λ c. search needs) (λ c. search needs) (λ c. search needs)
+    (λ c. search needs) (λ c. search needs) (λ c. search needs) returns)

@@ -9,5 +9,6 @@ use Rattle.passing.proofs.take.ids.Tie as tie
 pub ids-spec : {M : Type 1} → statement M
 ids-spec =
     tie.close
-    (tie.spec (λ c. search needs) (λ c. search needs) (λ c. search needs) (λ c. search needs) (λ c. search needs)
+    (tie.spec (λ c. search needs) (λ c. search needs) (λ c. search needs) (λ c. search needs) (λ c. search needs) (λ c. search needs)
+    (λ c. search needs) (λ c. search needs) (λ c. search needs)
     (λ c. sym (five 0 (c .before .before .before .before .before .args .bytes .now) 6 (omega arith))))

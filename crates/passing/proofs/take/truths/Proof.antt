@@ -44,5 +44,5 @@ returns-5 c =
 pub truths-spec : {M : Type 1} → statement M
 truths-spec =
     tie.close
-    (tie.spec (λ c. search needs) returns (λ c. search needs) returns-2 (λ c. search needs) returns-3 (λ c. search needs) returns-4
-    (λ c. search needs) returns-5)
+    (tie.spec (λ c. search needs) returns (λ c. search needs) (λ c. search needs) returns-2 (λ c. search needs) (λ c. search needs) returns-3
+    (λ c. search needs) (λ c. search needs) returns-4 (λ c. search needs) (λ c. search needs) returns-5)
