@@ -20,7 +20,7 @@ use Rattle.holding.specs.declared.Holding.{Holding}
 use Rattle.format.proofs.MakesBack.{GoodSystem, good-system}
 use Rattle.holding.specs.Pictures.{filled, stripsFrom, stripsOf, pictureOf, maskOf, sound}
 use Rattle.holding.specs.Spread.{spread}
-use Rattle.holding.specs.Testing.{stripFits, stripsFit, masksFit, slotFits, emptySlots, emptyStrips, slotsFit, tested}
+use Rattle.holding.specs.Testing.{every, stripFits, stripsFit, masksFit, slotFits, emptySlots, emptyStrips, slotsFit, tested}
 use Rattle.holding.proofs.Places.{ones-number}
 use Rattle.holding.proofs.Spreads.{length-spread, spread-within, within-number}
 use Rattle.holding.proofs.PicturedStrips.{satelliteCount, strips-either, length-strips, satellites-snoc, cells-snoc}
@@ -31,7 +31,7 @@ use Rattle.holding.proofs.Built.{strips-ones, few-systems}
 
 -- with a cell mask a strip has no signal that the system has not
 strips-from : (n : ℕ) (signals bits : List Bool) → stripsFit true (number signals) (stripsFrom n signals bits) ≡ true
-unfolding stripsFit stripFits stripsFrom
+unfolding every stripFits stripsFrom
 strips-from zero signals bits = refl
 strips-from (suc n) signals bits =
     true-and (sym (within-number (spread signals bits) signals (length-spread signals bits)) ∙ spread-within signals bits)
@@ -39,7 +39,7 @@ strips-from (suc n) signals bits =
 
 -- without one it has all of them
 strips-all : (n signals : ℕ) → stripsFit false signals (replicate n signals) ≡ true
-unfolding stripsFit stripFits
+unfolding every stripFits
 strips-all zero signals = refl
 strips-all (suc n) signals = true-and (eqb-refl signals) (strips-all n signals)
 
@@ -81,7 +81,7 @@ empty-slots zero = refl
 empty-slots (suc j) = empty-slots j
 
 empty-strips : (r : ℕ) → emptyStrips (replicate r 0) ≡ true
-unfolding emptyStrips
+unfolding every
 empty-strips zero = refl
 empty-strips (suc r) = empty-strips r
 
@@ -124,7 +124,7 @@ filled-fit ss e = simp length-map (slots-fit [] ss (5 - length ss) (64 - length 
 
 -- the test of the code holds of the picture of a good holding
 pub picture-tested : (g : Held) → good g ≡ true → tested (pictureOf g) ≡ true
-unfolding good tested pictureOf slotsFit emptySlots emptyStrips
+unfolding good tested pictureOf slotsFit emptySlots every
 picture-tested nothing e = refl
 picture-tested (mask m) e =
     let parts = and-true (ltb (m .iod) 16) _ e in

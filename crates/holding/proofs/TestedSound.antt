@@ -19,7 +19,7 @@ use Rattle.holding.specs.declared.Holding.{Holding}
 use Rattle.holding.specs.Building.{onesIn}
 use Rattle.holding.specs.Bounds.{narrow}
 use Rattle.holding.specs.Pictures.{filled, stripsOf, pictureOf, systemOf, systemsOf, maskOf, sameHolding, sound}
-use Rattle.holding.specs.Testing.{slotFits, emptySlots, emptyStrips, slotsFit, tested}
+use Rattle.holding.specs.Testing.{every, slotFits, emptySlots, emptyStrips, slotsFit, tested}
 use Rattle.holding.proofs.Places.{ones-places}
 use Rattle.holding.proofs.PicturedStrips.{length-satellites, satellites-snoc, cells-snoc}
 use Rattle.holding.proofs.PicturedSame.{sameHolding-refl}
@@ -55,7 +55,7 @@ filled-nothing d (x ∷ all) e = absurd (omega arith)
 
 -- strips that are not used
 empty-strips : (strips : List ℕ) → emptyStrips strips ≡ true → filled (length strips) 0 [] ≡ strips
-unfolding emptyStrips filled
+unfolding every filled
 empty-strips [] e = refl
 empty-strips (strip ∷ strips) e =
     let parts = and-true (eqb strip 0) _ e in

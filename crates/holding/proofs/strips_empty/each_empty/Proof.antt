@@ -8,7 +8,7 @@ use native.Mathlib.Numerals.{add-one}
 use borrow.Author.Needs.{needs}
 use lib.Dec.{eqb}
 use lib.ListN.{length, getD, drop, drop-of-length-le}
-use Rattle.holding.specs.Testing.{emptyStrips}
+use Rattle.holding.specs.Testing.{every, emptyStrips}
 use Rattle.holding.proofs.Fitting.{empty-strip}
 use Rattle.holding.proofs.Noughts.{gather}
 use Rattle.holding.proofs.strips_empty.each_empty.Statement.{statement}
@@ -29,7 +29,7 @@ loop-again c =
     (omega arith, s .inv .1 ∙ ap (λ (t : Bool). eqb (s .any) 0 && t) (here ∙ rw (← (add-one (s .i)))) ∙ more)
 
 returns : tie.Need-returns Inv-loop μ-loop
-unfolding emptyStrips
+unfolding every
 returns c =
     let x = c .before .before .args in
     let all : length (x .strips .now) ≤ c .before .loop .i = omega arith in
