@@ -1,5 +1,4 @@
--- Picking by the bits of a 64-bit selection: its first bit, the selection moved up, all of it, and how many it picks.
--- Assumes nothing.
+-- Picking by the bits of a 64-bit selection: its first bit, the selection moved up, all of it, and how many it picks. Assumes nothing.
 use mathlib.Core.Path.{_≡_, refl, sym, ap, _∙_}
 use mathlib.Core.Bool.{Bool}
 use mathlib.Core.List.{List, [], _∷_, _++_}

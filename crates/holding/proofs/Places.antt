@@ -3,15 +3,15 @@ use mathlib.Core.Path.{_≡_, refl, sym, ap, _∙_}
 use mathlib.Core.Bool.{Bool, true, false}
 use mathlib.Core.List.{List, [], _∷_, _++_, append-nil}
 use Prim.Native.Nat.{ℕ, zero, suc, _+_, _-_, _*_, _%_, _^_, _≤_, _<_}
-use native.Mathlib.Nat.{zero-add, add-zero, add-suc, suc-add, zero-sub, zero-mul, sub-zero, suc-sub-suc, zero-div, div-eq-of-lt, mod-eq-of-lt, pow-suc}
+use native.Mathlib.Nat.{zero-add, add-zero, add-suc, suc-add, zero-sub, sub-zero, suc-sub-suc, zero-div, div-eq-of-lt, mod-eq-of-lt, pow-suc}
 use native.Mathlib.Omega.{arith}
 use lib.Count.{ones, leadingZeros, ones-cat, leading-top}
 use lib.Dec.{eqb}
 use lib.ListN.{length, drop}
 use lib.Pow.{high, pow-pos}
-use borrow.Author.Tests.{ne-eqb}
 use Rattle.bits.proofs.BitLists.{number-lt, length-spell, number-spell, spell-low, spell-append}
 use Rattle.bits.specs.BitLists.{number, spell}
+use Rattle.format.proofs.Placed.{blank-number}
 use Rattle.format.specs.Assigned.{blank}
 use Rattle.format.specs.Masks.{placesFrom}
 
@@ -93,13 +93,6 @@ pub next-place : (x : ℕ) → 0 < x → x < 2 ^ 64
 next-place x some small = rw zero-add at (first-place 63 x 0 some small)
 
 -- ---- none beyond the assigned ones
-
--- no bit is set where the number is 0
-pub blank-number : (l : List Bool) → blank l ≡ eqb (number l) 0
-unfolding blank number
-blank-number [] = refl
-blank-number (true ∷ l) = sym (ne-eqb (1 * 2 ^ length l + number l) 0 (λ e. omega (arith, pow-pos (length l))))
-blank-number (false ∷ l) = rw (zero-mul, zero-add) (blank-number l)
 
 -- without its first i bits a spelling is a shorter one
 pub drop-spell : (i w n : ℕ) → drop i (spell w n) ≡ spell (w - i) n
