@@ -18,6 +18,7 @@ use Rattle.holding.specs.declared.Holding.{Holding}
 use Rattle.holding.specs.Building.{withSystem}
 use Rattle.holding.specs.Bounds.{below}
 use Rattle.holding.specs.Pictures.{pictureOf, maskOf, sameHolding, sound}
+use Rattle.holding.specs.Testing.{every}
 use Rattle.holding.proofs.Bounds.{below-wider}
 use Rattle.holding.proofs.Sounds.{Shaped, sounds}
 use Rattle.passing.specs.Bytes.{little, littles, parts, partsOf}
@@ -74,7 +75,7 @@ digit-truth false = refl
 
 -- and so is each of some flags'
 digits-pass : (fs : List Bool) → truths (map digit fs) ≡ true
-unfolding truths
+unfolding every
 digits-pass [] = refl
 digits-pass (f ∷ fs) = true-and (digit-truth f) (digits-pass fs)
 
@@ -232,7 +233,7 @@ digit-back (suc (suc b)) few = absurd (omega arith)
 
 -- the bytes of truths are these
 pub digits-truths : (bs : List ℕ) → truths bs ≡ true → map digit (map truth bs) ≡ bs
-unfolding truths
+unfolding every
 digits-truths [] e = refl
 digits-truths (b ∷ bs) e =
     let parts = and-true (leb b 1) _ e in
