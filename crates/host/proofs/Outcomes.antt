@@ -34,7 +34,7 @@ use Rattle.reader.specs.declared.message.Found.{Found}
 use Rattle.reader.specs.declared.message.Found.the-variants.{Mask, Answered}
 use Rattle.reader.specs.Readings.{lentBy, structOf, outcomeAt, soughtAt, rawTo}
 use Rattle.reader.proofs.message.Found as Found
-use Rattle.reader.proofs.Rawed.{raw-read}
+use Rattle.reader.proofs.Rawed.{none-starts, none-counts, raw-read}
 use Rattle.reader.proofs.Sought.{SoughtAnswer, sought-mask, sought-answer}
 
 -- ---- what is lent after a message, as a struct and as bytes
@@ -116,12 +116,19 @@ message-bytes hb bs end start rows small m next said other = go (soughtAt (holdi
 
 -- ---- what is handed of an outcome
 
--- the place that the answer says is where the raw part ends
+-- the place that the answer itself says is where the raw part ends
 pub hand-outcome : (start : ℕ) (a : Answer) (o : Outcome) → a ≡ answerOf o → handedTo start (placeSaid start a) a ≡ handed start o
 unfolding answerOf rawEnd placeSaid
 hand-outcome start a (accepted m next) e = rw e refl
 hand-outcome start a (idle l) e = rw e refl
 hand-outcome start a (refused r missing l) e = rw e refl
+
+-- a stop's raw part has offset and count 0
+pub stop-raw : (start : ℕ) (o : Outcome) → Stopped o → (handed start o .offset ≡ 0) × (handed start o .count ≡ 0)
+unfolding handedTo rawEnd
+stop-raw start (accepted m next) stopped = absurd stopped
+stop-raw start (idle l) stopped = (none-starts start, none-counts start)
+stop-raw start (refused r missing l) stopped = (none-starts start, none-counts start)
 
 -- offset and count are those of the part that `reader::raw` gives for the answer: its bytes, and where it lies
 pub handed-raw : (hb : List ℕ) (whole part : RefT (List ℕ)) (end start : ℕ) (rows : List ℤ) → let o = hostOutcome hb (now whole) end start rows in

@@ -46,15 +46,15 @@ headSaid (Answers.Message h next rows) = h
 headSaid Answers.Idle = noHead
 headSaid (Answers.Refused r missing) = noHead
 
--- an answer to reading at a start, the raw part and the place after it reaching to a place
+-- what is handed of an answer to reading at a start whose raw part ends at a place: that is the place after it, too
 unfoldable pub handedTo : ℕ → ℕ → Answer → Handed
 handedTo start to a = record { answer = answerNumber a; place = to; rows = rowsSaid a; offset = startOf start to; count = countOf start to; head = headSaid a }
 
--- an outcome's reaches to the end of its raw part: after a message, and for a stop the start asked for
+-- and of an outcome: a message's ends behind it, a stop's at the start asked for
 abbrev pub handed : ℕ → Outcome → Handed
 handed start o = handedTo start (rawEnd o start) (answerOf o)
 
--- the answer says that place, too
+-- the place that the answer itself says
 unfoldable pub placeSaid : ℕ → Answer → ℕ
 placeSaid start (Answers.Message h next rows) = next
 placeSaid start Answers.Idle = start
