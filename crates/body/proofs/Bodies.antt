@@ -16,6 +16,7 @@ use Rattle.bits.specs.BitLists.{spell}
 use Rattle.format.proofs.Bodies.{none, more}
 use Rattle.format.proofs.Lengths.{cell-width, total-same, packet-width}
 use Rattle.format.proofs.Sames.{and-true}
+use Rattle.format.proofs.Picks.{pick-all}
 use Rattle.format.proofs.Spells.{packet-count}
 use Rattle.format.specs.Lengths.{total}
 use Rattle.format.specs.Masks.{Satellite, Cell, pick}
@@ -38,7 +39,6 @@ use Rattle.table.specs.Bodies.{linesOver, linesIn, FitsKeys, Fits}
 use Rattle.body.specs.Chosen.{alone, cellsIn, striped, chosenLines}
 use Rattle.body.specs.Written.{Room, Counts}
 use Rattle.body.proofs.Groups.{alone-chosen, striped-chosen}
-use Rattle.body.proofs.Picks.{pick-all}
 use Rattle.body.proofs.Sizes.{Few, few-satellites, total-most, satellites-alike}
 use Rattle.body.proofs.Slots.{count-of}
 

@@ -1,6 +1,5 @@
 -- A loop that writes rows into a lent part: what the part shall hold at the end is its first numbers as they are, then the rows that are left, then its
--- old numbers.
--- Assumes nothing.
+-- old numbers. Assumes nothing.
 use mathlib.Core.Path.{_≡_, refl, sym, ap, ap₂, _∙_, subst}
 use mathlib.Core.List.{List, [], _∷_, _++_, append-assoc, append-nil, flatten}
 use Prim.Native.Nat.{ℕ, _+_, _-_, _*_, _^_, _≤_, _<_}

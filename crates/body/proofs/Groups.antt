@@ -12,7 +12,7 @@ use Rattle.bits.specs.BitLists.{spell}
 use Rattle.format.specs.Masks.{Satellite, pick}
 use Rattle.format.specs.Messages.{satelliteLines, cellLines}
 use Rattle.format.specs.Rows.{Column}
-use Rattle.holding.proofs.PicturedCells.{pick-map}
+use Rattle.format.proofs.Picks.{pick-map}
 use Rattle.holding.specs.Held.{stripCells}
 use Rattle.rows.specs.declared.shape.Shape.{Shape}
 use Rattle.rows.specs.Shapes.{columnsOf, columnsIn, Narrow}

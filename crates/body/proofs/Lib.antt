@@ -1,5 +1,5 @@
 pub mod Keys
-pub mod Picks
+pub mod Selected
 pub mod Going
 pub mod Marks
 pub mod Walking

@@ -20,7 +20,8 @@ use Rattle.rows.specs.Table.{shapeAt}
 use Rattle.body.specs.Chosen.{alone, chosenLines}
 use Rattle.body.specs.Written.{Counts}
 use Rattle.body.proofs.Groups.{alone-length, alone-append, alone-chosen}
-use Rattle.body.proofs.Picks.{picked, pick-few}
+use Rattle.body.proofs.Selected.{picked}
+use Rattle.format.proofs.Picks.{pick-few}
 use Rattle.body.proofs.Slots.{inSlot, fromSlot, Slot}
 use Rattle.body.proofs.Walking.{chosen-split}
 

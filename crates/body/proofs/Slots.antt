@@ -47,7 +47,7 @@ none-of sat e = rw (e, no-place 64 0)
 -- a strip of 16 bits moved up
 pub up-of : (sat : Satellite) (strip : ℕ) → strip < 2 ^ 16 → cellsIn 64 sat (strip * 2 ^ 48 % 2 ^ 64) ≡ cellsIn 16 sat strip
 unfolding cellsIn
-up-of sat strip small = rw (places-shifted 16 48 strip small (omega arith))
+up-of sat strip small = rw (places-shifted 16 48 strip (omega arith))
 
 -- and how many cells it has
 pub count-of : (sat : Satellite) (strip : ℕ) → strip < 2 ^ 16 → length (cellsIn 16 sat strip) ≡ ones strip
@@ -59,7 +59,7 @@ count-of sat strip small = length-map (placesFrom 0 (spell 16 strip)) _ ∙ sym 
 -- a mask of 40 bits moved up
 up-in : (id m : ℕ) → m < 2 ^ 40 → satellitesIn 64 id (m * 2 ^ 24 % 2 ^ 64) ≡ satellitesIn 40 id m
 unfolding satellitesIn
-up-in id m small = rw (places-shifted 40 24 m small (omega arith))
+up-in id m small = rw (places-shifted 40 24 m (omega arith))
 
 count-in : (id m : ℕ) → m < 2 ^ 40 → length (satellitesIn 40 id m) ≡ ones m
 unfolding satellitesIn

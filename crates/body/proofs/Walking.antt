@@ -11,13 +11,13 @@ use Rattle.bits.specs.BitLists.{spell}
 use Rattle.format.specs.Masks.{pick}
 use Rattle.format.specs.Reading.{over}
 use Rattle.format.specs.Rows.{Line}
-use Rattle.holding.proofs.PicturedCells.{pick-nil}
+use Rattle.format.proofs.Picks.{pick-nil}
 use Rattle.body.specs.declared.Passed.{Passed}
 use Rattle.body.specs.Chosen.{chosenLines}
 use Rattle.body.specs.Written.{numbersAt, Room, Handed}
 use Rattle.body.proofs.Going.{flatten-append, Going, going-start, Part, going-call, going-end}
 use Rattle.body.proofs.Marks.{Moved, moved-start, moved-next, moved-end}
-use Rattle.body.proofs.Picks.{pick-split, pick-set, pick-clear}
+use Rattle.body.proofs.Selected.{pick-split, pick-set, pick-clear}
 
 -- ---- the lines that are chosen
 

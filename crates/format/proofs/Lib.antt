@@ -10,6 +10,7 @@ pub mod Makes
 pub mod MakesBack
 pub mod Bodies
 pub mod Selections
+pub mod Picks
 pub mod Spells
 pub mod RoundTrips
 pub mod Lengths

@@ -65,7 +65,7 @@ module _ (bs : List ℕ) (end : ℕ) (there : end ≤ 8 * length bs) where
 
 -- ---- all bits are zero
 
-blank-number : (l : List Bool) → blank l ≡ eqb (number l) 0
+pub blank-number : (l : List Bool) → blank l ≡ eqb (number l) 0
 unfolding blank number
 blank-number [] = refl
 blank-number (true ∷ l) = sym (ne-eqb (1 * 2 ^ length l + number l) 0 (λ e. omega (arith, pow-pos (length l))))

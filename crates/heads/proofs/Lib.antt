@@ -4,4 +4,3 @@ pub mod Commons
 pub mod Sorted
 pub mod Opened
 pub mod Chosen
-pub mod Picked

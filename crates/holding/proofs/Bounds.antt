@@ -1,5 +1,4 @@
--- A bound of all numbers of a list or table, by one test: at an index, under a wider bound, of parts, of lists one after the other.
--- Assumes nothing.
+-- A bound of all numbers of a list or table, by one test: at an index, under a wider bound, of parts, of lists one after the other. Assumes nothing.
 use mathlib.Core.Path.{_≡_, refl}
 use mathlib.Core.Bool.{true}
 use mathlib.Core.List.{List, [], _∷_, _++_}

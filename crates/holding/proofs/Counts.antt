@@ -1,5 +1,4 @@
--- How many cells some strips have: in parts, four at a time, and where the strips behind are not used.
--- Assumes nothing.
+-- How many cells some strips have: in parts, four at a time, and where the strips behind are not used. Assumes nothing.
 use mathlib.Core.Path.{_≡_, refl, ap, _∙_}
 use mathlib.Core.Bool.{true}
 use mathlib.Core.List.{List, [], _∷_, _++_}
@@ -12,7 +11,7 @@ use lib.ListN.{length, getD, take, drop}
 use lib.Seq.{take-add}
 use Rattle.format.proofs.Sames.{and-true}
 use Rattle.holding.specs.Building.{onesIn}
-use Rattle.holding.specs.Testing.{four, emptyStrips}
+use Rattle.holding.specs.Testing.{every, four, emptyStrips}
 use Rattle.holding.proofs.Fours.{four-strips}
 
 -- ---- in parts
@@ -28,7 +27,7 @@ ones-part strips n k = ap onesIn (take-add n k strips) ∙ ones-append (take n s
 -- ---- strips that are not used have none
 
 ones-empty : (strips : List ℕ) (k : ℕ) → emptyStrips strips ≡ true → onesIn (take k strips) ≡ 0
-unfolding emptyStrips onesIn
+unfolding every onesIn
 ones-empty strips zero e = refl
 ones-empty [] (suc k) e = refl
 ones-empty (strip ∷ strips) (suc k) e =

@@ -1,5 +1,4 @@
--- The tests of specs/Testing.antt, one strip or slot at a time.
--- Assumes nothing.
+-- The tests of specs/Testing.antt, one strip or slot at a time. Assumes nothing.
 use mathlib.Core.Path.{_≡_, refl, ap, _∙_}
 use mathlib.Core.Bool.{Bool, true, false, _&&_, not}
 use mathlib.Core.List.{List}
@@ -17,16 +16,16 @@ use Rattle.format.proofs.Sames.{and-true}
 use Rattle.format.specs.Assigned.{satellitePlaces, assigned}
 use Rattle.holding.specs.Building.{onesIn}
 use Rattle.format.specs.Messages.{named}
-use Rattle.holding.specs.Testing.{stripFits, stripsFit, masksFit, slotFits, emptyStrips, emptySlots, slotsFit}
+use Rattle.holding.specs.Testing.{every, stripFits, stripsFit, masksFit, slotFits, emptyStrips, emptySlots, slotsFit}
 use Rattle.holding.proofs.Counts.{ones-part}
 
 pub empty-strip : (strips : List ℕ) (i : ℕ) → i < length strips → emptyStrips (drop i strips) ≡ (eqb (getD strips i 0) 0 && emptyStrips (drop (suc i) strips))
-unfolding emptyStrips
+unfolding every
 empty-strip strips i inside = ap emptyStrips (drop-cons strips i 0 inside)
 
 pub strip-fit : (flag : Bool) (signals : ℕ) (strips : List ℕ) (i to : ℕ) → i < to → i < length strips
     → stripsFit flag signals (take (to - i) (drop i strips)) ≡ (stripFits flag signals (getD strips i 0) && stripsFit flag signals (take (to - suc i) (drop (suc i) strips)))
-unfolding stripsFit
+unfolding every
 strip-fit flag signals strips i to more inside =
     let next : to - i ≡ suc (to - suc i) = omega arith in
     rw (next, drop-cons strips i 0 inside)

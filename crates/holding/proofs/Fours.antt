@@ -1,5 +1,6 @@
 -- Four strips at a time, as one number: specs/Testing.antt. Assumes nothing.
 use mathlib.Core.Path.{_≡_, refl, ap, _∙_}
+use mathlib.Core.Bool as Bools
 use mathlib.Core.Bool.{Bool, true, false, cond, _&&_}
 use mathlib.Core.List.{List, [], _∷_}
 use Prim.Native.Nat.{ℕ, _+_, _*_, _^_, _≤_, _<_}
@@ -11,7 +12,7 @@ use lib.Dec.{eqb}
 use lib.ListN.{length, getD, take, drop}
 use lib.Seq.{drop-cons}
 use Rattle.format.proofs.Sames.{and-true, true-and}
-use Rattle.holding.specs.Testing.{four}
+use Rattle.holding.specs.Testing.{every, four, stripFits, emptyStrips, stripsFit}
 use Rattle.holding.proofs.Tests.{same-test}
 
 -- ---- the four
@@ -75,3 +76,20 @@ module _ (g : ℕ) (small : g < 2 ^ 16) where
   fit-four flag a b c d ha hb hc =
       ap (λ (x : ℕ). eqb x (four a b c d)) (held-four flag a b c d ha hb hc)
       ∙ eqb-four (held flag a) (held flag b) (held flag c) (held flag d) a b c d (held-lt flag a ha) (held-lt flag b hb) (held-lt flag c hc) ha hb hc
+
+-- ---- four of a list
+
+-- four joined are 0 just if none of them is used
+pub empty-four : (strips : List ℕ) (i : ℕ) → i + 4 ≤ length strips → ((k : ℕ) → getD strips k 0 < 2 ^ 16)
+    → eqb (four (getD strips i 0) (getD strips (i + 1) 0) (getD strips (i + 2) 0) (getD strips (i + 3) 0)) 0 ≡ emptyStrips (take 4 (drop i strips))
+unfolding every
+empty-four strips i room thin =
+    rw (four-strips strips i room, Bools.and-true)
+    (eqb-four (getD strips i 0) (getD strips (i + 1) 0) (getD strips (i + 2) 0) (getD strips (i + 3) 0) 0 0 0 0 (thin i) (thin (i + 1)) (thin (i + 2)) (omega arith) (omega arith) (omega arith))
+
+-- four joined fit just if they do
+pub fit-joined : (flag : Bool) (g : ℕ) (strips : List ℕ) (i : ℕ) → g < 2 ^ 16 → i + 4 ≤ length strips → ((k : ℕ) → getD strips k 0 < 2 ^ 16)
+    → stripFits flag (four g g g g) (four (getD strips i 0) (getD strips (i + 1) 0) (getD strips (i + 2) 0) (getD strips (i + 3) 0)) ≡ stripsFit flag g (take 4 (drop i strips))
+unfolding stripFits every
+fit-joined flag g strips i small room thin =
+    rw (four-strips strips i room, Bools.and-true) (fit-four g small flag _ _ _ (getD strips (i + 3) 0) (thin i) (thin (i + 1)) (thin (i + 2)))

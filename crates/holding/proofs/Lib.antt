@@ -14,9 +14,7 @@ pub mod Sounds
 pub mod Tests
 pub mod Noughts
 pub mod Fours
-pub mod EmptyFours
 pub mod Fitting
-pub mod FittingFours
 pub mod SoundTested
 pub mod OneSlot
 pub mod TestedSound

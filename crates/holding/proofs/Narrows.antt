@@ -1,13 +1,13 @@
 -- How many bits the numbers of a good mask's picture have. Assumes nothing.
 use mathlib.Core.Path.{_≡_, refl, _∙_}
-use mathlib.Core.Bool.{Bool, true, false, cond}
+use mathlib.Core.Bool.{Bool, true}
 use mathlib.Core.List.{List, [], _∷_, _++_, map, flatMap}
-use Prim.Native.Nat.{ℕ, zero, suc, _^_, _<_}
+use Prim.Native.Nat.{ℕ, zero, suc, _^_}
 use borrow.Author.Tests.{lt-ltb}
-use lib.ListN.{length, drop, replicate}
-use Rattle.bits.proofs.BitLists.{number-lt}
+use lib.ListN.{length, drop}
 use Rattle.bits.specs.BitLists.{number}
 use Rattle.format.proofs.Sames.{and-true, true-and}
+use Rattle.format.proofs.Steps.{field-lt}
 use Rattle.format.specs.Good.{goodSystem, goodSystems}
 use Rattle.format.specs.Masks.{System, placesFrom}
 use Rattle.format.proofs.MakesBack.{good-system}
@@ -15,11 +15,8 @@ use Rattle.holding.specs.Bounds.{below, narrow}
 use Rattle.holding.specs.Pictures.{stripsFrom, stripsOf}
 use Rattle.holding.specs.Spread.{spread}
 use Rattle.holding.proofs.Bounds.{below-append, below-replicate}
+use Rattle.holding.proofs.PicturedStrips.{satelliteCount, strips-either}
 use Rattle.holding.proofs.Spreads.{length-spread}
-
--- the number of bits of a known length
-number-small : (w : ℕ) (l : List Bool) → length l ≡ w → number l < 2 ^ w
-number-small w l e = rw e at (number-lt l)
 
 -- ---- the strips of a system
 
@@ -27,13 +24,13 @@ narrow-stripsFrom : (n : ℕ) (signals bits : List Bool) → length signals ≡ 
 unfolding stripsFrom below
 narrow-stripsFrom zero signals bits long = refl
 narrow-stripsFrom (suc n) signals bits long =
-    true-and (lt-ltb _ _ (number-small 16 (spread signals bits) (length-spread signals bits ∙ long)))
+    true-and (lt-ltb _ _ (field-lt 16 (spread signals bits) (length-spread signals bits ∙ long)))
     (narrow-stripsFrom n signals (drop (length (placesFrom 0 signals)) bits) long)
 
-narrow-stripsBy : (flag : Bool) (n : ℕ) (signals bits : List Bool) → length signals ≡ 16
-    → narrow 16 (cond flag (stripsFrom n signals bits) (replicate n (number signals))) ≡ true
-narrow-stripsBy true n signals bits long = narrow-stripsFrom n signals bits long
-narrow-stripsBy false n signals bits long = below-replicate (2 ^ 16) n (number signals) (number-small 16 signals long)
+pub narrow-strips : (s : System) → length (s .signals) ≡ 16 → narrow 16 (stripsOf s) ≡ true
+narrow-strips s long =
+    strips-either (λ _ l. narrow 16 l ≡ true) s (narrow-stripsFrom (satelliteCount s) (s .signals) (s .cells) long)
+    (below-replicate (2 ^ 16) (satelliteCount s) (number (s .signals)) (field-lt 16 (s .signals) long))
 
 -- ---- good systems
 
@@ -43,14 +40,14 @@ pub record Narrow (ss : List System) : Type 0 where
   pub strips : narrow 16 (flatMap stripsOf ss) ≡ true
 
 pub narrow-systems : (before ss : List System) → goodSystems before ss ≡ true → Narrow ss
-unfolding goodSystems flatMap stripsOf below
+unfolding goodSystems flatMap below
 narrow-systems before [] e = record { satellites = refl; signals = refl; strips = refl }
 narrow-systems before (s ∷ ss) e =
     let parts = and-true (goodSystem before s) _ e in
     let z = good-system before s (parts .0) in
     let more = narrow-systems (before ++ (s ∷ [])) ss (parts .1) in
     record {
-      satellites = true-and (lt-ltb _ _ (number-small 40 (s .satellites) (z .whole))) (more .satellites);
-      signals = true-and (lt-ltb _ _ (number-small 16 (s .signals) (z .long))) (more .signals);
-      strips = below-append (2 ^ 16) (stripsOf s) (flatMap stripsOf ss) (narrow-stripsBy (s .flag) _ (s .signals) (s .cells) (z .long)) (more .strips);
+      satellites = true-and (lt-ltb _ _ (field-lt 40 (s .satellites) (z .whole))) (more .satellites);
+      signals = true-and (lt-ltb _ _ (field-lt 16 (s .signals) (z .long))) (more .signals);
+      strips = below-append (2 ^ 16) (stripsOf s) (flatMap stripsOf ss) (narrow-strips s (z .long)) (more .strips);
     }

@@ -1,5 +1,4 @@
--- Numbers gathered by OR, which is 0 just where each of them is.
--- Assumes nothing.
+-- Numbers gathered by OR, which is 0 just where each of them is. Assumes nothing.
 use mathlib.Core.Path.{_≡_, sym, ap, _∙_}
 use mathlib.Core.Bool.{Bool, _&&_}
 use Prim.Native.Nat.{ℕ, zero, suc, _<_}

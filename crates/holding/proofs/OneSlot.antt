@@ -1,5 +1,4 @@
--- One slot of the struct: where it meets the test of specs/Testing.antt, it says a good system, and its strips are that system's.
--- Assumes nothing.
+-- One slot of the struct: where it meets the test of specs/Testing.antt, it says a good system, and its strips are that system's. Assumes nothing.
 use mathlib.Core.Path.{_≡_, refl, sym, ap, ap₂, _∙_}
 use mathlib.Core.Bool.{Bool, true, false, cond, not}
 use mathlib.Core.List.{List, [], _∷_, _++_, map, map-append, flatMap}
@@ -17,19 +16,19 @@ use Rattle.bits.specs.BitLists.{number, spell}
 use Rattle.format.proofs.Sames.{and-true, true-and}
 use Rattle.format.specs.Assigned.{satellitePlaces, known, assigned}
 use Rattle.format.specs.Good.{goodSystem, good}
-use Rattle.format.specs.Masks.{System, placesFrom, pick, cellsOf, satellites, cells}
+use Rattle.format.specs.Masks.{System, placesFrom, pick, satellites, cells}
 use Rattle.format.specs.Messages.{named, idsOf}
 use Rattle.holding.specs.Building.{onesIn}
 use Rattle.holding.specs.Bounds.{below, narrow}
 use Rattle.format.specs.Messages.{named}
 use Rattle.holding.specs.Pictures.{stripsFrom, stripsOf, systemOf}
 use Rattle.holding.specs.Spread.{spread, within}
-use Rattle.holding.specs.Testing.{stripFits, stripsFit, masksFit, slotFits}
+use Rattle.holding.specs.Testing.{every, stripFits, stripsFit, masksFit, slotFits}
 use Rattle.holding.proofs.Bounds.{below-take}
 use Rattle.holding.proofs.Places.{ones-places}
 use Rattle.holding.proofs.Spreads.{length-pick, spread-pick, within-and}
-use Rattle.holding.proofs.PicturedStrips.{length-satellites}
-use Rattle.holding.proofs.Built.{strips-ones, flatMap-snoc}
+use Rattle.holding.proofs.PicturedStrips.{satellites-snoc, cells-snoc}
+use Rattle.holding.proofs.Built.{strips-ones}
 
 -- ---- the strips of a slot
 
@@ -63,7 +62,7 @@ module _ (signals : ℕ) (small : signals < 2 ^ 16) where
   -- with the cell flag: strips that fit are made of the bits that they have at the signals' places
   strips-from : (strips : List ℕ) → narrow 16 strips ≡ true → stripsFit true signals strips ≡ true
       → stripsFrom (length strips) (spell 16 signals) (flatMap (stripBits (spell 16 signals)) strips) ≡ strips
-  unfolding below stripsFit stripFits stripsFrom flatMap
+  unfolding below every stripFits stripsFrom flatMap
   strips-from [] thin e = refl
   strips-from (strip ∷ strips) thin e =
       let g = spell 16 signals in
@@ -81,7 +80,7 @@ module _ (signals : ℕ) (small : signals < 2 ^ 16) where
 
   -- without it each strip is the signals
   strips-all : (strips : List ℕ) → stripsFit false signals strips ≡ true → replicate (length strips) signals ≡ strips
-  unfolding stripsFit stripFits
+  unfolding every stripFits
   strips-all [] e = refl
   strips-all (strip ∷ strips) e =
       let fits = and-true (eqb signals strip) _ e in
@@ -116,14 +115,6 @@ pub record After (before : List System) (ids : List ℕ) (n c : ℕ) : Type 0 wh
   pub same : ids ≡ map (λ s. s .id) before
   pub sats : n ≡ length (satellites before)
   pub held : c ≡ length (cells before)
-
-pub satellites-snoc : (before : List System) (s : System) → length (satellites (before ++ (s ∷ []))) ≡ length (satellites before) + length (placesFrom 0 (s .satellites))
-unfolding satellites
-satellites-snoc before s = rw flatMap-snoc (simp length-append (rw (length-satellites s)))
-
-pub cells-snoc : (before : List System) (s : System) → length (cells (before ++ (s ∷ []))) ≡ length (cells before) + length (cellsOf s)
-unfolding cells
-cells-snoc before s = rw flatMap-snoc (simp length-append)
 
 -- what a slot that fits says
 pub record Fits (before : List System) (ids : List ℕ) (n c id sats signals : ℕ) (flag : Bool) (strips : List ℕ) : Type 0 where

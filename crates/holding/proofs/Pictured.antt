@@ -1,5 +1,4 @@
--- A good holding and its picture: each says the other, and the test of a lent struct holds of just the pictures of good holdings.
--- Assumes nothing.
+-- A good holding and its picture: each says the other, and the test of a lent struct holds of just the pictures of good holdings. Assumes nothing.
 use mathlib.Core.Path.{_≡_, refl, ap, ap₂, _∙_}
 use mathlib.Core.Bool.{Bool, true, false, cond}
 use mathlib.Core.List.{List, [], _∷_, _++_, append-assoc, flatMap, map}
@@ -11,13 +10,14 @@ use lib.ListN.{length, drop, replicate, length-drop, take-append-drop}
 use lib.Seq.{take-at, drop-at}
 use Rattle.bits.specs.BitLists.{number, spell}
 use Rattle.format.proofs.Sames.{and-true, true-and}
+use Rattle.format.proofs.Steps.{field-spelled}
 use Rattle.format.specs.Good.{goodSystem, goodSystems, good}
 use Rattle.format.specs.Masks.{System, Held, nothing, mask, placesFrom, pick}
 use Rattle.format.proofs.MakesBack.{GoodSystem, good-system}
 use Rattle.holding.specs.declared.Holding.{Holding}
 use Rattle.holding.specs.Pictures.{filled, stripsFrom, stripsOf, pictureOf, systemOf, systemsOf, maskOf, sound}
 use Rattle.holding.proofs.Spreads.{pick-first}
-use Rattle.holding.proofs.PicturedStrips.{satelliteCount, length-strips, spell-bits, spell-strip}
+use Rattle.holding.proofs.PicturedStrips.{satelliteCount, length-strips, spell-strip}
 use Rattle.holding.proofs.PicturedSame.{sameHolding-sound, sameHolding-refl}
 
 -- ---- one system
@@ -46,8 +46,8 @@ system-slot : (before : List System) (s : System) (more : List ℕ) → GoodSyst
     → systemOf (s .id) (number (s .satellites)) (number (s .signals)) (s .flag) (stripsOf s ++ more) ≡ s
 unfolding systemOf stripsOf
 system-slot before s more z =
-    let satellites = spell-bits 40 (s .satellites) (z .whole) in
-    let signals = spell-bits 16 (s .signals) (z .long) in
+    let satellites = field-spelled 40 (s .satellites) (z .whole) in
+    let signals = field-spelled 16 (s .signals) (z .long) in
     let cells : systemOf (s .id) (number (s .satellites)) (number (s .signals)) (s .flag) (stripsOf s ++ more) .cells ≡ s .cells =
     rw (satellites, signals, take-at (stripsOf s) more (satelliteCount s) (length-strips s)) (cells-strips (s .flag) (satelliteCount s) (s .signals) (s .cells) (z .long) (z .width)) in
     λ i. record { id = s .id; satellites = satellites i; signals = signals i; flag = s .flag; cells = cells i }
@@ -65,7 +65,7 @@ systems-slots before (s ∷ ss) ids sats signals flags strips e =
     let parts = and-true (goodSystem before s) _ e in
     let z = good-system before s (parts .0) in
     let more = flatMap stripsOf ss ++ strips in
-    rw (append-assoc (stripsOf s) (flatMap stripsOf ss) strips, spell-bits 40 (s .satellites) (z .whole), drop-at (stripsOf s) more (satelliteCount s) (length-strips s))
+    rw (append-assoc (stripsOf s) (flatMap stripsOf ss) strips, field-spelled 40 (s .satellites) (z .whole), drop-at (stripsOf s) more (satelliteCount s) (length-strips s))
     (ap₂ _∷_ (system-slot before s more z) (systems-slots (before ++ (s ∷ [])) ss ids sats signals flags strips (parts .1)))
 
 -- what a good holding's picture says is that holding

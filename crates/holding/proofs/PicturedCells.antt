@@ -1,45 +1,23 @@
--- The cells of a good mask from its picture: satellite by satellite, the places of its strip.
--- Assumes nothing.
-use mathlib.Core.Path.{_≡_, refl, sym, ap, ap₂, _∙_}
-use mathlib.Core.Bool.{Bool, true, false, cond}
-use mathlib.Core.List.{List, [], _∷_, _++_, append-assoc, map, flatMap}
+-- The cells of a good mask from its picture: satellite by satellite, the places of its strip. Assumes nothing.
+use mathlib.Core.Path.{_≡_, refl, sym, ap₂, _∙_}
+use mathlib.Core.Bool.{Bool, true, cond}
+use mathlib.Core.List.{List, [], _∷_, _++_, append-assoc, flatMap}
 use Prim.Native.Nat.{ℕ}
 use native.Mathlib.Nat.{suc-inj}
 use native.Mathlib.Omega.{arith}
 use lib.Dec.{ltb}
-use lib.ListN.{length, drop, replicate, length-map}
+use lib.ListN.{length, replicate, length-map}
 use Rattle.bits.specs.BitLists.{number}
+use Rattle.format.proofs.Picks.{pick-nil, pick-append, pick-map}
 use Rattle.format.proofs.Sames.{and-true}
+use Rattle.format.proofs.Steps.{field-spelled}
 use Rattle.format.specs.Good.{goodSystem, goodSystems, good}
 use Rattle.format.specs.Masks.{System, Mask, mask, Satellite, placesFrom, pick, satellitesOf, pairsOf, cellsOf, satellites, cells}
 use Rattle.format.proofs.MakesBack.{good-system}
 use Rattle.holding.specs.Held.{cellsAt, stripCells}
 use Rattle.holding.specs.Pictures.{stripsFrom, stripsOf}
 use Rattle.holding.proofs.Spreads.{places-spread}
-use Rattle.holding.proofs.PicturedStrips.{length-strips, length-satellites, spell-bits, spell-strip}
-
--- ---- picking
-
-module _ {A : Type 0} where
-  pub pick-nil : (bits : List Bool) → _≡_ {A = List A} (pick bits []) []
-  unfolding pick
-  pick-nil [] = refl
-  pick-nil (b ∷ bits) = refl
-
-  -- the bits that the first list leaves select from the second
-  pub pick-append : (bits : List Bool) (xs ys : List A) → pick bits (xs ++ ys) ≡ pick bits xs ++ pick (drop (length xs) bits) ys
-  unfolding pick
-  pick-append bits [] ys = rw pick-nil
-  pick-append [] (x ∷ xs) ys = refl
-  pick-append (true ∷ bits) (x ∷ xs) ys = ap (λ (l : List A). x ∷ l) (pick-append bits xs ys)
-  pick-append (false ∷ bits) (x ∷ xs) ys = pick-append bits xs ys
-
-  pub pick-map : {B : Type 0} (f : A → B) (bits : List Bool) (xs : List A) → pick bits (map f xs) ≡ map f (pick bits xs)
-  unfolding pick
-  pick-map f [] xs = refl
-  pick-map f (b ∷ bits) [] = refl
-  pick-map {B} f (true ∷ bits) (x ∷ xs) = ap (λ (l : List B). f x ∷ l) (pick-map f bits xs)
-  pick-map f (false ∷ bits) (x ∷ xs) = pick-map f bits xs
+use Rattle.holding.proofs.PicturedStrips.{strips-either, length-strips, length-satellites, spell-strip}
 
 -- ---- one system
 
@@ -56,18 +34,15 @@ module _ (signals : List Bool) (long : length signals ≡ 16) where
   all-cells : (sats : List Satellite) → flatMap (λ sat. cellsAt sat (placesFrom 0 signals)) sats ≡ stripCells sats (replicate (length sats) (number signals))
   unfolding flatMap stripCells
   all-cells [] = refl
-  all-cells (sat ∷ sats) = rw (spell-bits 16 signals long, all-cells sats)
-
-  cells-by : (flag : Bool) (sats : List Satellite) (bits : List Bool)
-      → let pairs = flatMap (λ sat. cellsAt sat (placesFrom 0 signals)) sats in
-      cond flag (pick bits pairs) pairs ≡ stripCells sats (cond flag (stripsFrom (length sats) signals bits) (replicate (length sats) (number signals)))
-  cells-by true sats bits = picked-cells sats bits
-  cells-by false sats bits = all-cells sats
+  all-cells (sat ∷ sats) = rw (field-spelled 16 signals long, all-cells sats)
 
 -- the cells of a system with a signal mask of 16 bits are its satellites, each with the places of its strip
 pub strip-cells : (s : System) → length (s .signals) ≡ 16 → cellsOf s ≡ stripCells (satellitesOf s) (stripsOf s)
-unfolding cellsOf pairsOf stripsOf
-strip-cells s long = rw length-satellites at (cells-by (s .signals) long (s .flag) (satellitesOf s) (s .cells))
+unfolding cellsOf pairsOf
+strip-cells s long =
+    let sats = satellitesOf s in
+    strips-either (λ flag l. cond flag (pick (s .cells) (pairsOf s)) (pairsOf s) ≡ stripCells sats l) s
+    (rw length-satellites at (picked-cells (s .signals) long sats (s .cells))) (rw length-satellites at (all-cells (s .signals) long sats))
 
 -- ---- all systems
 

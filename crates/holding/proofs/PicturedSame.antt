@@ -1,5 +1,4 @@
--- The test sameHolding of specs/Pictures.antt holds of just the structs that are the same.
--- Assumes nothing.
+-- The test sameHolding of specs/Pictures.antt holds of just the structs that are the same. Assumes nothing.
 use mathlib.Core.Path.{_≡_}
 use mathlib.Core.Bool.{true, Bool·beq}
 use mathlib.Core.List.{List}

@@ -1,50 +1,48 @@
--- The sizes of a good mask and of its picture: a strip for each satellite, at most 64 satellites and 256 cells.
--- Assumes nothing.
-use mathlib.Core.Path.{_≡_, refl, sym, ap, _∙_}
-use mathlib.Core.Bool.{Bool, true, false, cond, not}
+-- The sizes of a good mask and of its picture: a strip for each satellite, at most 64 satellites and 256 cells. Assumes nothing.
+use mathlib.Core.Path.{_≡_, refl, ap, _∙_}
+use mathlib.Core.Bool.{Bool, true, false, cond}
 use mathlib.Core.List.{List, [], _∷_, _++_, append-assoc, append-nil, flatMap}
-use Prim.Native.Nat.{ℕ, zero, suc, _+_, _*_, _≤_}
+use Prim.Native.Nat.{ℕ, zero, suc, _+_, _≤_}
 use native.Mathlib.Omega.{arith}
-use lib.Dec.{eqb, leb, ltb}
+use lib.Dec.{ltb}
 use lib.ListN.{length, drop, replicate, length-append, length-map, length-replicate}
 use lib.Seq.{append-snoc}
-use borrow.Author.Tests.{eqb-true, leb-true}
-use Rattle.bits.proofs.BitLists.{spell-number}
 use Rattle.bits.specs.BitLists.{number, spell}
 use Rattle.format.proofs.Sames.{and-true}
-use Rattle.format.specs.Assigned.{satellitePlaces, signalPlaces, known, assigned}
+use Rattle.format.proofs.Steps.{field-spelled}
 use Rattle.format.specs.Good.{goodSystem, goodSystems, good}
-use Rattle.format.specs.Masks.{System, Mask, mask, placesFrom, satellitesOf, satellites, cells}
-use Rattle.format.specs.Messages.{named}
-use Rattle.format.proofs.MakesBack.{GoodSystem, good-system}
+use Rattle.format.specs.Masks.{System, Mask, mask, placesFrom, satellitesOf, cellsOf, satellites, cells}
+use Rattle.format.proofs.MakesBack.{good-system}
 use Rattle.holding.specs.Pictures.{stripsFrom, stripsOf}
 use Rattle.holding.specs.Spread.{spread}
 use Rattle.holding.proofs.Spreads.{length-spread}
 
 -- ---- a good system
 
--- how many satellites and signals a system has
+-- how many satellites a system has
 abbrev pub satelliteCount : System → ℕ
 satelliteCount s = length (placesFrom 0 (s .satellites))
 
-abbrev pub signalCount : System → ℕ
-signalCount s = length (placesFrom 0 (s .signals))
-
 -- ---- strips
 
-pub length-stripsFrom : (n : ℕ) (signals bits : List Bool) → length (stripsFrom n signals bits) ≡ n
+-- what holds of the strips of a cell mask, and where every signal counts for each satellite, holds of a system's by its flag
+pub strips-either : (P : Bool → List ℕ → Type 0) (s : System)
+    → P true (stripsFrom (satelliteCount s) (s .signals) (s .cells)) → P false (replicate (satelliteCount s) (number (s .signals))) → P (s .flag) (stripsOf s)
+unfolding stripsOf
+strips-either P s from all = go (s .flag)
+  where
+    go : (b : Bool) → P b (cond b (stripsFrom (satelliteCount s) (s .signals) (s .cells)) (replicate (satelliteCount s) (number (s .signals))))
+    go true = from
+    go false = all
+
+length-stripsFrom : (n : ℕ) (signals bits : List Bool) → length (stripsFrom n signals bits) ≡ n
 unfolding stripsFrom
 length-stripsFrom zero signals bits = refl
 length-stripsFrom (suc n) signals bits = ap suc (length-stripsFrom n signals (drop (length (placesFrom 0 signals)) bits))
 
-length-stripsBy : (flag : Bool) (n : ℕ) (signals bits : List Bool) → length (cond flag (stripsFrom n signals bits) (replicate n (number signals))) ≡ n
-length-stripsBy true n signals bits = length-stripsFrom n signals bits
-length-stripsBy false n signals bits = length-replicate n (number signals)
-
 -- a system has a strip for each satellite
 pub length-strips : (s : System) → length (stripsOf s) ≡ satelliteCount s
-unfolding stripsOf
-length-strips s = length-stripsBy (s .flag) (satelliteCount s) (s .signals) (s .cells)
+length-strips s = strips-either (λ _ l. length l ≡ satelliteCount s) s (length-stripsFrom _ (s .signals) (s .cells)) (length-replicate _ _)
 
 pub length-satellites : (s : System) → length (satellitesOf s) ≡ satelliteCount s
 unfolding satellitesOf
@@ -56,27 +54,26 @@ unfolding flatMap satellites
 picture-strips [] = refl
 picture-strips (s ∷ ss) = simp length-append (rw (length-strips s, length-satellites s, picture-strips ss))
 
--- ---- what a strip spells
-
--- bits of a known length are spelled by their number
-pub spell-bits : (w : ℕ) (l : List Bool) → length l ≡ w → spell w (number l) ≡ l
-spell-bits w l e = ap (λ (n : ℕ). spell n (number l)) (sym e) ∙ spell-number l
-
 -- a strip is spelled by its number
 pub spell-strip : (signals bits : List Bool) → length signals ≡ 16 → spell 16 (number (spread signals bits)) ≡ spread signals bits
-spell-strip signals bits long = spell-bits 16 (spread signals bits) (length-spread signals bits ∙ long)
+spell-strip signals bits long = field-spelled 16 (spread signals bits) (length-spread signals bits ∙ long)
+
+-- ---- one more system
+
+pub flatMap-snoc : {A B : Type 0} (f : A → List B) (xs : List A) (x : A) → flatMap f (xs ++ (x ∷ [])) ≡ flatMap f xs ++ f x
+unfolding flatMap
+flatMap-snoc f [] x = append-nil (f x)
+flatMap-snoc f (y ∷ xs) x = rw (flatMap-snoc f xs x, append-assoc)
+
+pub satellites-snoc : (before : List System) (s : System) → length (satellites (before ++ (s ∷ []))) ≡ length (satellites before) + satelliteCount s
+unfolding satellites
+satellites-snoc before s = rw flatMap-snoc (simp length-append (rw (length-satellites s)))
+
+pub cells-snoc : (before : List System) (s : System) → length (cells (before ++ (s ∷ []))) ≡ length (cells before) + length (cellsOf s)
+unfolding cells
+cells-snoc before s = rw flatMap-snoc (simp length-append)
 
 -- ---- limits
-
-satellites-append : (before ss : List System) → satellites (before ++ ss) ≡ satellites before ++ satellites ss
-unfolding satellites flatMap
-satellites-append [] ss = refl
-satellites-append (s ∷ before) ss = rw (satellites-append before ss) (sym (append-assoc (satellitesOf s) (satellites before) (satellites ss)))
-
--- the satellites with one more system's
-satellites-after : (before : List System) (s : System) → GoodSystem before s → length (satellites (before ++ (s ∷ []))) ≤ 64
-unfolding satellites flatMap
-satellites-after before s z = rw satellites-append (simp length-append (omega (arith, length-satellites s)))
 
 -- the satellites and cells with those of all that follow
 few-after : (before ss : List System) → length (satellites before) ≤ 64 → length (cells before) ≤ 256 → goodSystems before ss ≡ true
@@ -86,14 +83,8 @@ few-after before [] few held e = rw append-nil (few, held)
 few-after before (s ∷ ss) few held e =
     let parts = and-true (goodSystem before s) _ e in
     let z = good-system before s (parts .0) in
-    rw append-snoc at (few-after (before ++ (s ∷ [])) ss (satellites-after before s z) (z .held) (parts .1))
+    rw append-snoc at (few-after (before ++ (s ∷ [])) ss (rw (satellites-snoc before s) (z .few)) (z .held) (parts .1))
 
-few-parts : (m : Mask) → good (mask m) ≡ true → (length (satellites (m .systems)) ≤ 64) × (length (cells (m .systems)) ≤ 256)
+pub few-parts : (m : Mask) → good (mask m) ≡ true → (length (satellites (m .systems)) ≤ 64) × (length (cells (m .systems)) ≤ 256)
 unfolding good satellites cells flatMap
 few-parts m e = few-after [] (m .systems) (omega arith) (omega arith) (and-true (ltb (m .iod) 16) _ e .1)
-
-pub few-satellites : (m : Mask) → good (mask m) ≡ true → length (satellites (m .systems)) ≤ 64
-few-satellites m e = few-parts m e .0
-
-pub few-cells : (m : Mask) → good (mask m) ≡ true → length (cells (m .systems)) ≤ 256
-few-cells m e = few-parts m e .1

@@ -1,18 +1,17 @@
--- The places that a mask names, from the number that holds the mask: how many, which, and none beyond the assigned ones.
--- Assumes nothing.
+-- The places that a mask names, from the number that holds the mask: how many, which, and none beyond the assigned ones. Assumes nothing.
 use mathlib.Core.Path.{_≡_, refl, sym, ap, _∙_}
 use mathlib.Core.Bool.{Bool, true, false}
 use mathlib.Core.List.{List, [], _∷_, _++_, append-nil}
 use Prim.Native.Nat.{ℕ, zero, suc, _+_, _-_, _*_, _%_, _^_, _≤_, _<_}
-use native.Mathlib.Nat.{zero-add, add-zero, add-suc, suc-add, zero-sub, zero-mul, sub-zero, suc-sub-suc, zero-div, div-eq-of-lt, mod-eq-of-lt, pow-suc}
+use native.Mathlib.Nat.{zero-add, add-zero, add-suc, suc-add, zero-sub, sub-zero, suc-sub-suc, zero-div, div-eq-of-lt, mod-eq-of-lt, pow-suc}
 use native.Mathlib.Omega.{arith}
 use lib.Count.{ones, leadingZeros, ones-cat, leading-top}
 use lib.Dec.{eqb}
 use lib.ListN.{length, drop}
 use lib.Pow.{high, pow-pos}
-use borrow.Author.Tests.{ne-eqb}
 use Rattle.bits.proofs.BitLists.{number-lt, length-spell, number-spell, spell-low, spell-append}
 use Rattle.bits.specs.BitLists.{number, spell}
+use Rattle.format.proofs.Placed.{blank-number}
 use Rattle.format.specs.Assigned.{blank}
 use Rattle.format.specs.Masks.{placesFrom}
 
@@ -44,18 +43,15 @@ unfolding placesFrom spell
 no-place zero k = refl
 no-place (suc w) k = rw zero-div (no-place w (suc k))
 
--- a mask moved up, with zeros after it, names the same places
-pub places-up : (w z n k : ℕ) → n < 2 ^ w → placesFrom k (spell (w + z) (n * 2 ^ z)) ≡ placesFrom k (spell w n)
-places-up w z n k small =
-    ap (λ (m : ℕ). placesFrom k (spell (w + z) m)) (sym (add-zero (n * 2 ^ z)))
-    ∙ ap (placesFrom k) (spell-append w z n 0 (pow-pos z))
-    ∙ places-append (spell w n) (spell z 0) k
-    ∙ ap (λ (ps : List ℕ). placesFrom k (spell w n) ++ ps) (no-place z (k + length (spell w n)))
-    ∙ append-nil (placesFrom k (spell w n))
-
--- the same in a word of as many bits, where no bit is moved out
-pub places-shifted : (w z n : ℕ) → n < 2 ^ w → n * 2 ^ z < 2 ^ (w + z) → placesFrom 0 (spell (w + z) (n * 2 ^ z % 2 ^ (w + z))) ≡ placesFrom 0 (spell w n)
-places-shifted w z n small room = rw (mod-eq-of-lt room) (places-up w z n 0 small)
+-- a mask moved up in a word of as many bits more, with zeros after it and no bit moved out, names the same places
+pub places-shifted : (w z n : ℕ) → n * 2 ^ z < 2 ^ (w + z) → placesFrom 0 (spell (w + z) (n * 2 ^ z % 2 ^ (w + z))) ≡ placesFrom 0 (spell w n)
+places-shifted w z n room =
+    rw (mod-eq-of-lt room)
+    (ap (λ (m : ℕ). placesFrom 0 (spell (w + z) m)) (sym (add-zero (n * 2 ^ z)))
+    ∙ ap (placesFrom 0) (spell-append w z n 0 (pow-pos z))
+    ∙ places-append (spell w n) (spell z 0) 0
+    ∙ ap (λ (ps : List ℕ). placesFrom 0 (spell w n) ++ ps) (no-place z (0 + length (spell w n)))
+    ∙ append-nil (placesFrom 0 (spell w n)))
 
 -- p zeros above a number only move its places
 places-down : (p w n k : ℕ) → n < 2 ^ w → placesFrom k (spell (p + w) n) ≡ placesFrom (k + p) (spell w n)
@@ -97,13 +93,6 @@ pub next-place : (x : ℕ) → 0 < x → x < 2 ^ 64
 next-place x some small = rw zero-add at (first-place 63 x 0 some small)
 
 -- ---- none beyond the assigned ones
-
--- no bit is set where the number is 0
-pub blank-number : (l : List Bool) → blank l ≡ eqb (number l) 0
-unfolding blank number
-blank-number [] = refl
-blank-number (true ∷ l) = sym (ne-eqb (1 * 2 ^ length l + number l) 0 (λ e. omega (arith, pow-pos (length l))))
-blank-number (false ∷ l) = rw (zero-mul, zero-add) (blank-number l)
 
 -- without its first i bits a spelling is a shorter one
 pub drop-spell : (i w n : ℕ) → drop i (spell w n) ≡ spell (w - i) n

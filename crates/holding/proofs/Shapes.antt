@@ -1,5 +1,4 @@
--- What the types of the struct's fields say of its lists, and with it: the test of the code is that of the definitions.
--- Assumes nothing.
+-- What the types of the struct's fields say of its lists, and with it: the test of the code is that of the definitions. Assumes nothing.
 use mathlib.Core.Path.{_≡_, refl, sym, _∙_}
 use mathlib.Core.Bool.{Bool, true, false}
 use mathlib.Core.List.{List, [], _∷_, map}

@@ -1,40 +1,37 @@
 -- The test of a lent holding slot by slot, of specs/Testing.antt, holds of the picture of a good holding, and so of every sound struct.
 -- Assumes nothing.
 use mathlib.Core.Path.{_≡_, refl, sym, _∙_}
-use mathlib.Core.Bool.{Bool, true, false, cond, not}
+use mathlib.Core.Bool.{Bool, true, false}
 use mathlib.Core.List.{List, [], _∷_, _++_, append-assoc, append-nil, map, map-append, flatMap}
-use Prim.Native.Nat.{ℕ, zero, suc, _+_, _-_, _^_, _≤_, _<_}
+use Prim.Native.Nat.{ℕ, zero, suc, _-_, _≤_}
 use native.Mathlib.Omega.{arith}
 use lib.Count.{ones}
-use lib.Dec.{eqb, leb, ltb}
-use lib.ListN.{length, drop, replicate, length-append, length-map, length-replicate}
+use lib.Dec.{ltb}
+use lib.ListN.{length, drop, replicate, length-map, length-replicate}
 use lib.Seq.{append-snoc, take-at, drop-at}
 use borrow.Author.Tests.{leb-true, lt-ltb, le-leb}
-use Rattle.bits.proofs.BitLists.{number-lt}
 use Rattle.bits.specs.BitLists.{number}
 use Rattle.format.proofs.Sames.{and-true, true-and, eqb-refl}
-use Rattle.format.specs.Assigned.{satellitePlaces, signalPlaces, known, assigned}
+use Rattle.format.proofs.Steps.{field-spelled, field-lt}
+use Rattle.format.specs.Assigned.{known}
 use Rattle.format.specs.Good.{goodSystem, goodSystems, good}
 use Rattle.format.specs.Masks.{System, Held, nothing, mask, placesFrom, satellites, cells}
-use Rattle.format.specs.Messages.{named}
 use Rattle.holding.specs.declared.Holding.{Holding}
-use Rattle.holding.specs.Building.{onesIn}
-use Rattle.format.specs.Messages.{named}
 use Rattle.format.proofs.MakesBack.{GoodSystem, good-system}
 use Rattle.holding.specs.Pictures.{filled, stripsFrom, stripsOf, pictureOf, maskOf, sound}
 use Rattle.holding.specs.Spread.{spread}
-use Rattle.holding.specs.Testing.{stripFits, stripsFit, masksFit, slotFits, emptySlots, emptyStrips, slotsFit, tested}
+use Rattle.holding.specs.Testing.{every, stripFits, stripsFit, masksFit, slotFits, emptySlots, emptyStrips, slotsFit, tested}
 use Rattle.holding.proofs.Places.{ones-number}
 use Rattle.holding.proofs.Spreads.{length-spread, spread-within, within-number}
-use Rattle.holding.proofs.PicturedStrips.{satelliteCount, length-strips, length-satellites, spell-bits}
+use Rattle.holding.proofs.PicturedStrips.{satelliteCount, strips-either, length-strips, satellites-snoc, cells-snoc}
 use Rattle.holding.proofs.Pictured.{picture-sound}
-use Rattle.holding.proofs.Built.{strips-ones, flatMap-snoc, few-systems}
+use Rattle.holding.proofs.Built.{strips-ones, few-systems}
 
 -- ---- strips
 
 -- with a cell mask a strip has no signal that the system has not
 strips-from : (n : ℕ) (signals bits : List Bool) → stripsFit true (number signals) (stripsFrom n signals bits) ≡ true
-unfolding stripsFit stripFits stripsFrom
+unfolding every stripFits stripsFrom
 strips-from zero signals bits = refl
 strips-from (suc n) signals bits =
     true-and (sym (within-number (spread signals bits) signals (length-spread signals bits)) ∙ spread-within signals bits)
@@ -42,19 +39,15 @@ strips-from (suc n) signals bits =
 
 -- without one it has all of them
 strips-all : (n signals : ℕ) → stripsFit false signals (replicate n signals) ≡ true
-unfolding stripsFit stripFits
+unfolding every stripFits
 strips-all zero signals = refl
 strips-all (suc n) signals = true-and (eqb-refl signals) (strips-all n signals)
 
-strips-by : (flag : Bool) (n : ℕ) (signals bits : List Bool)
-    → stripsFit flag (number signals) (cond flag (stripsFrom n signals bits) (replicate n (number signals))) ≡ true
-strips-by true n signals bits = strips-from n signals bits
-strips-by false n signals bits = strips-all n (number signals)
-
 -- the strips of a system fit its flag and its signals
 strips-fit : (s : System) → stripsFit (s .flag) (number (s .signals)) (stripsOf s) ≡ true
-unfolding stripsOf
-strips-fit s = strips-by (s .flag) (satelliteCount s) (s .signals) (s .cells)
+strips-fit s =
+    strips-either (λ flag l. stripsFit flag (number (s .signals)) l ≡ true) s
+    (strips-from (satelliteCount s) (s .signals) (s .cells)) (strips-all (satelliteCount s) (number (s .signals)))
 
 -- ---- one slot
 
@@ -63,15 +56,8 @@ masks-fit : (before : List System) (s : System) → GoodSystem before s
     → masksFit (length (satellites before)) (s .id) (number (s .satellites)) (number (s .signals)) ≡ true
 unfolding masksFit
 masks-fit before s z =
-    let small : number (s .satellites) < 2 ^ 40 = rw (z .whole) at (number-lt (s .satellites)) in
-    rw (spell-bits 40 (s .satellites) (z .whole), spell-bits 16 (s .signals) (z .long), ones-number (s .satellites) 0)
-    (true-and (lt-ltb _ _ small) (true-and (z .placed) (true-and (le-leb _ _ (z .few)) (z .given))))
-
--- the cells with one more system's
-cells-more : (before : List System) (s : System) → goodSystem before s ≡ true
-    → length (cells before) + onesIn (stripsOf s) ≡ length (cells (before ++ (s ∷ [])))
-unfolding cells
-cells-more before s e = rw flatMap-snoc (simp length-append (rw (strips-ones s (good-system before s e .long))))
+    rw (field-spelled 40 (s .satellites) (z .whole), field-spelled 16 (s .signals) (z .long), ones-number (s .satellites) 0)
+    (true-and (lt-ltb _ _ (field-lt 40 (s .satellites) (z .whole))) (true-and (z .placed) (true-and (le-leb _ _ (z .few)) (z .given))))
 
 -- a system's satellite mask has a one for each of its strips
 ones-strips : (s : System) → length (stripsOf s) ≡ ones (number (s .satellites))
@@ -95,14 +81,9 @@ empty-slots zero = refl
 empty-slots (suc j) = empty-slots j
 
 empty-strips : (r : ℕ) → emptyStrips (replicate r 0) ≡ true
-unfolding emptyStrips
+unfolding every
 empty-strips zero = refl
 empty-strips (suc r) = empty-strips r
-
--- the satellites with one more system's
-satellites-more : (before : List System) (s : System) → length (satellites before) + ones (number (s .satellites)) ≡ length (satellites (before ++ (s ∷ [])))
-unfolding satellites
-satellites-more before s = rw flatMap-snoc (simp length-append (rw (length-satellites s, ones-number (s .satellites) 0)))
 
 -- good systems fit their slots, with zeros behind
 slots-fit : (before ss : List System) (j r : ℕ) → length (cells before) ≤ 256 → goodSystems before ss ≡ true
@@ -117,13 +98,16 @@ slots-fit before [] j r few e =
 slots-fit before (s ∷ ss) j r few e =
     let parts = and-true (goodSystem before s) _ e in
     let more = flatMap stripsOf ss ++ replicate r 0 in
-    let rest = slots-fit (before ++ (s ∷ [])) ss j r (good-system before s (parts .0) .held) (parts .1) in
+    let z = good-system before s (parts .0) in
+    let rest = slots-fit (before ++ (s ∷ [])) ss j r (z .held) (parts .1) in
     rw (
       append-assoc (stripsOf s) (flatMap stripsOf ss) (replicate r 0),
       take-at (stripsOf s) more _ (ones-strips s),
       drop-at (stripsOf s) more _ (ones-strips s),
-      satellites-more before s,
-      cells-more before s (parts .0),
+      ones-number (s .satellites) 0,
+      ← (satellites-snoc before s),
+      strips-ones s (z .long),
+      ← (cells-snoc before s),
     )
     (true-and (slot-fits before s more (parts .0)) (rw (append-snoc, map-append) at rest))
 
@@ -140,7 +124,7 @@ filled-fit ss e = simp length-map (slots-fit [] ss (5 - length ss) (64 - length 
 
 -- the test of the code holds of the picture of a good holding
 pub picture-tested : (g : Held) → good g ≡ true → tested (pictureOf g) ≡ true
-unfolding good tested pictureOf slotsFit emptySlots emptyStrips
+unfolding good tested pictureOf slotsFit emptySlots every
 picture-tested nothing e = refl
 picture-tested (mask m) e =
     let parts = and-true (ltb (m .iod) 16) _ e in

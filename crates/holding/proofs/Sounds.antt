@@ -10,6 +10,7 @@ use lib.Seq.{take-at}
 use Rattle.bits.specs.BitLists.{number}
 use Rattle.format.proofs.MakesBack.{good-system}
 use Rattle.format.proofs.Sames.{and-true}
+use Rattle.format.proofs.Steps.{field-spelled}
 use Rattle.format.specs.Good.{goodSystem, goodSystems, good}
 use Rattle.format.specs.Masks.{System, Mask, Held, nothing, mask, Satellite, satellitesOf, satellites, cells}
 use Rattle.holding.specs.declared.Holding.{Holding}
@@ -21,7 +22,7 @@ use Rattle.holding.proofs.Built.{few-systems}
 use Rattle.holding.proofs.Narrows.{narrow-systems}
 use Rattle.holding.proofs.Pictured.{picture-sound}
 use Rattle.holding.proofs.PicturedCells.{stripCells-append, picture-cells}
-use Rattle.holding.proofs.PicturedStrips.{spell-bits, picture-strips, few-satellites, few-cells}
+use Rattle.holding.proofs.PicturedStrips.{picture-strips, few-parts}
 
 -- the lengths and widths of its lists that the types give
 pub record Shaped (h : Holding) : Type 0 where
@@ -66,7 +67,7 @@ unfolding goodSystems slotSatellites satellitesIn satellites satellitesOf flatMa
 slots-systems before [] more e = refl
 slots-systems before (s ∷ ss) more e =
     let parts = and-true (goodSystem before s) _ e in
-    rw (spell-bits 40 (s .satellites) (good-system before s (parts .0) .whole), slots-systems (before ++ (s ∷ [])) ss more (parts .1))
+    rw (field-spelled 40 (s .satellites) (good-system before s (parts .0) .whole), slots-systems (before ++ (s ∷ [])) ss more (parts .1))
 
 module _ (m : Mask) (good-mask : good (mask m) ≡ true) where
   mask-slots : slotsOf (pictureOf (mask m)) ≡ satellites (m .systems)
@@ -119,14 +120,14 @@ picture-sounds (mask m) e =
             satellites = by-system (λ s. number (s .satellites)) 0 ss few;
             signals = by-system (λ s. number (s .signals)) 0 ss few;
             flags = by-system (λ s. s .flag) false ss few;
-            strips = length-filled 64 0 (flatMap stripsOf ss) (rw (picture-strips ss) (few-satellites m e));
+            strips = length-filled 64 0 (flatMap stripsOf ss) (rw (picture-strips ss) (few-parts m e .0));
             signals-narrow = narrow-filled 16 5 _ (thin .signals);
             strips-narrow = narrow-filled 16 64 _ (thin .strips);
           };
       satellites-narrow = narrow-filled 40 5 _ (thin .satellites);
       few-systems = few;
-      few-satellites = few-satellites m e;
-      few-cells = few-cells m e;
+      few-satellites = few-parts m e .0;
+      few-cells = few-parts m e .1;
       held = refl;
       iod = refl;
       nsat = refl;

@@ -1,5 +1,4 @@
--- Bits at the places of a mask: spread and pick undo each other, and "no place that the other has not" is a test of the numbers.
--- Assumes nothing.
+-- Bits at the places of a mask: spread and pick undo each other, and "no place that the other has not" is a test of the numbers. Assumes nothing.
 use mathlib.Core.Path.{_≡_, refl, sym, ap, _∙_}
 use mathlib.Core.Bool.{Bool, true, false}
 use mathlib.Core.List.{List, [], _∷_}

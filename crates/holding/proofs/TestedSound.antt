@@ -1,5 +1,4 @@
--- A struct that meets the test slot by slot of specs/Testing.antt is sound: it says a good holding and is its picture.
--- Assumes nothing.
+-- A struct that meets the test slot by slot of specs/Testing.antt is sound: it says a good holding and is its picture. Assumes nothing.
 use mathlib.Core.Path.{_≡_, refl, sym, ap, ap₂, _∙_}
 use mathlib.Core.Bool.{Bool, true, false, cond, not, _&&_}
 use mathlib.Core.List.{List, [], _∷_, _++_, append-assoc, map, flatMap}
@@ -20,12 +19,12 @@ use Rattle.holding.specs.declared.Holding.{Holding}
 use Rattle.holding.specs.Building.{onesIn}
 use Rattle.holding.specs.Bounds.{narrow}
 use Rattle.holding.specs.Pictures.{filled, stripsOf, pictureOf, systemOf, systemsOf, maskOf, sameHolding, sound}
-use Rattle.holding.specs.Testing.{slotFits, emptySlots, emptyStrips, slotsFit, tested}
+use Rattle.holding.specs.Testing.{every, slotFits, emptySlots, emptyStrips, slotsFit, tested}
 use Rattle.holding.proofs.Places.{ones-places}
-use Rattle.holding.proofs.PicturedStrips.{length-satellites}
+use Rattle.holding.proofs.PicturedStrips.{length-satellites, satellites-snoc, cells-snoc}
 use Rattle.holding.proofs.PicturedSame.{sameHolding-refl}
 use Rattle.holding.proofs.Bounds.{below-at, below-drop}
-use Rattle.holding.proofs.OneSlot.{number-mask, After, satellites-snoc, cells-snoc, fits}
+use Rattle.holding.proofs.OneSlot.{number-mask, After, fits}
 use Rattle.holding.proofs.Sounds.{Shaped}
 
 -- ---- filled lists
@@ -56,7 +55,7 @@ filled-nothing d (x ∷ all) e = absurd (omega arith)
 
 -- strips that are not used
 empty-strips : (strips : List ℕ) → emptyStrips strips ≡ true → filled (length strips) 0 [] ≡ strips
-unfolding emptyStrips filled
+unfolding every filled
 empty-strips [] e = refl
 empty-strips (strip ∷ strips) e =
     let parts = and-true (eqb strip 0) _ e in

@@ -1,20 +1,23 @@
--- Tests as Booleans. Assumes nothing.
-use mathlib.Core.Path.{_≡_, refl, sym}
-use mathlib.Core.Bool.{Bool, true, false, _&&_}
+-- Tests as Booleans, and a test of each number of a list, in parts. Assumes nothing.
+use mathlib.Core.Path.{_≡_, refl, sym, ap, _∙_}
+use mathlib.Core.Bool.{Bool, true, false, _&&_, and-true}
+use mathlib.Core.List.{List, [], _∷_, _++_}
+use Prim.Native.Nat.{ℕ, _+_, _-_, _≤_}
+use native.Mathlib.Omega.{arith}
+use lib.ListN.{take, drop, take-append-drop}
+use lib.Seq.{take-add, drop-drop}
+use Rattle.format.proofs.Sames as Sames
+use Rattle.holding.specs.Testing.{every}
 
 pub and-assoc : (a b c : Bool) → (a && (b && c)) ≡ ((a && b) && c)
 and-assoc false b c = refl
 and-assoc true b c = refl
 
-pub and-end : (a : Bool) → (a && true) ≡ a
-and-end false = refl
-and-end true = refl
-
 pub and-swap : (a b c : Bool) → ((a && b) && c) ≡ ((a && c) && b)
 and-swap false b c = refl
 and-swap true false false = refl
 and-swap true false true = refl
-and-swap true true c = sym (and-end c)
+and-swap true true c = sym (and-true c)
 
 -- a test that was made already
 pub and-again : (a b c : Bool) → ((a && b) && (b && c)) ≡ (a && (b && c))
@@ -28,3 +31,39 @@ same-test false false f g = refl
 same-test false true f g = g refl
 same-test true false f g = cc (f refl)
 same-test true true f g = refl
+
+-- ---- of each number of a list
+
+module _ (test : ℕ → Bool) where
+  every-append : (l m : List ℕ) → every test (l ++ m) ≡ (every test l && every test m)
+  unfolding every
+  every-append [] m = refl
+  every-append (n ∷ l) m = ap (λ (t : Bool). test n && t) (every-append l m) ∙ and-assoc (test n) (every test l) (every test m)
+
+  -- those from one on to another meet it just if they do up to one between and from it on
+  pub every-parts : (l : List ℕ) (from i to : ℕ) → from ≤ i → i ≤ to
+      → every test (take (to - from) (drop from l)) ≡ (every test (take (i - from) (drop from l)) && every test (take (to - i) (drop i l)))
+  every-parts l from i to low high =
+      let whole : to - from ≡ (i - from) + (to - i) = omega arith in
+      let place : from + (i - from) ≡ i = omega arith in
+      rw (whole, take-add (i - from) (to - i) (drop from l), every-append, drop-drop (i - from) from l, place)
+
+  -- so the first of them do
+  pub every-fewer : (l : List ℕ) (from i to : ℕ) → from ≤ i → i ≤ to → every test (take (to - from) (drop from l)) ≡ true → every test (take (i - from) (drop from l)) ≡ true
+  every-fewer l from i to low high e = Sames.and-true (every test (take (i - from) (drop from l))) _ (sym (every-parts l from i to low high) ∙ e) .0
+
+  -- or to the end
+  every-split : (l : List ℕ) (from i : ℕ) → from ≤ i → every test (drop from l) ≡ (every test (take (i - from) (drop from l)) && every test (drop i l))
+  every-split l from i low =
+      let place : from + (i - from) ≡ i = omega arith in
+      let parts = every-append (take (i - from) (drop from l)) (drop (i - from) (drop from l)) in
+      ap (every test) (sym (take-append-drop (i - from) (drop from l))) ∙ parts ∙ rw (drop-drop (i - from) from l, place)
+
+  -- the last ones may be tested with some that were tested before
+  pub every-last : (l : List ℕ) (from last i : ℕ) → from ≤ last → last ≤ i → (every test (take (i - from) (drop from l)) && every test (drop last l)) ≡ every test (drop from l)
+  every-last l from last i low high =
+      let first = every test (take (last - from) (drop from l)) in
+      let again = every test (take (i - last) (drop last l)) in
+      let rest = every-split l last i high in
+      rw (every-parts l from last i low high, rest) (and-again first again (every test (drop i l)))
+      ∙ sym (every-split l from last low ∙ ap (λ (t : Bool). first && t) rest)

@@ -13,6 +13,11 @@ use Rattle.holding.specs.declared.Holding.{Holding}
 use Rattle.holding.specs.Building.{onesIn}
 use Rattle.format.specs.Messages.{named}
 
+-- each number of a list meets a test
+unfoldable pub every : (ℕ → Bool) → List ℕ → Bool
+every test [] = true
+every test (n ∷ ns) = test n && every test ns
+
 -- with the cell flag a strip has no signal that its system has not, without it all of them
 unfoldable pub stripFits : Bool → ℕ → ℕ → Bool
 stripFits flag signals strip = eqb (cond flag (bitAnd strip signals) signals) strip
@@ -21,9 +26,8 @@ stripFits flag signals strip = eqb (cond flag (bitAnd strip signals) signals) st
 abbrev pub four : ℕ → ℕ → ℕ → ℕ → ℕ
 four a b c d = ((d * 2 ^ 16 + c) * 2 ^ 16 + b) * 2 ^ 16 + a
 
-unfoldable pub stripsFit : Bool → ℕ → List ℕ → Bool
-stripsFit flag signals [] = true
-stripsFit flag signals (strip ∷ strips) = stripFits flag signals strip && stripsFit flag signals strips
+abbrev pub stripsFit : Bool → ℕ → List ℕ → Bool
+stripsFit flag signals strips = every (stripFits flag signals) strips
 
 -- the slot's masks: all places assigned, and no more than 64 satellites with the n before it
 unfoldable pub masksFit : ℕ → ℕ → ℕ → ℕ → Bool
@@ -42,9 +46,8 @@ emptySlots (suc m) ids sats signals flags =
     eqb (getD ids 0 0) 0 && (eqb (getD sats 0 0) 0 && (eqb (getD signals 0 0) 0 && (not (getD flags 0 false)
     && emptySlots m (drop 1 ids) (drop 1 sats) (drop 1 signals) (drop 1 flags))))
 
-unfoldable pub emptyStrips : List ℕ → Bool
-emptyStrips [] = true
-emptyStrips (strip ∷ strips) = eqb strip 0 && emptyStrips strips
+abbrev pub emptyStrips : List ℕ → Bool
+emptyStrips strips = every (λ strip. eqb strip 0) strips
 
 -- m slots that are used, after n satellites and c cells, and then those that are not; the whole counts are nsat and ncell. The limit of 256 cells is
 -- tested once, at the end: their number only grows.

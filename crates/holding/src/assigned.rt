@@ -26,7 +26,7 @@ pub fn satellites_assigned(id: usize, mask: u64) -> bool
     ensures { λ r. ⌜ r ≡ assigned satellitePlaces id (spell 40 mask) ⌝ }
 {
     let highest = SATELLITE_PLACES[id];
-    ends_by(mask, 40, highest)
+    ends_by(mask, Holding::SATELLITE_MASK, highest)
 }
 
 pub fn signals_assigned(id: usize, mask: u64) -> bool
@@ -34,5 +34,5 @@ pub fn signals_assigned(id: usize, mask: u64) -> bool
     ensures { λ r. ⌜ r ≡ assigned signalPlaces id (spell 16 mask) ⌝ }
 {
     let highest = SIGNAL_PLACES[id];
-    ends_by(mask, 16, highest)
+    ends_by(mask, Holding::SIGNAL_MASK, highest)
 }

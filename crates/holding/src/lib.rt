@@ -43,6 +43,11 @@ impl Holding {
 
     pub const BITS: usize = 50850;
 
+    // The widths of a system's satellite mask and of its signal mask.
+    pub const SATELLITE_MASK: usize = 40;
+
+    pub const SIGNAL_MASK: usize = 16;
+
     // A fresh receiver's holding.
     pub fn empty() -> Self
         ensures { λ r. ⌜ r ≡ pictureOf nothing ⌝ }

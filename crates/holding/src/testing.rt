@@ -15,6 +15,9 @@ use crate::set_places;
 use crate::strips_empty;
 use crate::strips_fit;
 
+// The least number that has more bits than a satellite mask.
+const WIDER: u64 = 1u64 << Holding::SATELLITE_MASK;
+
 // Whether the issue is one: of 4 bits where a mask is held, and none, without a system, where nothing is.
 pub fn issue_fits(held: bool, iod: u8, count: usize) -> bool
     ensures { λ r. ⌜ r ≡ cond held (ltb iod 16) (eqb iod 0 && eqb count 0) ⌝ }
@@ -33,7 +36,7 @@ fn masks_fit(n: usize, id: usize, satellites: u64, signals: u16) -> bool
     requires { ⌜ (id < 5) × (n ≤ 64) ⌝ }
     ensures { λ r. ⌜ r ≡ masksFit n id satellites signals ⌝ }
 {
-    if satellites >= 0x100_0000_0000 {
+    if satellites >= WIDER {
         return false;
     }
     if !assigned::satellites_assigned(id, satellites) {

@@ -1,35 +1,41 @@
 -- What is known of an answer to reading under a holding lent as bytes. Assumes nothing.
-use mathlib.Core.Path.{_≡_, refl, sym, ap, _∙_}
+use mathlib.Core.Path.{_≡_, refl, sym, ap, subst, _∙_}
 use mathlib.Core.Bool.{Bool, true, false, cond}
-use mathlib.Core.List.{List}
+use mathlib.Core.List.{List, []}
 use mathlib.Core.Logic.{_⊎_, inl, inr}
-use Prim.Native.Nat.{ℕ, _≤_}
+use Prim.Native.Nat.{ℕ, _+_, _≤_}
 use native.Mathlib.Omega.{arith}
-use lib.Dec.{leb}
-use lib.IntN.{ℤ}
-use lib.ListN.{length}
-use borrow.Author.Tests.{leb-true}
+use lib.IntN.{ℤ, pos}
+use lib.ListN.{length, take, drop}
 use denote.Enum.Declared.{tagOf}
+use denote.Ref.{RefT, now, ptr}
+use Rattle.bits.specs.Parts.{partOf, IsPart}
 use Rattle.format.specs.declared.Answer.{Answer}
 use Rattle.format.specs.declared.Answer.the-variants as Answers
 use Rattle.format.specs.Good.{isHolding}
-use Rattle.format.specs.Masks.{Held, Lent, stray, lent}
-use Rattle.format.specs.Messages.{Adopted}
-use Rattle.format.specs.Programs.{Ended, well, badly}
-use Rattle.format.specs.Reading.{lentAfter, answerOf, over}
+use Rattle.format.specs.Masks.{Held, mask, Lent, stray, lent}
+use Rattle.format.specs.Messages.{Adopted, maskMessage}
+use Rattle.format.specs.Programs.{Ended, well, badly, run}
+use Rattle.format.specs.Reading.{Outcome, accepted, idle, refused, lentAfter, answerOf, over, rawEnd}
+use Rattle.format.specs.Table.{Message}
 use Rattle.heads.specs.Sorting.{adoptedBy}
 use Rattle.format.proofs.Answer.{the-type}
-use Rattle.format.proofs.Sames.{and-true}
+use Rattle.format.proofs.Makes.{mask-spelled}
 use Rattle.format.proofs.Stops.{Stopped, stop-holds}
 use Rattle.bits.proofs.Windows.{Bytes}
 use Rattle.holding.specs.declared.Holding.{Holding}
 use Rattle.holding.specs.Pictures.{maskOf, sound}
 use Rattle.holding.proofs.Pictured.{sound-picture}
 use Rattle.holding.proofs.Sounds.{sounds}
-use Rattle.host.specs.Handing.{bytesAfter, holdingBytes, hostOutcome}
-use Rattle.passing.specs.Passing.{size, bytesOf, passes, holdingIn}
-use Rattle.passing.proofs.Returns.{stray-none, bytes-return}
-use Rattle.reader.specs.Readings.{lentBy, structOf, outcomeAt}
+use Rattle.host.specs.Handing.{handed, handedTo, placeSaid, bytesAfter, holdingBytes, hostOutcome}
+use Rattle.passing.specs.Passing.{size, bytesOf, holdingIn}
+use Rattle.passing.proofs.Returns.{passed, sound-passes, bytes-return}
+use Rattle.reader.specs.declared.message.Found.{Found}
+use Rattle.reader.specs.declared.message.Found.the-variants.{Mask, Answered}
+use Rattle.reader.specs.Readings.{lentBy, structOf, outcomeAt, soughtAt, rawTo}
+use Rattle.reader.proofs.message.Found as Found
+use Rattle.reader.proofs.Rawed.{none-starts, none-counts, raw-read}
+use Rattle.reader.proofs.Sought.{SoughtAnswer, sought-mask, sought-answer}
 
 -- ---- what is lent after a message, as a struct and as bytes
 
@@ -58,20 +64,9 @@ idle-tag (Answers.Message h next rows) e = absurd (omega arith)
 idle-tag Answers.Idle e = refl
 idle-tag (Answers.Refused r missing) e = absurd (omega arith)
 
-passes-long : (hb : List ℕ) → passes hb ≡ true → size ≤ length hb
-unfolding passes
-passes-long hb e = leb-true size (length hb) (and-true (leb size (length hb)) _ e .0)
-
 -- bytes that say a sound holding are enough
 pub bytes-pass : (hb : List ℕ) → sound (holdingIn hb) ≡ true → size ≤ length hb
-unfolding holdingIn
-bytes-pass hb e = go (passes hb) refl
-  where
-    go : (b : Bool) → passes hb ≡ b → size ≤ length hb
-    go true f = passes-long hb f
-    go false f =
-        let z : _≡_ {A = Bool} true false = sym (rw f at e) ∙ stray-none in
-        absurd (let y : _≡_ {A = ℕ} 0 1 = cc in omega arith)
+bytes-pass hb e = passed hb (sound-passes hb e) .long
 
 -- and lent bytes stay where what is lent stays
 pub bytes-stay : (hb : List ℕ) → Bytes hb → hb ≡ bytesAfter (lentBy (holdingIn hb)) hb
@@ -88,3 +83,58 @@ pub stop-bytes : (hb bs : List ℕ) (end start : ℕ) (rows : List ℤ) → Byte
 unfolding hostOutcome outcomeAt
 stop-bytes hb bs end start rows small stopped =
     ap (λ (l : Lent). bytesAfter l hb) (stop-holds (lentBy (holdingIn hb)) bs end start rows stopped) ∙ sym (bytes-stay hb small)
+
+-- and so does what is answered without a mask being adopted
+pub sought-bytes : (hb bs : List ℕ) (end start : ℕ) (rows : List ℤ) → Bytes hb → {a : Answer} → SoughtAnswer (holdingIn hb) bs end start rows a
+    → holdingBytes (hostOutcome hb bs end start rows) hb ≡ hb
+unfolding hostOutcome
+sought-bytes hb bs end start rows small it = ap (λ (l : Lent). bytesAfter l hb) (it .keeps) ∙ sym (bytes-stay hb small)
+
+-- an accepted mask message says its sub type
+adopted-one : (held : Held) (place : ℕ) (l : List Bool) (m : Message) (next : ℕ) → adoptedBy held place (run maskMessage l) ≡ accepted m next → m .content .head .subtype ≡ pos 1
+unfolding adoptedBy
+adopted-one held place l m next = go (run maskMessage l) refl
+  where
+    go : (e : Ended Adopted) → run maskMessage l ≡ e → adoptedBy held place e ≡ accepted m next → m .content .head .subtype ≡ pos 1
+    go (well d taken) ran said =
+        let same : record { content = record { head = d .head; rows = [] }; after = mask (d .made) } ≡ m = cc in
+        sym (ap (λ (n : Message). n .content .head .subtype) same) ∙ mask-spelled .gives l d taken ran .0
+    go (badly r missing) ran said = absurd (let z : _≡_ {A = ℕ} 0 1 = cc in omega arith)
+
+-- so every accepted message but a mask leaves the holding's bytes as they were
+pub message-bytes : (hb bs : List ℕ) (end start : ℕ) (rows : List ℤ) → Bytes hb
+    → (m : Message) (next : ℕ) → hostOutcome hb bs end start rows ≡ accepted m next → ¬ (m .content .head .subtype ≡ pos 1)
+    → holdingBytes (hostOutcome hb bs end start rows) hb ≡ hb
+unfolding hostOutcome
+message-bytes hb bs end start rows small m next said other = go (soughtAt (holdingIn hb) bs end start (length rows)) refl
+  where
+    go : (f : Found) → soughtAt (holdingIn hb) bs end start (length rows) ≡ f → holdingBytes (outcomeAt (holdingIn hb) bs end start rows) hb ≡ hb
+    go Mask e =
+        let it = sought-mask (holdingIn hb) bs end start rows (ap (tagOf Found.the-type) e) in
+        absurd (other (adopted-one (maskOf (holdingIn hb)) (start + 16) _ m next (sym (it .reads ∙ it .found .adopts) ∙ said)))
+    go (Answered a) e = sought-bytes hb bs end start rows small (sought-answer (holdingIn hb) bs end start rows a e)
+
+-- ---- what is handed of an outcome
+
+-- the place that the answer itself says is where the raw part ends
+pub hand-outcome : (start : ℕ) (a : Answer) (o : Outcome) → a ≡ answerOf o → handedTo start (placeSaid start a) a ≡ handed start o
+unfolding answerOf rawEnd placeSaid
+hand-outcome start a (accepted m next) e = rw e refl
+hand-outcome start a (idle l) e = rw e refl
+hand-outcome start a (refused r missing l) e = rw e refl
+
+-- a stop's raw part has offset and count 0
+pub stop-raw : (start : ℕ) (o : Outcome) → Stopped o → (handed start o .offset ≡ 0) × (handed start o .count ≡ 0)
+unfolding handedTo rawEnd
+stop-raw start (accepted m next) stopped = absurd stopped
+stop-raw start (idle l) stopped = (none-starts start, none-counts start)
+stop-raw start (refused r missing l) stopped = (none-starts start, none-counts start)
+
+-- offset and count are those of the part that `reader::raw` gives for the answer: its bytes, and where it lies
+pub handed-raw : (hb : List ℕ) (whole part : RefT (List ℕ)) (end start : ℕ) (rows : List ℤ) → let o = hostOutcome hb (now whole) end start rows in
+    IsPart whole part start (rawTo (now whole) start (answerOf o))
+    → (now part ≡ take (handed start o .count) (drop (handed start o .offset) (now whole))) × (ptr part .1 ≡ ptr whole .1 + handed start o .offset)
+unfolding hostOutcome outcomeAt handedTo partOf
+handed-raw hb whole part end start rows p =
+    let q = subst (IsPart whole part start) (raw-read (lentBy (holdingIn hb)) (now whole) end start rows) p in
+    (q .bytes, q .offset)

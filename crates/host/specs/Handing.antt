@@ -11,7 +11,7 @@ use Rattle.format.specs.declared.Answer.the-variants as Answers
 use Rattle.format.specs.declared.Head.{Head}
 use Rattle.format.specs.Answers.{numberOf, idleNumber}
 use Rattle.format.specs.Masks.{nothing, Lent, stray, lent}
-use Rattle.format.specs.Reading.{Outcome, lentAfter, answerOf, over}
+use Rattle.format.specs.Reading.{Outcome, lentAfter, answerOf, over, rawEnd}
 use Rattle.format.specs.Rows.{absent}
 use Rattle.format.specs.Walking.{Walk, messages, rowCount}
 use Rattle.holding.specs.declared.Holding.{Holding}
@@ -29,18 +29,36 @@ noHead = record { subtype = absent; epoch = absent; interval = absent; indicator
 abbrev pub messageNumber : ℕ
 messageNumber = 255
 
--- a stop: its number and the start asked for
-unfoldable pub stopped : ℕ → ℕ → Handed
-stopped number start = record { answer = number; place = start; rows = 0; offset = 0; count = 0; head = noHead }
+-- document 01's number of a stop, and the one for a message
+unfoldable pub answerNumber : Answer → ℕ
+answerNumber (Answers.Message h next rows) = messageNumber
+answerNumber Answers.Idle = idleNumber
+answerNumber (Answers.Refused r missing) = numberOf r
 
-unfoldable pub handedBy : ℕ → Answer → Handed
-handedBy start (Answers.Message head next rows) =
-    record { answer = messageNumber; place = next; rows = rows; offset = startOf start next; count = countOf start next; head = head }
-handedBy start Answers.Idle = stopped idleNumber start
-handedBy start (Answers.Refused r missing) = stopped (numberOf r) start
+-- row count and head; none for a stop
+unfoldable pub rowsSaid : Answer → ℕ
+rowsSaid (Answers.Message h next rows) = rows
+rowsSaid Answers.Idle = 0
+rowsSaid (Answers.Refused r missing) = 0
 
+unfoldable pub headSaid : Answer → Head
+headSaid (Answers.Message h next rows) = h
+headSaid Answers.Idle = noHead
+headSaid (Answers.Refused r missing) = noHead
+
+-- what is handed of an answer to reading at a start whose raw part ends at a place: that is the place after it, too
+unfoldable pub handedTo : ℕ → ℕ → Answer → Handed
+handedTo start to a = record { answer = answerNumber a; place = to; rows = rowsSaid a; offset = startOf start to; count = countOf start to; head = headSaid a }
+
+-- and of an outcome: a message's ends behind it, a stop's at the start asked for
 abbrev pub handed : ℕ → Outcome → Handed
-handed start o = handedBy start (answerOf o)
+handed start o = handedTo start (rawEnd o start) (answerOf o)
+
+-- the place that the answer itself says
+unfoldable pub placeSaid : ℕ → Answer → ℕ
+placeSaid start (Answers.Message h next rows) = next
+placeSaid start Answers.Idle = start
+placeSaid start (Answers.Refused r missing) = start
 
 -- the bytes that say what is lent after it; those that say no holding stay as they were
 unfoldable pub bytesAfter : Lent → List ℕ → List ℕ
@@ -55,12 +73,6 @@ unfoldable pub hostOutcome : List ℕ → List ℕ → ℕ → ℕ → List ℤ 
 hostOutcome holding bytes end start rows = outcomeAt (holdingIn holding) bytes end start rows
 
 -- ---- a whole stretch
-
--- document 01's number of a stop
-unfoldable pub answerNumber : Answer → ℕ
-answerNumber (Answers.Message h next rows) = messageNumber
-answerNumber Answers.Idle = idleNumber
-answerNumber (Answers.Refused r missing) = numberOf r
 
 -- walking under a holding lent as bytes
 unfoldable pub hostWalk : List ℕ → List ℕ → ℕ → List ℤ → Walk

@@ -12,7 +12,9 @@ ghost use Rattle.format.specs.Reading.{bitsFrom, lentAfter, answerOf, over, row
 ghost use Rattle.heads.specs.Sorting.{adoptedBy};
 ghost use Rattle.holding.specs.Pictures.{maskOf, sound};
 ghost use Rattle.passing.specs.Passing.{size, bytesOf};
-ghost use Rattle.host.specs.Handing.{messageNumber, stopped, handed, handedBy, bytesAfter, holdingBytes, hostOutcome, answerNumber, hostWalk, walkedTo, leftBytes, walkBytes, emptied, emptiedNumber};
+ghost use Rattle.host.specs.Handing.{noHead, messageNumber, handed, handedTo, placeSaid, bytesAfter, holdingBytes, hostOutcome, answerNumber, hostWalk, walkedTo, leftBytes, walkBytes, emptied, emptiedNumber};
+use bits::part::begins;
+use bits::part::counts;
 use format::ABSENT;
 use format::Answer;
 use format::Head;
@@ -77,9 +79,9 @@ fn answer_number(answer: Answer) -> u64
     }
 }
 
-// Idle or a refusal.
+// Idle or a refusal: nothing was read.
 fn stop(number: u64, start: usize) -> Handed
-    ensures { λ r. ⌜ r ≡ stopped number start ⌝ }
+    ensures { λ r. ⌜ r ≡ record { answer = number; place = start; rows = 0; offset = startOf start start; count = countOf start start; head = noHead } ⌝ }
 {
     Handed {
         answer: number,
@@ -100,23 +102,6 @@ fn stop(number: u64, start: usize) -> Handed
     }
 }
 
-// Where the part that holds a range of bits begins, and how many bytes it has.
-fn first(from: usize, to: usize) -> usize
-    ensures { λ r. ⌜ r ≡ startOf from to ⌝ }
-{
-    if from < to { from / 8 } else { 0 }
-}
-
-fn bytes_of(from: usize, to: usize) -> usize
-    ensures { λ r. ⌜ r ≡ countOf from to ⌝ }
-{
-    if from < to {
-        (to - 1) / 8 + 1 - from / 8
-    } else {
-        0
-    }
-}
-
 // A message.
 fn message(head: Head, start: usize, next: usize, rows: usize) -> Handed
     ensures { λ r. ⌜ r ≡ record { answer = messageNumber; place = next; rows = rows; offset = startOf start next; count = countOf start next; head = head } ⌝ }
@@ -125,15 +110,15 @@ fn message(head: Head, start: usize, next: usize, rows: usize) -> Handed
         answer: MESSAGE,
         place: next,
         rows,
-        offset: first(start, next),
-        count: bytes_of(start, next),
+        offset: begins(start, next),
+        count: counts(start, next),
         head,
     }
 }
 
 // What an answer to reading at a start hands out.
 fn hand(answer: Answer, start: usize) -> Handed
-    ensures { λ r. ⌜ r ≡ handedBy start answer ⌝ }
+    ensures { λ r. ⌜ r ≡ handedTo start (placeSaid start answer) answer ⌝ }
 {
     match answer {
         Answer::Idle => stop(0, start),

@@ -1,6 +1,5 @@
 -- Numbers of bytes, the least byte first, by places. Assumes nothing.
-use mathlib.Core.Path.{_≡_, refl, sym, ap, _∙_}
-use mathlib.Core.Bool.{Bool, true, false, _&&_}
+use mathlib.Core.Path.{_≡_, sym, ap, _∙_}
 use mathlib.Core.List.{List, [], _∷_, _++_}
 use Prim.Native.Nat.{ℕ, zero, suc, _+_, _*_, _^_, _≤_}
 use native.Mathlib.Nat.{add-zero}
@@ -79,8 +78,3 @@ littles-more k zero bs =
 littles-more k (suc n) bs =
     let e : k * suc n ≡ k + k * n = omega arith in
     rw (e, ← (drop-drop (k * n) k bs)) (ap (λ (l : List ℕ). little k bs ∷ l) (littles-more k n (drop k bs)))
-
--- the last of some tests
-pub and-last : (b : Bool) → (b && true) ≡ b
-and-last true = refl
-and-last false = refl

@@ -60,33 +60,37 @@ parts-more k ns i inside = ap (partsOf k) (take-suc ns i 0 inside) ∙ parts-sno
 
 -- ---- numbers of k bytes written one after the other
 
--- so many are: their bytes stand first in the part, which keeps its length
-abbrev pub Written : ℕ → List ℕ → List ℕ → List ℕ → ℕ → Type 0
-Written k ns part₀ part i = (i ≤ length ns) × (length part ≡ length part₀) × (take (k * i) part ≡ partsOf k (take i ns))
+-- of so many, which fill the part, the first i are: their bytes stand first in it, and it keeps its length
+pub record Written (k : ℕ) (ns part₀ part : List ℕ) (i : ℕ) : Type 0 where
+  pub size : length part₀ ≡ k * length ns
+  pub some : i ≤ length ns
+  pub same : length part ≡ length part₀
+  pub front : take (k * i) part ≡ partsOf k (take i ns)
 
-module _ (k : ℕ) (ns part₀ : List ℕ) (size : length part₀ ≡ k * length ns) where
-  pub written-none : Written k ns part₀ part₀ 0
-  unfolding partsOf
-  written-none = (omega arith, refl, rw (mul-zero k) refl)
+pub written-none : {k : ℕ} {ns part₀ : List ℕ} → length part₀ ≡ k * length ns → Written k ns part₀ part₀ 0
+unfolding partsOf
+written-none {k} size = record { size = size; some = omega arith; same = refl; front = rw (mul-zero k) refl }
 
-  pub written-one : (part : List ℕ) (i : ℕ) → i < length ns → Written k ns part₀ part i → (new : List ℕ) → new ≡ parts k (getD ns i 0)
-      → Written k ns part₀ (putMid (k * i) (k * i + k - k * i) part new) (i + 1)
-  written-one part i inside inv new e =
-      let room : k * i + k ≤ length part = omega (arith, mul-le-mul-left k inside, size, inv .1) in
-      let count : k * i + k - k * i ≡ k = omega arith in
-      let there : length (take k (drop (k * i) part)) ≡ k = length-take-le k (drop (k * i) part) (rw length-drop (omega arith)) in
-      let rest = postOf (k * i) (k * i + k - k * i) part in
-      let done = partsOf k (take i ns) in
-      let here = parts k (getD ns i 0) in
-      let few : length (take i ns) ≡ i = length-take-le i ns (omega arith) in
-      let long : length (done ++ here) ≡ k * (i + 1) = simp (length-append, length-parts) (rw (length-partsOf k (take i ns), few) (omega arith)) in (
-        omega arith,
-        same-len-mid (k * i) (k * i + k - k * i) part new (rw (e, count, there) (length-parts k (getD ns i 0))) ∙ inv .1,
-        rw (inv .2, e, ← (append-assoc done here rest)) (take-at (done ++ here) rest (k * (i + 1)) long ∙ rw (add-one i) (sym (parts-more k ns i inside))),
-      )
+pub written-one : {k : ℕ} {ns part₀ part : List ℕ} {i : ℕ} → i < length ns → Written k ns part₀ part i → {new : List ℕ} → new ≡ parts k (getD ns i 0)
+    → Written k ns part₀ (putMid (k * i) (k * i + k - k * i) part new) (i + 1)
+written-one {k} {ns} {part₀} {part} {i} inside w {new} e =
+    let room : k * i + k ≤ length part = omega (arith, mul-le-mul-left k inside, w .size, w .same) in
+    let count : k * i + k - k * i ≡ k = omega arith in
+    let there : length (take k (drop (k * i) part)) ≡ k = length-take-le k (drop (k * i) part) (rw length-drop (omega arith)) in
+    let rest = postOf (k * i) (k * i + k - k * i) part in
+    let done = partsOf k (take i ns) in
+    let here = parts k (getD ns i 0) in
+    let few : length (take i ns) ≡ i = length-take-le i ns (omega arith) in
+    let long : length (done ++ here) ≡ k * (i + 1) = simp (length-append, length-parts) (rw (length-partsOf k (take i ns), few) (omega arith)) in
+    record {
+      size = w .size;
+      some = omega arith;
+      same = same-len-mid (k * i) (k * i + k - k * i) part new (rw (e, count, there) (length-parts k (getD ns i 0))) ∙ w .same;
+      front = rw (w .front, e, ← (append-assoc done here rest)) (take-at (done ++ here) rest (k * (i + 1)) long ∙ rw (add-one i) (sym (parts-more k ns i inside)));
+    }
 
-  pub written-all : (part : List ℕ) (i : ℕ) → length ns ≤ i → Written k ns part₀ part i → part ≡ partsOf k ns
-  written-all part i all inv =
-      let whole : i ≡ length ns = omega (arith, inv .0) in
-      let front : take (k * length ns) part ≡ partsOf k (take (length ns) ns) = rw whole at (inv .2) in
-      sym (take-all (k * length ns) part (omega (arith, inv .1))) ∙ front ∙ ap (partsOf k) (take-all (length ns) ns (le-refl (length ns)))
+pub written-all : {k : ℕ} {ns part₀ part : List ℕ} {i : ℕ} → length ns ≤ i → Written k ns part₀ part i → part ≡ partsOf k ns
+written-all {k} {ns} {part = part} {i} all w =
+    let whole : i ≡ length ns = omega (arith, w .some) in
+    let front : take (k * length ns) part ≡ partsOf k (take (length ns) ns) = rw whole at (w .front) in
+    sym (take-all (k * length ns) part (omega (arith, w .size, w .same))) ∙ front ∙ ap (partsOf k) (take-all (length ns) ns (le-refl (length ns)))

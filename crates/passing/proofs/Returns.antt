@@ -1,9 +1,8 @@
--- A holding passed as bytes and back is the same holding, and its bytes are the only ones that say it.
--- Assumes nothing.
+-- A holding passed as bytes and back is the same holding, and its bytes are the only ones that say it. Assumes nothing.
 use mathlib.Core.Path.{_≡_, refl, sym, ap, ap₂, _∙_}
 use mathlib.Core.Bool.{Bool, true, false, cond}
 use mathlib.Core.List.{List, [], _∷_, _++_, append-assoc, map}
-use Prim.Native.Nat.{ℕ, zero, suc, _+_, _-_, _*_, _/_, _%_, _^_, _≤_, _<_}
+use Prim.Native.Nat.{ℕ, zero, suc, _+_, _*_, _/_, _%_, _^_, _≤_, _<_}
 use native.Mathlib.Nat.{add-mul-mod-self-left, mod-add-div, mod-lt, mod-eq-of-lt, mul-assoc, one-le-pow, pow-succ'}
 use native.Mathlib.Omega.{arith}
 use borrow.Author.Tests.{ltb-true, le-leb, leb-true}
@@ -19,6 +18,7 @@ use Rattle.holding.specs.declared.Holding.{Holding}
 use Rattle.holding.specs.Building.{withSystem}
 use Rattle.holding.specs.Bounds.{below}
 use Rattle.holding.specs.Pictures.{pictureOf, maskOf, sameHolding, sound}
+use Rattle.holding.specs.Testing.{every}
 use Rattle.holding.proofs.Bounds.{below-wider}
 use Rattle.holding.proofs.Sounds.{Shaped, sounds}
 use Rattle.passing.specs.Bytes.{little, littles, parts, partsOf}
@@ -75,7 +75,7 @@ digit-truth false = refl
 
 -- and so is each of some flags'
 digits-pass : (fs : List Bool) → truths (map digit fs) ≡ true
-unfolding truths
+unfolding every
 digits-pass [] = refl
 digits-pass (f ∷ fs) = true-and (digit-truth f) (digits-pass fs)
 
@@ -233,7 +233,7 @@ digit-back (suc (suc b)) few = absurd (omega arith)
 
 -- the bytes of truths are these
 pub digits-truths : (bs : List ℕ) → truths bs ≡ true → map digit (map truth bs) ≡ bs
-unfolding truths
+unfolding every
 digits-truths [] e = refl
 digits-truths (b ∷ bs) e =
     let parts = and-true (leb b 1) _ e in
@@ -252,12 +252,12 @@ four-first (a ∷ b ∷ c ∷ []) room = absurd (omega arith)
 four-first (a ∷ b ∷ c ∷ d ∷ bs) room = refl
 
 -- what the test of lent bytes says of them
-record Passed (bs : List ℕ) : Type 0 where
-  long : size ≤ length bs
-  held : getD bs 0 0 ≤ 1
-  flags : truths (take 5 (drop 11 bs)) ≡ true
+pub record Passed (bs : List ℕ) : Type 0 where
+  pub long : size ≤ length bs
+  pub held : getD bs 0 0 ≤ 1
+  pub flags : truths (take 5 (drop 11 bs)) ≡ true
 
-passed : (bs : List ℕ) → passes bs ≡ true → Passed bs
+pub passed : (bs : List ℕ) → passes bs ≡ true → Passed bs
 unfolding passes
 passed bs e =
     let long = and-true (leb size (length bs)) _ e in
@@ -303,7 +303,7 @@ unfolding sound maskOf good pictureOf sameHolding stray withSystem
 stray-none = refl
 
 -- so bytes that say a sound holding pass the test
-sound-passes : (bs : List ℕ) → sound (holdingIn bs) ≡ true → passes bs ≡ true
+pub sound-passes : (bs : List ℕ) → sound (holdingIn bs) ≡ true → passes bs ≡ true
 unfolding holdingIn
 sound-passes bs e = go (passes bs) e
   where

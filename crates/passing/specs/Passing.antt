@@ -1,6 +1,6 @@
 -- A holding as 194 bytes: docs/HOST.md, "A holding as bytes".
-use mathlib.Core.Bool.{Bool, true, false, cond, _&&_}
-use mathlib.Core.List.{List, [], _∷_, _++_, map}
+use mathlib.Core.Bool.{Bool, false, cond, _&&_}
+use mathlib.Core.List.{List, _∷_, _++_, map}
 use Prim.Native.Nat.{ℕ}
 use lib.Dec.{eqb, leb}
 use lib.ListN.{length, getD, take, drop}
@@ -9,6 +9,7 @@ use Rattle.format.specs.Masks.{nothing}
 use Rattle.holding.specs.declared.Holding.{Holding}
 use Rattle.holding.specs.Building.{withSystem}
 use Rattle.holding.specs.Pictures.{pictureOf}
+use Rattle.holding.specs.Testing.{every}
 use Rattle.passing.specs.Bytes.{little, littles, parts, partsOf}
 
 abbrev pub size : ℕ
@@ -17,9 +18,8 @@ size = 194
 -- ---- from bytes
 
 -- each is 0 or 1
-unfoldable pub truths : List ℕ → Bool
-truths [] = true
-truths (b ∷ bs) = leb b 1 && truths bs
+abbrev pub truths : List ℕ → Bool
+truths bs = every (λ b. leb b 1) bs
 
 unfoldable pub truth : ℕ → Bool
 truth b = eqb b 1

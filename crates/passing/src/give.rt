@@ -9,7 +9,9 @@ ghost use Rattle.format.specs.Reading.{over};
 ghost use Rattle.holding.specs.Pictures.{sound};
 ghost use Rattle.passing.specs.Bytes.{parts, partsOf};
 ghost use Rattle.passing.specs.Passing.{size, bytesOf};
+use crate::IDS;
 use crate::SIZE;
+use crate::STRIPS;
 use holding::Holding;
 
 // Two bytes, and eight, the least first.
@@ -130,7 +132,7 @@ pub fn holding_over(bytes: &mut [u8], h: Holding)
     let signals = h.signals;
     let satellites = h.satellites;
     let strips = h.strips;
-    start(&mut bytes[0..6], h.held, h.iod, h.count, h.nsat, h.ncell);
-    systems(&mut bytes[6..66], &all, &marks, &signals, &satellites);
-    words(&mut bytes[66..SIZE], &strips);
+    start(&mut bytes[0..IDS], h.held, h.iod, h.count, h.nsat, h.ncell);
+    systems(&mut bytes[IDS..STRIPS], &all, &marks, &signals, &satellites);
+    words(&mut bytes[STRIPS..SIZE], &strips);
 }

@@ -5,7 +5,12 @@ ghost use Prim.Native.Nat.{_+_, _*_, _≤_};
 ghost use lib.ListN.{length, take, drop};
 ghost use Rattle.passing.specs.Bytes.{little, littles};
 ghost use Rattle.passing.specs.Passing.{size, truths, truth, said, stray, holdingIn};
+use crate::FLAGS;
+use crate::IDS;
+use crate::SATELLITES;
+use crate::SIGNALS;
 use crate::SIZE;
+use crate::STRIPS;
 use bits::window::join;
 use holding::Holding;
 
@@ -33,7 +38,7 @@ fn long(bytes: &[u8], i: usize) -> u64
     )
 }
 
-// The strips of 64 satellites from byte 66 on.
+// The strips of 64 satellites.
 fn strips(bytes: &[u8]) -> [u16; Holding::SATELLITES]
     requires { ⌜ size ≤ length (now bytes) ⌝ }
     ensures { λ r. ⌜ r ≡ littles 2 64 (drop 66 (now (bytes .entry))) ⌝ }
@@ -41,7 +46,7 @@ fn strips(bytes: &[u8]) -> [u16; Holding::SATELLITES]
     let mut strips = [0u16; Holding::SATELLITES];
     let mut i = 0;
     while i < Holding::SATELLITES {
-        strips[i] = word(bytes, 66 + 2 * i);
+        strips[i] = word(bytes, STRIPS + 2 * i);
         i += 1;
     }
     strips
@@ -59,19 +64,19 @@ fn truths(bytes: &[u8]) -> bool
     requires { ⌜ size ≤ length (now bytes) ⌝ }
     ensures { λ r. ⌜ r ≡ truths (take 5 (drop 11 (now (bytes .entry)))) ⌝ }
 {
-    if bytes[11] > 1 {
+    if bytes[FLAGS] > 1 {
         return false;
     }
-    if bytes[12] > 1 {
+    if bytes[FLAGS + 1] > 1 {
         return false;
     }
-    if bytes[13] > 1 {
+    if bytes[FLAGS + 2] > 1 {
         return false;
     }
-    if bytes[14] > 1 {
+    if bytes[FLAGS + 3] > 1 {
         return false;
     }
-    bytes[15] <= 1
+    bytes[FLAGS + 4] <= 1
 }
 
 // By system: IDs, flags, signal masks and satellite masks.
@@ -79,7 +84,13 @@ fn ids(bytes: &[u8]) -> [u8; Holding::SYSTEMS]
     requires { ⌜ size ≤ length (now bytes) ⌝ }
     ensures { λ r. ⌜ r ≡ take 5 (drop 6 (now (bytes .entry))) ⌝ }
 {
-    [bytes[6], bytes[7], bytes[8], bytes[9], bytes[10]]
+    [
+        bytes[IDS],
+        bytes[IDS + 1],
+        bytes[IDS + 2],
+        bytes[IDS + 3],
+        bytes[IDS + 4],
+    ]
 }
 
 fn flags(bytes: &[u8]) -> [bool; Holding::SYSTEMS]
@@ -87,11 +98,11 @@ fn flags(bytes: &[u8]) -> [bool; Holding::SYSTEMS]
     ensures { λ r. ⌜ r ≡ map truth (take 5 (drop 11 (now (bytes .entry)))) ⌝ }
 {
     [
-        bytes[11] == 1,
-        bytes[12] == 1,
-        bytes[13] == 1,
-        bytes[14] == 1,
-        bytes[15] == 1,
+        bytes[FLAGS] == 1,
+        bytes[FLAGS + 1] == 1,
+        bytes[FLAGS + 2] == 1,
+        bytes[FLAGS + 3] == 1,
+        bytes[FLAGS + 4] == 1,
     ]
 }
 
@@ -100,11 +111,11 @@ fn signals(bytes: &[u8]) -> [u16; Holding::SYSTEMS]
     ensures { λ r. ⌜ r ≡ littles 2 5 (drop 16 (now (bytes .entry))) ⌝ }
 {
     [
-        word(bytes, 16),
-        word(bytes, 18),
-        word(bytes, 20),
-        word(bytes, 22),
-        word(bytes, 24),
+        word(bytes, SIGNALS),
+        word(bytes, SIGNALS + 2),
+        word(bytes, SIGNALS + 4),
+        word(bytes, SIGNALS + 6),
+        word(bytes, SIGNALS + 8),
     ]
 }
 
@@ -113,11 +124,11 @@ fn satellites(bytes: &[u8]) -> [u64; Holding::SYSTEMS]
     ensures { λ r. ⌜ r ≡ littles 8 5 (drop 26 (now (bytes .entry))) ⌝ }
 {
     [
-        long(bytes, 26),
-        long(bytes, 34),
-        long(bytes, 42),
-        long(bytes, 50),
-        long(bytes, 58),
+        long(bytes, SATELLITES),
+        long(bytes, SATELLITES + 8),
+        long(bytes, SATELLITES + 16),
+        long(bytes, SATELLITES + 24),
+        long(bytes, SATELLITES + 32),
     ]
 }
 

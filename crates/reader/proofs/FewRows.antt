@@ -1,7 +1,7 @@
 -- A message has at most 256 rows. Assumes nothing.
-use mathlib.Core.Path.{_≡_, refl, sym, ap, _∙_, subst}
+use mathlib.Core.Path.{_≡_, refl, sym, _∙_, subst}
 use mathlib.Core.Bool.{Bool, true, false, cond}
-use mathlib.Core.List.{List, [], _∷_}
+use mathlib.Core.List.{List}
 use mathlib.Core.Logic.{_⊎_, inl, inr}
 use Prim.Native.Nat.{ℕ, zero, suc, _+_, _-_, _≤_}
 use native.Mathlib.Omega.{arith}
@@ -10,14 +10,16 @@ use lib.ListN.{length, length-map}
 use Rattle.bits.specs.Places.{field}
 use Rattle.format.specs.declared.Refusal.{Refusal}
 use Rattle.format.specs.Ends.{Within, endFrom}
-use Rattle.format.specs.Masks.{Held, Sky, pick, lent}
+use Rattle.format.specs.Masks.{Held, Sky, lent}
 use Rattle.format.specs.Messages as Messages
-use Rattle.format.specs.Messages.{Heading, Common, common, selection, satelliteLines, cellLines, packetLines, packet, overSatellites, overCells, rowsAlone, flagged}
+use Rattle.format.specs.Messages.{Heading, Common, common, selection, satelliteLines, cellLines, packet, overSatellites, overCells, rowsAlone, flagged}
 use Rattle.format.specs.Programs.{Program, _>>=_, _>>_, Ended, well, badly}
 use Rattle.format.specs.Reading.{Outcome, accepted, idle, refused}
 use Rattle.format.specs.Table.{Message, opening}
 use Rattle.format.proofs.Bodies.{rows-count}
 use Rattle.format.proofs.Ends.{by-end, gave}
+use Rattle.format.proofs.Picks.{pick-few}
+use Rattle.format.proofs.Spells.{packet-count}
 use Rattle.format.proofs.Steps.{Gives, gives-done, gives-refuse, gives-require, gives-taking, gives-numbered, gives-bind, gives-itself}
 use Rattle.heads.specs.declared.heading.Seen.{Seen}
 use Rattle.heads.proofs.Opened.{opened, read-unopened}
@@ -36,20 +38,6 @@ use Rattle.rows.specs.Table.{shapeAt}
 use Rattle.table.specs.Kinds.{kindFor, overBy, programBy}
 use Rattle.table.specs.Shapes.{shapesFrom}
 
--- ---- lines
-
-pick-few : {A : Type 0} (bits : List Bool) (xs : List A) → length (pick bits xs) ≤ length xs
-unfolding pick
-pick-few [] xs = omega arith
-pick-few (b ∷ bs) [] = omega arith
-pick-few (true ∷ bs) (x ∷ xs) = omega (arith, pick-few bs xs)
-pick-few (false ∷ bs) (x ∷ xs) = omega (arith, pick-few bs xs)
-
-packet-few : (k n : ℕ) → length (packetLines k n) ≡ n
-unfolding packetLines
-packet-few k zero = refl
-packet-few k (suc n) = ap suc (packet-few (suc k) n)
-
 -- ---- what is said before the body
 
 abbrev Few : Program Heading → Type 0
@@ -61,7 +49,7 @@ packet-says =
     gives-numbered _ _ λ indicator _.
     gives-numbered _ _ λ counter _.
     gives-numbered _ _ λ size small.
-    gives-done (omega (arith, packet-few 1 (suc size)))
+    gives-done (omega (arith, packet-count 1 (suc size)))
 
 module _ (sky : Sky) (sats : length (sky .satellites) ≤ 64) (cells : length (sky .cells) ≤ 256) where
   over-few : (l : Layout) → length (overBy l sky) ≤ 256

@@ -27,14 +27,17 @@ use Rattle.reader.specs.Readings.{rawTo}
 
 -- ---- an empty part is the same at every place
 
+pub none-starts : (n : ℕ) → startOf n n ≡ 0
+unfolding startOf
+none-starts n = rw (le-ltb n n (le-refl n))
+
+pub none-counts : (n : ℕ) → countOf n n ≡ 0
+unfolding countOf
+none-counts n = rw (le-ltb n n (le-refl n))
+
 pub empty-part : (whole part : RefT (List ℕ)) (n : ℕ) → IsPart whole part 0 0 → IsPart whole part n n
 unfolding partOf startOf countOf
-empty-part whole part n p =
-    record {
-      bytes = rw (le-ltb n n (le-refl n)) (p .bytes);
-      memory = p .memory;
-      offset = rw (le-ltb n n (le-refl n)) (p .offset);
-    }
+empty-part whole part n p = record { bytes = rw (none-starts n, none-counts n) (p .bytes); memory = p .memory; offset = rw (none-starts n) (p .offset) }
 
 -- a stop's part is empty: its tag is another than a message's
 pub not-message : (bs : List ℕ) (start : ℕ) (a : Answer) (k : ℕ) → tagOf the-type a ≡ suc k → rawTo bs start a ≡ start

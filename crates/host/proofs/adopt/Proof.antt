@@ -1,17 +1,13 @@
 -- `host::adopt` meets its contract. Assumes nothing.
 use mathlib.Core.Path.{_≡_, sym, ap, _∙_}
-use mathlib.Core.List.{List}
 use borrow.Author.Needs.{needs}
-use denote.Enum.Declared.{tagOf}
-use Rattle.format.specs.declared.Answer.{Answer}
 use Rattle.format.specs.Masks.{Lent}
 use Rattle.format.specs.Messages.{maskMessage}
 use Rattle.format.specs.Programs.{run}
 use Rattle.format.specs.Reading.{Outcome, bitsFrom, lentAfter, answerOf, over}
-use Rattle.format.proofs.Answer.{the-type}
 use Rattle.heads.specs.Sorting.{adoptedBy}
 use Rattle.holding.specs.declared.Holding.{Holding}
-use Rattle.holding.specs.Pictures.{pictureOf, maskOf, sound}
+use Rattle.holding.specs.Pictures.{maskOf, sound}
 use Rattle.holding.proofs.Sounds.{sounds}
 use Rattle.host.specs.Handing.{bytesAfter}
 use Rattle.host.proofs.Outcomes.{after-sound, after-bytes, adopted-stays}
@@ -59,6 +55,4 @@ returns-2 c =
     (answered a, sym (ap (λ (l : Lent). bytesAfter l (x .holding .now)) stays ∙ ap (λ (h : Holding). over (bytesOf h) (x .holding .now)) (sounds (x .held) (s a .pre .3) .picture) ∙ s a .pre .5))
 
 pub adopt-spec : {M : Type 1} → statement M
-adopt-spec =
-    tie.close
-    (tie.spec (λ c κs. search needs) (λ c. search needs) holding-over-requires (λ c. search needs) returns returns-2)
+adopt-spec = tie.close (tie.spec (λ c κs. search needs) (λ c. search needs) holding-over-requires (λ c. search needs) returns returns-2)

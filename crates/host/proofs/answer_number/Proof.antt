@@ -7,9 +7,6 @@ use Rattle.host.proofs.Walks.{message-number}
 use Rattle.host.proofs.answer_number.Statement.{statement}
 use Rattle.host.proofs.answer_number.Tie as tie
 
-returns : tie.Need-returns
-returns c = message-number (c .before .before .args .answer) (c .before .match .keys1)
-
 returns-2 : tie.Need-returns-2
 unfolding answerNumber
 returns-2 c = sym (ap answerNumber (idle-tag (c .before .before .args .answer) (c .before .match .keys2)))
@@ -20,4 +17,6 @@ returns-3 c = c .number .ensures ∙ sym (ap answerNumber (c .before .before .an
 
 pub answer-number-spec : {M : Type 1} → statement M
 answer-number-spec =
-    tie.close (tie.spec (λ c. search needs) (λ c. search needs) (λ c. search needs) (λ c κs. search needs) returns returns-2 returns-3)
+    tie.close
+    (tie.spec (λ c. search needs) (λ c. search needs) (λ c. search needs) (λ c κs. search needs)
+    (λ c. message-number (c .before .before .args .answer) (c .before .match .keys1)) returns-2 returns-3)

@@ -1,23 +1,24 @@
 -- `host::hand` meets its contract. Assumes nothing.
-use mathlib.Core.Path.{_≡_, sym, ap, _∙_}
+use mathlib.Core.Path.{_∙_}
 use borrow.Author.Needs.{needs}
-use Rattle.host.specs.Handing.{handedBy}
+use Rattle.host.specs.Handing.{answerNumber, rowsSaid, headSaid, handedTo, placeSaid}
 use Rattle.host.proofs.hand.Statement.{statement}
 use Rattle.host.proofs.hand.Tie as tie
 
 returns : tie.Need-returns
-unfolding handedBy
+unfolding handedTo answerNumber rowsSaid headSaid placeSaid
 returns c = c .stop .ensures ∙ rw (c .before .enum-told .given .1)
 
 returns-2 : tie.Need-returns-2
-unfolding handedBy
+unfolding handedTo answerNumber rowsSaid headSaid placeSaid
 returns-2 c = c .stop2 .ensures ∙ rw (c .before .number .ensures, c .before .before .before .answer .given .1)
 
 returns-3 : tie.Need-returns-3
-unfolding handedBy
+unfolding handedTo answerNumber rowsSaid headSaid placeSaid
 returns-3 c = c .message .ensures ∙ rw (c .before .before .answer2 .given .1)
 
 pub hand-spec : {M : Type 1} → statement M
 hand-spec =
     tie.close
-    (tie.spec (λ c. search needs) (λ c κs. search needs) (λ c. search needs) (λ c κs. search needs) (λ c κs. search needs) (λ c. search needs) (λ c κs. search needs) returns returns-2 returns-3)
+    (tie.spec (λ c. search needs) (λ c κs. search needs) (λ c. search needs) (λ c κs. search needs) (λ c κs. search needs) (λ c. search needs)
+    (λ c κs. search needs) returns returns-2 returns-3)

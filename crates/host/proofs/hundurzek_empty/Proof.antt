@@ -1,5 +1,4 @@
--- `host::hundurzek_empty` meets its contract.
--- Assumes nothing.
+-- `host::hundurzek_empty` meets its contract. Assumes nothing.
 use mathlib.Core.Path.{_∙_, refl}
 use native.Mathlib.Omega.{arith}
 use borrow.Author.Needs.{needs}
@@ -30,10 +29,4 @@ returns-2 c =
     rw (le-leb size (length bs) (omega arith)) (refl, c .before .before .holding-over .ensures ∙ rw (c .before .before .before .empty .ensures))
 
 pub hundurzek-empty-spec : {M : Type 1} → statement M
-hundurzek-empty-spec =
-    tie.close (tie.spec
-    returns
-    (λ c κs. search needs)
-    holding-over-requires
-    (λ c. search needs)
-    returns-2)
+hundurzek-empty-spec = tie.close (tie.spec returns (λ c κs. search needs) holding-over-requires (λ c. search needs) returns-2)

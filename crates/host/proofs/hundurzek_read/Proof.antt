@@ -9,7 +9,6 @@ use borrow.Author.Needs.{needs}
 use denote.Enum.Declared.{tagOf}
 use Rattle.bits.proofs.Windows.{Bytes}
 use Rattle.format.specs.Good.{isHolding}
-use Rattle.format.specs.Masks.{Lent}
 use Rattle.format.specs.Messages.{maskMessage}
 use Rattle.format.specs.Programs.{run}
 use Rattle.format.specs.Reading.{Outcome, bitsFrom, lentAfter, answerOf, over, rowsAfter}
@@ -17,8 +16,8 @@ use Rattle.heads.specs.Sorting.{adoptedBy}
 use Rattle.holding.specs.declared.Holding.{Holding}
 use Rattle.holding.specs.Pictures.{maskOf, sound}
 use Rattle.format.proofs.HeldGood.{reading-good}
-use Rattle.host.specs.Handing.{handedBy, bytesAfter, hostOutcome}
-use Rattle.host.proofs.Outcomes.{bytes-pass, bytes-stay}
+use Rattle.host.specs.Handing.{bytesAfter, hostOutcome}
+use Rattle.host.proofs.Outcomes.{bytes-pass, hand-outcome, sought-bytes}
 use Rattle.host.proofs.hundurzek_read.Statement.{statement}
 use Rattle.host.proofs.hundurzek_read.Tie as tie
 use Rattle.passing.specs.Passing.{bytesOf, holdingIn}
@@ -53,8 +52,8 @@ returns c =
     let k = g .before .before .before in
     let x = s k .args in
     let it = sought-answer (holdingIn (lent k)) (x .bytes .now) (x .end) (x .start) (x .rows .now) (g .found .given .0 .0) (sym (said k .0) ∙ g .found .given .1) in (
-      c .hand .ensures ∙ ap (handedBy (x .start)) (it .says),
-      (bytes-stay (lent k) (small k) ∙ ap (λ (l : Lent). bytesAfter l (lent k)) (sym (it .keeps)), said k .1),
+      c .hand .ensures ∙ hand-outcome (x .start) (g .found .given .0 .0) (outcome k) (it .says),
+      (sym (sought-bytes (lent k) (x .bytes .now) (x .end) (x .start) (x .rows .now) (small k) it), said k .1),
     )
 
 -- a mask
@@ -82,9 +81,6 @@ module _ (c : tie.After-enum-told) where
   unfolding hostOutcome outcomeAt
   good = reading-good (lentBy (holdingIn (lent k))) (s k .args .bytes .now) (s k .args .end) (s k .args .start) (s k .args .rows .now) (is-holding (holdingIn (lent k)) ∙ found .fine .held)
 
-add-adopt : tie.Need-add-adopt
-add-adopt c = let f = found (c .before) in omega (arith, f .found .room, f .fine .inside .limit)
-
 adopt-requires : tie.Need-adopt-requires
 adopt-requires c κs =
     let e = c .before in
@@ -103,11 +99,13 @@ returns-2 : tie.Need-returns-2
 returns-2 c =
     let a = c .before .before .before in
     let e = a .before .before in (
-      c .hand2 .ensures ∙ ap (handedBy (s (k e) .args .start)) (a .adopt .ensures .0 ∙ ap answerOf (adopts e)),
+      c .hand2 .ensures ∙ hand-outcome (s (k e) .args .start) _ (outcome (k e)) (a .adopt .ensures .0 ∙ ap answerOf (adopts e)),
       (a .adopt .ensures .1 ∙ ap (λ (o : Outcome). bytesAfter (lentAfter o) (lent (k e))) (adopts e), said (k e) .1),
     )
 
 pub hundurzek-read-spec : {M : Type 1} → statement M
 hundurzek-read-spec =
     tie.close
-    (tie.spec (λ c κs. search needs) (λ c κs. search needs) (λ c. search needs) (λ c κs. search needs) (λ c. search needs) add-adopt adopt-requires (λ c κs. search needs) (λ c. search needs) (λ c. search needs) returns (λ c. search needs) (λ c. search needs) returns-2)
+    (tie.spec (λ c κs. search needs) (λ c κs. search needs) (λ c. search needs) (λ c κs. search needs) (λ c. search needs)
+    (λ c. let f = found (c .before) in omega (arith, f .found .room, f .fine .inside .limit)) adopt-requires (λ c κs. search needs)
+    (λ c. search needs) (λ c. search needs) returns (λ c. search needs) (λ c. search needs) returns-2)

@@ -1,5 +1,4 @@
--- `host::leave` meets its contract.
--- Assumes nothing.
+-- `host::leave` meets its contract. Assumes nothing.
 use mathlib.Core.Path.{refl}
 use borrow.Author.Needs.{needs}
 use borrow.Author.Tests.{ne-eqb}
@@ -11,9 +10,6 @@ returns : tie.Need-returns
 unfolding leftBytes
 returns c = rw (c .if1 .taken) refl
 
-holding-over-requires : tie.Need-holding-over-requires
-holding-over-requires c κs = c .before .before .before .pre (c .before .if1 .left)
-
 returns-2 : tie.Need-returns-2
 unfolding leftBytes
 returns-2 c =
@@ -21,4 +17,4 @@ returns-2 c =
     rw (ne-eqb (s .args .messages) 0 (c .before .before .before .before .if1 .left)) (c .before .before .holding-over .ensures)
 
 pub leave-spec : {M : Type 1} → statement M
-leave-spec = tie.close (tie.spec returns holding-over-requires (λ c. search needs) returns-2)
+leave-spec = tie.close (tie.spec returns (λ c κs. c .before .before .before .pre (c .before .if1 .left)) (λ c. search needs) returns-2)

@@ -1,14 +1,7 @@
--- `host::message` meets its contract.
--- Assumes nothing.
+-- `host::message` meets its contract. Assumes nothing.
 use borrow.Author.Needs.{needs}
 use Rattle.host.proofs.message.Statement.{statement}
 use Rattle.host.proofs.message.Tie as tie
 
-returns : tie.Need-returns
-returns c = rw (c .before .first .ensures, c .bytes-of .ensures)
-
 pub message-spec : {M : Type 1} → statement M
-message-spec = tie.close (tie.spec
-    (λ c κs. search needs)
-    (λ c κs. search needs)
-    returns)
+message-spec = tie.close (tie.spec (λ c κs. search needs) (λ c κs. search needs) (λ c. rw (c .before .begins .ensures, c .counts .ensures)))

@@ -1,27 +1,42 @@
 -- `bits::part::part` meets its contract. Assumes nothing.
-use mathlib.Core.Path.{refl}
+use mathlib.Core.Path.{_≡_, refl}
+use mathlib.Core.Bool.{Bool, true, false}
+use Prim.Native.Nat.{ℕ, _+_, _*_, _≤_}
+use native.Mathlib.Nat.{add-sub-cancel-left}
 use native.Mathlib.Omega.{arith}
 use borrow.Author.Needs.{needs}
-use borrow.Author.Tests.{lt-ltb, le-ltb}
+use borrow.Author.Tests.{ltb-true}
+use lib.Dec.{ltb}
+use lib.ListN.{length}
 use Rattle.bits.specs.Parts.{startOf, countOf, partOf}
 use Rattle.bits.proofs.part.part.Statement.{statement}
 use Rattle.bits.proofs.part.part.Tie as tie
 
-returns : tie.Need-returns
-unfolding startOf countOf partOf
-returns c =
-    let some = lt-ltb _ _ (c .before .if1 .taken) in
-    record { bytes = rw some; memory = refl; offset = rw some (omega arith) }
+-- the part ends within the string
+ends-within : (from to n : ℕ) → to ≤ 8 * n → startOf from to + countOf from to ≤ n
+unfolding startOf countOf
+ends-within from to n few = go (ltb from to) refl
+  where
+    go : (b : Bool) → ltb from to ≡ b → startOf from to + countOf from to ≤ n
+    go true e = rw e (omega (arith, ltb-true from to e))
+    go false e = rw e (omega arith)
 
-returns-2 : tie.Need-returns-2
-unfolding startOf countOf partOf
-returns-2 c =
-    let none = le-ltb _ _ (c .before .if1 .left) in
-    record { bytes = rw none; memory = refl; offset = rw none (omega arith) }
+within : (c : tie.After-counts) → c .before .begins .result + c .counts .result ≤ length (c .before .before .before .args .bytes .now)
+within c =
+    let s = c .before .before .before in
+    rw (c .before .begins .ensures, c .counts .ensures) (ends-within (s .args .from) (s .args .to) _ (s .pre))
+
+add-past : tie.Need-add-past
+add-past c = omega (arith, within c)
+
+part-result-end : tie.Need-part-result-end
+part-result-end c = omega (arith, within c)
+
+returns : tie.Need-returns
+unfolding partOf
+returns c =
+    let k = c .before in
+    record { bytes = rw (add-sub-cancel-left, k .before .begins .ensures, k .counts .ensures); memory = refl; offset = omega (arith, k .before .begins .ensures) }
 
 pub part-spec : {M : Type 1} → statement M
-part-spec =
-    tie.close
-    (tie.spec
-    (λ c. search needs) (λ c. search needs) (λ c. search needs) (λ c. search needs) (λ c. search needs) returns
-    (λ c. search needs) (λ c. search needs) (λ c. search needs) returns-2)
+part-spec = tie.close (tie.spec (λ c κs. search needs) (λ c κs. search needs) add-past (λ c. search needs) (λ c. search needs) part-result-end returns)

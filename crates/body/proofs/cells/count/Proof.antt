@@ -14,8 +14,8 @@ use lib.Seq.{drop-cons}
 use Rattle.bits.specs.BitLists.{spell}
 use Rattle.format.specs.Lengths.{total}
 use Rattle.format.specs.Masks.{pick}
-use Rattle.holding.proofs.PicturedCells.{pick-nil}
-use Rattle.body.proofs.Picks.{pick-set, pick-clear}
+use Rattle.format.proofs.Picks.{pick-nil}
+use Rattle.body.proofs.Selected.{pick-set, pick-clear}
 use Rattle.body.proofs.cells.count.Statement.{statement}
 use Rattle.body.proofs.cells.count.Tie as tie
 

@@ -1,6 +1,5 @@
 -- `body::cells::fill` meets its contract. The loop's invariant: the rows of the slots that are left, with the strips from the n-th on, chosen by the marks that
--- are left, are still to come.
--- Assumes nothing.
+-- are left, are still to come. Assumes nothing.
 use mathlib.Core.Path.{_≡_, refl, sym, ap, _∙_}
 use mathlib.Core.List.{List, _++_}
 use Prim.Native.Nat.{ℕ, suc, _+_, _-_, _≤_}

@@ -1,5 +1,4 @@
--- `body::cells::satellite` meets its contract. The loop's invariant: the rows of the cells that are left are still to come.
--- Assumes nothing.
+-- `body::cells::satellite` meets its contract. The loop's invariant: the rows of the cells that are left are still to come. Assumes nothing.
 use mathlib.Core.Path.{_≡_, refl, ap, _∙_}
 use mathlib.Core.List.{List, _∷_, []}
 use Prim.Native.Nat.{ℕ, _-_, _^_, _<_}

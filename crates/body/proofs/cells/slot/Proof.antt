@@ -1,6 +1,5 @@
 -- `body::cells::slot` meets its contract. The loop's invariant: the rows of the satellites that are left, with the strips from the n-th on, chosen by the marks
--- that are left, are still to come.
--- Assumes nothing.
+-- that are left, are still to come. Assumes nothing.
 use mathlib.Core.Path.{_≡_, refl, ap, _∙_}
 use mathlib.Core.List.{List, _∷_}
 use Prim.Native.Nat.{ℕ, suc, _+_, _-_, _*_, _%_, _^_, _<_, _≤_}
@@ -29,9 +28,6 @@ Inv-loop id word strips chosen s bytes at rows₀ left₀ marks₀ n₀ k₀ pla
 
 abbrev μ-loop : tie.MeasureT-loop
 μ-loop id word strips chosen s bytes at rows₀ left₀ marks₀ n₀ k₀ place₀ rows left marks n k place = left
-
-loop-holds : tie.Need-loop-holds Inv-loop μ-loop
-loop-holds c = let s = c .before .before in (omega arith, omega (arith, s .pre .0), walk-start (omega arith) (s .pre .3))
 
 module _ (c : tie.After-first Inv-loop μ-loop) where
   abbrev start : tie.Start Inv-loop μ-loop
@@ -124,10 +120,10 @@ returns c =
 pub slot-spec : {M : Type 1} → statement M
 slot-spec =
     tie.close
-    (tie.spec Inv-loop μ-loop loop-holds (λ c κs. search needs) (λ c. omega (arith, fewer c _ refl .inside, c .first .ensures))
-    (λ c. omega (arith, inside c)) (λ c. omega (arith, inside (c .before))) (λ c. omega (arith, c .shared-slice-known3 .given (n (c .before))))
-    (λ c κs. search needs) (λ c. omega (arith, inside (f c))) (λ c. omega (arith, call c .start)) (λ c. call c .start) (λ c. call c .start)
-    (λ c. search needs) satellite-requires add-k
-    (λ c. let r = c .before .before .before .before .before in fewer (f r) (r .rest .result) (r .rest .ensures) .fewer) loop-again
-    (λ c. let r = c .before in fewer (f r) (r .rest .result) (r .rest .ensures) .fewer) loop-again-2 (λ c. c .before .loop .inv .2 .going .same)
-    returns)
+    (tie.spec Inv-loop μ-loop (λ c. let s = c .before .before in (omega arith, omega (arith, s .pre .0), walk-start (omega arith) (s .pre .3)))
+    (λ c κs. search needs) (λ c. omega (arith, fewer c _ refl .inside, c .first .ensures)) (λ c. omega (arith, inside c))
+    (λ c. omega (arith, inside (c .before))) (λ c. omega (arith, c .shared-slice-known3 .given (n (c .before)))) (λ c κs. search needs)
+    (λ c. omega (arith, inside (f c))) (λ c. omega (arith, call c .start)) (λ c. call c .start) (λ c. call c .start) (λ c. search needs)
+    satellite-requires add-k (λ c. let r = c .before .before .before .before .before in fewer (f r) (r .rest .result) (r .rest .ensures) .fewer)
+    loop-again (λ c. let r = c .before in fewer (f r) (r .rest .result) (r .rest .ensures) .fewer) loop-again-2
+    (λ c. c .before .loop .inv .2 .going .same) returns)

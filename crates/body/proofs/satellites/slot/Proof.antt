@@ -1,9 +1,8 @@
 -- `body::satellites::slot` meets its contract. The loop's invariant: the rows of the satellites that are left, chosen by the marks that are left, are still to
--- come.
--- Assumes nothing.
+-- come. Assumes nothing.
 use mathlib.Core.Path.{_≡_, refl, _∙_}
 use mathlib.Core.List.{List, _∷_, []}
-use Prim.Native.Nat.{ℕ, suc, _+_, _*_, _%_, _^_, _<_, _≤_}
+use Prim.Native.Nat.{ℕ, suc, _+_, _*_, _%_, _^_, _<_}
 use native.Mathlib.Omega.{arith}
 use borrow.Author.Needs.{needs}
 use lib.Count.{leadingZeros}
@@ -28,9 +27,6 @@ Inv-loop id word chosen s bytes at rows₀ iode width left₀ marks₀ k₀ plac
 
 abbrev μ-loop : tie.MeasureT-loop
 μ-loop id word chosen s bytes at rows₀ iode width left₀ marks₀ k₀ place₀ rows left marks k place = left
-
-loop-holds : tie.Need-loop-holds Inv-loop μ-loop
-loop-holds c = (omega arith, walk-start (omega arith) (c .before .before .before .pre .2))
 
 add-number : tie.Need-add-number Inv-loop μ-loop
 add-number c = omega (arith, next-place (c .before .before .loop .left) (c .before .loop-test .taken) (c .before .before .loop .inv .0) .0)
@@ -97,10 +93,10 @@ returns c =
 pub slot-spec : {M : Type 1} → statement M
 slot-spec =
     tie.close
-    (tie.spec Inv-loop μ-loop (λ c κs. search needs) (λ c κs. c .before .before .pre .0) loop-holds (λ c κs. search needs) add-number
-    (λ c κs. search needs) (λ c. omega (arith, row c .room)) (λ c. omega (arith, row c .room)) (λ c. omega arith) (λ c. search needs)
-    (λ c. row c .room) (λ c. record { sfits = omega (arith, fewer (c .before .before) .inside, c .before .before .before .first .ensures) })
-    satellite-requires
+    (tie.spec Inv-loop μ-loop (λ c κs. search needs) (λ c κs. c .before .before .pre .0)
+    (λ c. (omega arith, walk-start (omega arith) (c .before .before .before .pre .2))) (λ c κs. search needs) add-number (λ c κs. search needs)
+    (λ c. omega (arith, row c .room)) (λ c. omega (arith, row c .room)) (λ c. omega arith) (λ c. search needs) (λ c. row c .room)
+    (λ c. record { sfits = omega (arith, fewer (c .before .before) .inside, c .before .before .before .first .ensures) }) satellite-requires
     (λ c. let r = c .before .before .before .before in omega (arith, row (c .before .before .before) .near, r .before .before .before .before .width .ensures))
     (λ c. fewer (c .before .before .before .before) .fewer) loop-again (λ c. fewer (c .before) .fewer) loop-again-2
     (λ c. c .before .loop .inv .1 .going .same) returns)

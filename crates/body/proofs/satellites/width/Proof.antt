@@ -8,9 +8,6 @@ use Rattle.rows.specs.Shapes.{columnsIn}
 use Rattle.body.proofs.satellites.width.Statement.{statement}
 use Rattle.body.proofs.satellites.width.Tie as tie
 
-add-result : tie.Need-add-result
-add-result c = omega (arith, iode-some _ (c .iode .ensures))
-
 returns : tie.Need-returns
 unfolding columnsIn shapeWidth widthOf
 returns c =
@@ -25,4 +22,6 @@ returns-2 c =
 
 pub width-spec : {M : Type 1} → statement M
 width-spec =
-    tie.close (tie.spec (λ c. search needs) (λ c. search needs) (λ c. search needs) (λ c κs. search needs) add-result returns (λ c. search needs) returns-2)
+    tie.close
+    (tie.spec (λ c. search needs) (λ c. search needs) (λ c. search needs) (λ c κs. search needs) (λ c. omega (arith, iode-some _ (c .iode .ensures)))
+    returns (λ c. search needs) returns-2)

@@ -18,7 +18,7 @@ use Rattle.format.specs.Rows.{absent}
 use Rattle.heads.specs.declared.CommonHead.{CommonHead}
 use Rattle.heads.specs.declared.heading.Under.{Under}
 use Rattle.heads.specs.Headings.{headWith, saidBy, FitsHeading, rowed, networked, networkBy, afterFlags}
-use Rattle.heads.proofs.Picked.{pick-all}
+use Rattle.format.proofs.Picks.{pick-all}
 use Rattle.heads.proofs.heading.by_flags.Statement.{statement}
 use Rattle.heads.proofs.heading.by_flags.Tie as tie
 use Rattle.rows.proofs.Table.{laid}

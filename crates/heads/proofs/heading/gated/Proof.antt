@@ -16,7 +16,7 @@ use Rattle.heads.specs.declared.CommonHead.{CommonHead}
 use Rattle.heads.specs.declared.heading.Under.{Under}
 use Rattle.heads.specs.Heads.{commonOf}
 use Rattle.heads.specs.Headings.{headWith, Shows, saidBy, FitsHeading, gateBy, gatedBy}
-use Rattle.heads.proofs.Picked.{pick-all}
+use Rattle.format.proofs.Picks.{pick-all}
 use Rattle.heads.proofs.heading.gated.Statement.{statement}
 use Rattle.heads.proofs.heading.gated.Tie as tie
 use Rattle.holding.specs.Held.{View, skyIn}

@@ -12,7 +12,7 @@ use Rattle.format.proofs.Ends.{after-field, fits}
 use Rattle.format.specs.Ends.{Within}
 use Rattle.heads.specs.Headings.{chosenAt, saidBy, FitsHeading}
 use Rattle.heads.proofs.Headed.{network-short, network-none, network-cut, network-there}
-use Rattle.heads.proofs.Picked.{pick-front}
+use Rattle.format.proofs.Picks.{pick-front}
 use Rattle.heads.proofs.heading.selection.Statement.{statement}
 use Rattle.heads.proofs.heading.selection.Tie as tie
 use Rattle.table.specs.Bodies.{linesIn, linesOver, FitsKeys}
@@ -68,7 +68,7 @@ returns-4 c =
     let head = rw (toZ-pos w32 {n = n p} (omega (arith, low p))) at (c .before .with-network .ensures) in (
       λ v shows.
           let whole = network-there (s p .pre .2) (v .satellites) (x .numbers) (shapeAt (x .shape)) (there p) (c .before .before .before .if1 .left) (rw (shows .count) (c .before .before .if2 .left)) in
-          rw (whole, shows .count, head, c .chosen .ensures, pick-front (x .n) (field (x .bytes .now) (x .place + 5) (x .n)) (v .satellites) (shows .count) (shows .few)),
+          rw (whole, shows .count, head, c .chosen .ensures, pick-front (x .n) (field (x .bytes .now) (x .place + 5) (x .n)) (v .satellites) (shows .few)),
       s p .pre .1,
     )
 

@@ -1,5 +1,4 @@
--- `holding::Holding::is_sound` meets its contract: the test slot by slot is the test of the definitions.
--- Assumes nothing.
+-- `holding::Holding::is_sound` meets its contract: the test slot by slot is the test of the definitions. Assumes nothing.
 use mathlib.Core.Path.{sym, _∙_}
 use borrow.Author.Needs.{needs}
 use borrow.Author.Tests.{le-leb, lt-leb, not-true, not-false}

@@ -1,5 +1,4 @@
--- `holding::Holding::with_strips` meets its contract. The loop's invariant: what is left to add to the strips stored so far.
--- Assumes nothing.
+-- `holding::Holding::with_strips` meets its contract. The loop's invariant: what is left to add to the strips stored so far. Assumes nothing.
 use mathlib.Core.Path.{_≡_}
 use mathlib.Core.List.{List, _∷_}
 use Prim.Native.Nat.{ℕ, suc, _+_, _-_, _^_, _≤_, _<_}
@@ -66,20 +65,7 @@ returns c =
 pub with-strips-spec : {M : Type 1} → statement M
 with-strips-spec =
     tie.close
-    (tie.spec
-    Inv-loop
-    μ-loop
-    loop-holds
-    (λ c. omega (arith, more c .room))
-    (λ c. omega arith)
-    (λ c. omega (arith, more (c .before) .room))
-    (λ c. omega (arith, more (c .before) .room))
-    (λ c. omega (arith, more (c .before) .room))
-    (λ c. omega (arith, c .shared-slice-known2 .given (i (c .before))))
-    (λ c κs. search needs)
-    add-sum
-    (λ c. omega arith)
-    (λ c. omega arith)
-    loop-again
-    (λ c. omega arith)
-    returns)
+    (tie.spec Inv-loop μ-loop loop-holds (λ c. omega (arith, more c .room)) (λ c. omega arith) (λ c. omega (arith, more (c .before) .room))
+    (λ c. omega (arith, more (c .before) .room)) (λ c. omega (arith, more (c .before) .room))
+    (λ c. omega (arith, c .shared-slice-known2 .given (i (c .before)))) (λ c κs. search needs) add-sum (λ c. omega arith) (λ c. omega arith)
+    loop-again (λ c. omega arith) returns)

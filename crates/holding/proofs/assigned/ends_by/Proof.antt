@@ -18,9 +18,6 @@ module _ (c : tie.Start) where
   power : 1 * 2 ^ free % 2 ^ 64 ≡ 2 ^ free
   power = one-shifted free (omega arith)
 
-rem-result : tie.Need-rem-result
-rem-result c = rw (power c) (pow-pos (free c))
-
 returns : tie.Need-returns
 returns c =
     let x = c .args in
@@ -29,4 +26,4 @@ returns c =
     ∙ sym (assigned-number (x .w) (x .highest) (x .mask) (c .pre .0) (c .pre .2))
 
 pub ends-by-spec : {M : Type 1} → statement M
-ends-by-spec = tie.close (tie.spec (λ c. search needs) (λ c. search needs) (λ c. search needs) rem-result returns)
+ends-by-spec = tie.close (tie.spec (λ c. search needs) (λ c. search needs) (λ c. search needs) (λ c. rw (power c) (pow-pos (free c))) returns)

@@ -1,5 +1,4 @@
--- `holding::cells_in::cells_in` meets its contract. The loop's invariant: the cells of the strips passed, four each time.
--- Assumes nothing.
+-- `holding::cells_in::cells_in` meets its contract. The loop's invariant: the cells of the strips passed, four each time. Assumes nothing.
 use mathlib.Core.Path.{_≡_, refl, ap, _∙_}
 use Prim.Native.Nat.{ℕ, _+_, _-_, _*_, _≤_}
 use native.Mathlib.Omega.{arith}

@@ -1,5 +1,4 @@
--- `holding::named::named_in` meets its contract. The loop's invariant: none of those passed is the ID.
--- Assumes nothing.
+-- `holding::named::named_in` meets its contract. The loop's invariant: none of those passed is the ID. Assumes nothing.
 use mathlib.Core.Path.{_≡_, refl, sym, ap, _∙_}
 use mathlib.Core.Bool.{false}
 use Prim.Native.Nat.{ℕ, _-_, _≤_}
@@ -39,15 +38,4 @@ returns-2 c =
     sym (ap (λ (k : ℕ). named (x .id) (take k (x .ids .now))) (sym all) ∙ c .before .loop .inv .1)
 
 pub named-in-spec : {M : Type 1} → statement M
-named-in-spec =
-    tie.close
-    (tie.spec
-    Inv-loop
-    μ-loop
-    loop-holds
-    (λ c. omega arith)
-    returns
-    (λ c. omega arith)
-    (λ c. omega arith)
-    loop-again
-    returns-2)
+named-in-spec = tie.close (tie.spec Inv-loop μ-loop loop-holds (λ c. omega arith) returns (λ c. omega arith) (λ c. omega arith) loop-again returns-2)

@@ -5,8 +5,5 @@ use lib.Count.{ones-le}
 use Rattle.holding.proofs.set_places.count.Statement.{statement}
 use Rattle.holding.proofs.set_places.count.Tie as tie
 
-cast-result : tie.Need-cast-result
-cast-result c = omega (arith, ones-le 64 (c .args .mask) (c .fits .mask .fits))
-
 pub count-spec : {M : Type 1} → statement M
-count-spec = tie.close (tie.spec cast-result (λ c. search needs))
+count-spec = tie.close (tie.spec (λ c. omega (arith, ones-le 64 (c .args .mask) (c .fits .mask .fits))) (λ c. search needs))

@@ -5,8 +5,5 @@ use lib.Count.{leading-le}
 use Rattle.holding.proofs.set_places.first.Statement.{statement}
 use Rattle.holding.proofs.set_places.first.Tie as tie
 
-cast-result : tie.Need-cast-result
-cast-result c = omega (arith, leading-le 64 (c .args .mask))
-
 pub first-spec : {M : Type 1} → statement M
-first-spec = tie.close (tie.spec cast-result (λ c. search needs))
+first-spec = tie.close (tie.spec (λ c. omega (arith, leading-le 64 (c .args .mask))) (λ c. search needs))

@@ -25,14 +25,8 @@ module _ (c : tie.After-first) where
   bit : 2 ^ 63 / 2 ^ (c .first .result) ≡ 2 ^ (63 - leadingZeros 64 mask)
   bit = bit-at (c .first .result) inside ∙ ap (λ (p : ℕ). 2 ^ (63 - p)) (c .first .ensures)
 
-shr-result : tie.Need-shr-result
-shr-result c = inside c
-
-sub-result : tie.Need-sub-result
-sub-result c = rw (bit c) (next-place (mask c) (c .before .pre) (c .before .fits .mask .fits) .1)
-
-returns : tie.Need-returns
-returns c = ap (λ (n : ℕ). mask c - n) (bit c)
-
 pub rest-spec : {M : Type 1} → statement M
-rest-spec = tie.close (tie.spec (λ c κs. search needs) shr-result sub-result returns)
+rest-spec =
+    tie.close
+    (tie.spec (λ c κs. search needs) (λ c. inside c) (λ c. rw (bit c) (next-place (mask c) (c .before .pre) (c .before .fits .mask .fits) .1))
+    (λ c. ap (λ (n : ℕ). mask c - n) (bit c)))

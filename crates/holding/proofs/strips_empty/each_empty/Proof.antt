@@ -1,18 +1,16 @@
 -- `holding::strips_empty::each_empty` meets its contract. The loop's invariant: the strips are empty from the first on just if nothing is gathered and they
--- are from the i-th on.
--- Assumes nothing.
+-- are from the i-th on. Assumes nothing.
 use mathlib.Core.Path.{_≡_, refl, sym, ap, _∙_}
-use mathlib.Core.Bool.{Bool, _&&_}
+use mathlib.Core.Bool.{Bool, _&&_, and-true}
 use Prim.Native.Nat.{_+_, _-_, _≤_}
 use native.Mathlib.Omega.{arith}
 use native.Mathlib.Numerals.{add-one}
 use borrow.Author.Needs.{needs}
 use lib.Dec.{eqb}
 use lib.ListN.{length, getD, drop, drop-of-length-le}
-use Rattle.holding.specs.Testing.{emptyStrips}
+use Rattle.holding.specs.Testing.{every, emptyStrips}
 use Rattle.holding.proofs.Fitting.{empty-strip}
 use Rattle.holding.proofs.Noughts.{gather}
-use Rattle.holding.proofs.Tests.{and-end}
 use Rattle.holding.proofs.strips_empty.each_empty.Statement.{statement}
 use Rattle.holding.proofs.strips_empty.each_empty.Tie as tie
 
@@ -31,11 +29,11 @@ loop-again c =
     (omega arith, s .inv .1 ∙ ap (λ (t : Bool). eqb (s .any) 0 && t) (here ∙ rw (← (add-one (s .i)))) ∙ more)
 
 returns : tie.Need-returns Inv-loop μ-loop
-unfolding emptyStrips
+unfolding every
 returns c =
     let x = c .before .before .args in
     let all : length (x .strips .now) ≤ c .before .loop .i = omega arith in
-    sym (c .before .loop .inv .1 ∙ rw (drop-of-length-le (x .strips .now) all) (and-end _))
+    sym (c .before .loop .inv .1 ∙ rw (drop-of-length-le (x .strips .now) all) (and-true _))
 
 pub each-empty-spec : {M : Type 1} → statement M
 each-empty-spec =

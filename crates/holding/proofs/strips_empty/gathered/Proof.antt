@@ -6,7 +6,7 @@ use native.Mathlib.Omega.{arith}
 use borrow.Author.Needs.{needs}
 use lib.Dec.{eqb}
 use lib.ListN.{getD}
-use Rattle.holding.proofs.EmptyFours.{empty-four}
+use Rattle.holding.proofs.Fours.{empty-four}
 use Rattle.holding.proofs.Noughts.{or-nought}
 use Rattle.holding.proofs.strips_empty.gathered.Statement.{statement}
 use Rattle.holding.proofs.strips_empty.gathered.Tie as tie

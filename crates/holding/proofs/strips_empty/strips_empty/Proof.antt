@@ -1,18 +1,16 @@
 -- `holding::strips_empty::strips_empty` meets its contract. The loop's invariant: nothing is gathered just if none of the strips passed is used, nor one of
--- the last four.
--- Assumes nothing.
+-- the last four. Assumes nothing.
 use mathlib.Core.Path.{_≡_, sym, ap, _∙_}
 use mathlib.Core.Bool.{Bool, _&&_}
-use Prim.Native.Nat.{_-_, _≤_}
+use Prim.Native.Nat.{_+_, _-_, _≤_}
 use native.Mathlib.Nat.{sub-self}
 use native.Mathlib.Omega.{arith}
 use borrow.Author.Needs.{needs}
 use lib.Dec.{eqb}
 use lib.ListN.{take, drop, length-drop}
 use lib.Seq.{take-all}
-use Rattle.holding.specs.Testing.{emptyStrips}
-use Rattle.holding.proofs.EmptyFours.{empty-more, empty-last}
-use Rattle.holding.proofs.Tests.{and-swap}
+use Rattle.holding.specs.Testing.{every, emptyStrips}
+use Rattle.holding.proofs.Tests.{and-swap, every-parts, every-last}
 use Rattle.holding.proofs.strips_empty.strips_empty.Statement.{statement}
 use Rattle.holding.proofs.strips_empty.strips_empty.Tie as tie
 
@@ -24,7 +22,7 @@ abbrev μ-loop : tie.MeasureT-loop
 μ-loop strips from any₀ i₀ any i = 64 - i
 
 loop-holds : tie.Need-loop-holds Inv-loop μ-loop
-unfolding emptyStrips
+unfolding every
 loop-holds c =
     let x = c .before .before .before .args in
     let four = take-all 4 (drop 60 (x .strips .now)) (omega (arith, length-drop 60 (x .strips .now))) in
@@ -35,7 +33,8 @@ loop-again c =
     let x = c .before .before .before .before .before .before .args in
     let s = c .before .before .loop in
     let four = emptyStrips (take 4 (drop (s .i) (x .strips .now))) in
-    let more = empty-more (x .strips .now) (x .from) (s .i) 4 (s .inv .0) in
+    let width : s .i + 4 - s .i ≡ 4 = omega arith in
+    let more = rw width at (every-parts (λ n. eqb n 0) (x .strips .now) (x .from) (s .i) (s .i + 4) (s .inv .0) (omega arith)) in
     let last = emptyStrips (drop 60 (x .strips .now)) in
     let swap = and-swap (emptyStrips (take (s .i - x .from) (drop (x .from) (x .strips .now)))) last four in
     (omega arith, omega arith, c .gathered2 .ensures ∙ ap (λ (t : Bool). t && four) (s .inv .2) ∙ swap ∙ ap (λ (t : Bool). t && last) (sym more))
@@ -44,7 +43,7 @@ returns-2 : tie.Need-returns-2 Inv-loop μ-loop
 returns-2 c =
     let x = c .before .before .before .before .before .args in
     let s = c .before .loop in
-    s .inv .2 ∙ empty-last (x .strips .now) (x .from) 60 (s .i) (omega arith) (omega arith)
+    s .inv .2 ∙ every-last (λ n. eqb n 0) (x .strips .now) (x .from) 60 (s .i) (omega arith) (omega arith)
 
 pub strips-empty-spec : {M : Type 1} → statement M
 strips-empty-spec =

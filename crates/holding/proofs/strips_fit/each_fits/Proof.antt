@@ -8,7 +8,7 @@ use native.Mathlib.Omega.{arith}
 use borrow.Author.Needs.{needs}
 use borrow.Author.Tests.{not-true, not-false}
 use lib.ListN.{take, drop}
-use Rattle.holding.specs.Testing.{stripsFit}
+use Rattle.holding.specs.Testing.{every, stripsFit}
 use Rattle.holding.proofs.Fitting.{strip-fit}
 use Rattle.holding.proofs.strips_fit.each_fits.Statement.{statement}
 use Rattle.holding.proofs.strips_fit.each_fits.Tie as tie
@@ -37,7 +37,7 @@ loop-again c =
     (omega arith, c .before .before .before .before .loop .inv .1 ∙ here ∙ rw (fits-here, add-one i))
 
 returns-2 : tie.Need-returns-2 Inv-loop μ-loop
-unfolding stripsFit
+unfolding every
 returns-2 c =
     let x = c .before .before .before .args in
     let all : c .before .loop .i ≡ x .to = omega arith in

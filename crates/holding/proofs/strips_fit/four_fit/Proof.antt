@@ -5,7 +5,7 @@ use native.Mathlib.Omega.{arith}
 use borrow.Author.Needs.{needs}
 use lib.ListN.{getD}
 use Rattle.holding.specs.Testing.{stripFits}
-use Rattle.holding.proofs.FittingFours.{fit-joined}
+use Rattle.holding.proofs.Fours.{fit-joined}
 use Rattle.holding.proofs.strips_fit.four_fit.Statement.{statement}
 use Rattle.holding.proofs.strips_fit.four_fit.Tie as tie
 

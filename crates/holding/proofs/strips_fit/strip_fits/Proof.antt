@@ -1,5 +1,4 @@
--- `holding::strips_fit::strip_fits` meets its contract.
--- Assumes nothing.
+-- `holding::strips_fit::strip_fits` meets its contract. Assumes nothing.
 use Rattle.holding.specs.Testing.{stripFits}
 use Rattle.holding.proofs.strips_fit.strip_fits.Statement.{statement}
 use Rattle.holding.proofs.strips_fit.strip_fits.Tie as tie

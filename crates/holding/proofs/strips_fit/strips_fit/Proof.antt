@@ -1,5 +1,4 @@
--- `holding::strips_fit::strips_fit` meets its contract. The loop's invariant: the strips passed fit.
--- Assumes nothing.
+-- `holding::strips_fit::strips_fit` meets its contract. The loop's invariant: the strips passed fit. Assumes nothing.
 use mathlib.Core.Path.{_≡_, sym, _∙_}
 use mathlib.Core.Bool.{true}
 use Prim.Native.Nat.{ℕ, _+_, _-_, _≤_}
@@ -8,8 +7,8 @@ use native.Mathlib.Omega.{arith}
 use borrow.Author.Needs.{needs}
 use borrow.Author.Tests.{not-true, not-false}
 use lib.ListN.{take, drop}
-use Rattle.holding.specs.Testing.{stripsFit}
-use Rattle.holding.proofs.FittingFours.{fit-parts, fit-fewer}
+use Rattle.holding.specs.Testing.{every, stripFits, stripsFit}
+use Rattle.holding.proofs.Tests.{every-parts, every-fewer}
 use Rattle.holding.proofs.strips_fit.strips_fit.Statement.{statement}
 use Rattle.holding.proofs.strips_fit.strips_fit.Tie as tie
 
@@ -20,7 +19,7 @@ abbrev μ-loop : tie.MeasureT-loop
 μ-loop strips from to signals flag last i₀ i = to - i
 
 loop-holds : tie.Need-loop-holds Inv-loop μ-loop
-unfolding stripsFit
+unfolding every
 loop-holds c = (omega arith, omega arith, rw sub-self)
 
 returns-2 : tie.Need-returns-2 Inv-loop μ-loop
@@ -29,8 +28,8 @@ returns-2 c =
     let s = c .before .before .before .loop in
     let four : s .i + 4 - s .i ≡ 4 = omega arith in
     let over = sym (c .before .four-fit .ensures) ∙ not-true _ (c .if2 .taken) in
-    let whole = fit-parts (x .flag) (x .signals) (x .strips .now) (x .from) (s .i) (x .to) (omega arith) (omega arith) in
-    let next = fit-parts (x .flag) (x .signals) (x .strips .now) (s .i) (s .i + 4) (x .to) (omega arith) (omega arith) in
+    let whole = every-parts (stripFits (x .flag) (x .signals)) (x .strips .now) (x .from) (s .i) (x .to) (omega arith) (omega arith) in
+    let next = every-parts (stripFits (x .flag) (x .signals)) (x .strips .now) (s .i) (s .i + 4) (x .to) (omega arith) (omega arith) in
     sym (whole ∙ rw (s .inv .2, next, four, over))
 
 loop-again : tie.Need-loop-again Inv-loop μ-loop
@@ -39,7 +38,7 @@ loop-again c =
     let s = c .before .before .before .loop in
     let four : s .i + 4 - s .i ≡ 4 = omega arith in
     let fit = sym (c .before .four-fit .ensures) ∙ not-false _ (c .if2 .left) in
-    let next = fit-parts (x .flag) (x .signals) (x .strips .now) (x .from) (s .i) (s .i + 4) (omega arith) (omega arith) in
+    let next = every-parts (stripFits (x .flag) (x .signals)) (x .strips .now) (x .from) (s .i) (s .i + 4) (omega arith) (omega arith) in
     (omega arith, omega arith, next ∙ rw (s .inv .2, four, fit))
 
 returns-3 : tie.Need-returns-3 Inv-loop μ-loop
@@ -48,8 +47,8 @@ returns-3 c =
     let s = c .before .before .loop in
     let last : ℕ = x .to - 4 in
     let four : x .to - last ≡ 4 = omega arith in
-    let passed = fit-fewer (x .flag) (x .signals) (x .strips .now) (x .from) last (s .i) (omega arith) (omega arith) (s .inv .2) in
-    let whole = fit-parts (x .flag) (x .signals) (x .strips .now) (x .from) last (x .to) (omega arith) (omega arith) in
+    let passed = every-fewer (stripFits (x .flag) (x .signals)) (x .strips .now) (x .from) last (s .i) (omega arith) (omega arith) (s .inv .2) in
+    let whole = every-parts (stripFits (x .flag) (x .signals)) (x .strips .now) (x .from) last (x .to) (omega arith) (omega arith) in
     c .four-fit2 .ensures ∙ sym (whole ∙ rw (passed, four))
 
 pub strips-fit-spec : {M : Type 1} → statement M

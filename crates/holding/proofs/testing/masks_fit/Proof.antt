@@ -1,5 +1,4 @@
--- `holding::testing::masks_fit` meets its contract: the tests of masksFit one after the other.
--- Assumes nothing.
+-- `holding::testing::masks_fit` meets its contract: the tests of masksFit one after the other. Assumes nothing.
 use mathlib.Core.Path.{sym, _∙_}
 use Prim.Native.Nat.{_+_, _^_}
 use native.Mathlib.Omega.{arith}

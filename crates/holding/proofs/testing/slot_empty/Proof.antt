@@ -1,5 +1,4 @@
--- `holding::testing::slot_empty` meets its contract.
--- Assumes nothing.
+-- `holding::testing::slot_empty` meets its contract. Assumes nothing.
 use borrow.Author.Tests.{eq-eqb, ne-eqb}
 use Rattle.holding.proofs.testing.slot_empty.Statement.{statement}
 use Rattle.holding.proofs.testing.slot_empty.Tie as tie

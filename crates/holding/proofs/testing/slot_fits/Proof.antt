@@ -1,5 +1,4 @@
--- `holding::testing::slot_fits` meets its contract: the tests of slotFits one after the other.
--- Assumes nothing.
+-- `holding::testing::slot_fits` meets its contract: the tests of slotFits one after the other. Assumes nothing.
 use mathlib.Core.Path.{_≡_, sym, ap, _∙_}
 use Prim.Native.Nat.{ℕ, _+_, _-_}
 use native.Mathlib.Omega.{arith}
@@ -57,5 +56,5 @@ returns-4 c =
 pub slot-fits-spec : {M : Type 1} → statement M
 slot-fits-spec =
     tie.close
-    (tie.spec (λ c. search needs) (λ c. omega (arith, c .shared-slice-known3 .given (c .before .before .before .args .i))) returns (λ c κs. search needs) returns-2 (λ c. search needs) (λ c κs. search needs) returns-3 (λ c κs. search needs)
-    add-to strips-fit-requires returns-4)
+    (tie.spec (λ c. search needs) (λ c. omega (arith, c .shared-slice-known3 .given (c .before .before .before .args .i))) returns
+    (λ c κs. search needs) returns-2 (λ c. search needs) (λ c κs. search needs) returns-3 (λ c κs. search needs) add-to strips-fit-requires returns-4)

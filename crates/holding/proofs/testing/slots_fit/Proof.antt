@@ -1,6 +1,5 @@
 -- `holding::testing::slots_fit` meets its contract. The loop's invariant: the whole test is that of what is left, after the n satellites of the slots
--- passed and the cells of their strips.
--- Assumes nothing.
+-- passed and the cells of their strips. Assumes nothing.
 use mathlib.Core.Path.{_≡_, sym, _∙_}
 use mathlib.Core.Bool.{false, _&&_}
 use mathlib.Core.List.{[]}
@@ -95,15 +94,9 @@ returns-3 c =
     let used = sym (c .before .slots-empty .ensures) ∙ not-true _ (c .if3 .taken) in
     sym (ends (c .before .before .before) ∙ rw (eq-eqb (a .loop .n) (a .before .before .before .before .before .before .args .nsat) (c .before .before .if2 .left), used))
 
-returns-4 : tie.Need-returns-4 Inv-loop μ-loop
-returns-4 c = sym (ends-in (c .before .before) ∙ rw (sym (c .before .strips-empty .ensures) ∙ not-true _ (c .if4 .taken)))
-
 returns-5 : tie.Need-returns-5 Inv-loop μ-loop
 returns-5 c =
     sym (ends-in (c .before .before .before) ∙ rw (sym (c .before .before .strips-empty .ensures) ∙ not-false _ (c .before .if4 .left)) (sym (c .cells-fit .ensures)))
-
-cells-fit-requires : tie.Need-cells-fit-requires Inv-loop μ-loop
-cells-fit-requires c κs = (omega arith, omega arith, sym (c .before .strips-empty .ensures) ∙ not-false _ (c .if4 .left))
 
 pub slots-fit-spec : {M : Type 1} → statement M
 slots-fit-spec =
@@ -111,4 +104,6 @@ slots-fit-spec =
     (tie.spec Inv-loop μ-loop loop-holds (λ c. search needs) (λ c. search needs) (λ c. search needs) (λ c. search needs) (λ c. search needs)
     (λ c κs. search needs) returns (λ c. search needs) (λ c. search needs) (λ c κs. search needs)
     (λ c. omega (arith, few (c .before .before), c .count .ensures)) (λ c. omega arith) (λ c. omega arith) loop-again returns-2 (λ c κs. search needs)
-    returns-3 (λ c κs. search needs) returns-4 cells-fit-requires returns-5)
+    returns-3 (λ c κs. search needs)
+    (λ c. sym (ends-in (c .before .before) ∙ rw (sym (c .before .strips-empty .ensures) ∙ not-true _ (c .if4 .taken))))
+    (λ c κs. (omega arith, omega arith, sym (c .before .strips-empty .ensures) ∙ not-false _ (c .if4 .left))) returns-5)

@@ -1,5 +1,4 @@
--- `passing::give::flags` meets its contract.
--- Assumes nothing.
+-- `passing::give::flags` meets its contract. Assumes nothing.
 use mathlib.Core.Path.{_∙_, ap}
 use mathlib.Core.Bool.{Bool, false}
 use mathlib.Core.List.{List, map, [], _∷_}

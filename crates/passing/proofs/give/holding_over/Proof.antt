@@ -1,5 +1,4 @@
--- `passing::give::holding_over` meets its contract.
--- Assumes nothing.
+-- `passing::give::holding_over` meets its contract. Assumes nothing.
 use mathlib.Core.Path.{_∙_, ap}
 use native.Mathlib.Omega.{arith}
 use borrow.Author.Needs.{needs}

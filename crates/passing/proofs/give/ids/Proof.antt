@@ -1,5 +1,4 @@
--- `passing::give::ids` meets its contract.
--- Assumes nothing.
+-- `passing::give::ids` meets its contract. Assumes nothing.
 use mathlib.Core.Path.{_∙_}
 use mathlib.Core.List.{[], _∷_}
 use native.Mathlib.Omega.{arith}

@@ -1,5 +1,4 @@
--- `passing::give::long` meets its contract.
--- Assumes nothing.
+-- `passing::give::long` meets its contract. Assumes nothing.
 use mathlib.Core.Path.{_∙_}
 use mathlib.Core.List.{[], _∷_}
 use Prim.Native.Nat.{_/_, _%_}

@@ -1,5 +1,4 @@
--- `passing::give::longs` meets its contract. The loop's invariant: so many numbers are written.
--- Assumes nothing.
+-- `passing::give::longs` meets its contract. The loop's invariant: so many numbers are written. Assumes nothing.
 use Prim.Native.Nat.{_-_}
 use native.Mathlib.Omega.{arith}
 use borrow.Author.Needs.{needs}
@@ -14,24 +13,12 @@ Inv-loop part₀ ns i₀ part i = Written 8 ns part₀ part i
 abbrev μ-loop : tie.MeasureT-loop
 μ-loop part₀ ns i₀ part i = length ns - i
 
-loop-holds : tie.Need-loop-holds Inv-loop μ-loop
-loop-holds c = written-none 8 (c .before .before .args .ns .now) (c .before .before .args .part .now) (c .before .before .pre .0)
-
 loop-again : tie.Need-loop-again Inv-loop μ-loop
-loop-again c =
-    let l = c .before .before .before .before .before .before in
-    let s = l .before .before .before in
-    written-one 8 (s .args .ns .now) (s .args .part .now) (s .pre .0) (l .loop .part) (l .loop .i) (omega arith) (l .loop .inv) _ (c .before .before .long .ensures)
-
-returns : tie.Need-returns Inv-loop μ-loop
-returns c =
-    let l = c .before in
-    let s = l .before .before .before in
-    written-all 8 (s .args .ns .now) (s .args .part .now) (s .pre .0) (l .loop .part) (l .loop .i) (omega arith) (l .loop .inv)
+loop-again c = written-one (omega arith) (c .before .before .before .before .before .before .loop .inv) (c .before .before .long .ensures)
 
 pub longs-spec : {M : Type 1} → statement M
 longs-spec =
     tie.close
-    (tie.spec Inv-loop μ-loop loop-holds (λ c. search needs) (λ c. search needs) (λ c. search needs) (λ c. search needs) (λ c. search needs)
-    (λ c. search needs) (λ c. search needs) (λ c. search needs) (λ c κs. search needs) (λ c. search needs) (λ c. search needs) loop-again
-    (λ c. c .before .loop .inv .1) returns)
+    (tie.spec Inv-loop μ-loop (λ c. written-none (c .before .before .pre .0)) (λ c. search needs) (λ c. search needs) (λ c. search needs)
+    (λ c. search needs) (λ c. search needs) (λ c. search needs) (λ c. search needs) (λ c. search needs) (λ c κs. search needs) (λ c. search needs)
+    (λ c. search needs) loop-again (λ c. c .before .loop .inv .same) (λ c. written-all (omega arith) (c .before .loop .inv)))

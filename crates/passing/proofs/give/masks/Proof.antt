@@ -1,5 +1,4 @@
--- `passing::give::masks` meets its contract.
--- Assumes nothing.
+-- `passing::give::masks` meets its contract. Assumes nothing.
 use native.Mathlib.Omega.{arith}
 use borrow.Author.Needs.{needs}
 use Rattle.passing.specs.Bytes.{partsOf}

@@ -1,5 +1,4 @@
--- `passing::give::names` meets its contract.
--- Assumes nothing.
+-- `passing::give::names` meets its contract. Assumes nothing.
 use mathlib.Core.List.{map}
 use native.Mathlib.Omega.{arith}
 use borrow.Author.Needs.{needs}

@@ -1,5 +1,4 @@
--- `passing::give::start` meets its contract.
--- Assumes nothing.
+-- `passing::give::start` meets its contract. Assumes nothing.
 use mathlib.Core.List.{[], _∷_}
 use Prim.Native.Nat.{_/_, _%_}
 use native.Mathlib.Omega.{arith}

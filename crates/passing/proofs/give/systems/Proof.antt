@@ -1,5 +1,4 @@
--- `passing::give::systems` meets its contract.
--- Assumes nothing.
+-- `passing::give::systems` meets its contract. Assumes nothing.
 use mathlib.Core.Path.{_∙_, _≡_}
 use mathlib.Core.List.{map, _++_, append-assoc}
 use native.Mathlib.Omega.{arith}

@@ -1,5 +1,4 @@
--- `passing::give::word` meets its contract.
--- Assumes nothing.
+-- `passing::give::word` meets its contract. Assumes nothing.
 use mathlib.Core.Path.{_∙_}
 use mathlib.Core.List.{[], _∷_}
 use Prim.Native.Nat.{_/_, _%_}
@@ -15,6 +14,4 @@ returns c =
     stored-all (x .part .now) (x .n % 256 ∷ x .n / 256 ∷ []) (c .pre) ∙ two-parts (x .n) (c .fits .n .fits)
 
 pub word-spec : {M : Type 1} → statement M
-word-spec =
-    tie.close
-    (tie.spec (λ c. search needs) (λ c. search needs) (λ c. search needs) (λ c. search needs) (λ c. search needs) returns)
+word-spec = tie.close (tie.spec (λ c. search needs) (λ c. search needs) (λ c. search needs) (λ c. search needs) (λ c. search needs) returns)

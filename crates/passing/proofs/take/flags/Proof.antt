@@ -1,5 +1,4 @@
--- `passing::take::flags` meets its contract.
--- Assumes nothing.
+-- `passing::take::flags` meets its contract. Assumes nothing.
 use mathlib.Core.Path.{sym, ap}
 use mathlib.Core.List.{List, map}
 use Prim.Native.Nat.{ℕ}
@@ -17,4 +16,5 @@ returns c = ap (λ (l : List ℕ). map truth l) (sym (five 0 (c .before .before 
 pub flags-spec : {M : Type 1} → statement M
 flags-spec =
     tie.close
-    (tie.spec (λ c. search needs) (λ c. search needs) (λ c. search needs) (λ c. search needs) (λ c. search needs) returns)
+    (tie.spec (λ c. search needs) (λ c. search needs) (λ c. search needs) (λ c. search needs) (λ c. search needs) (λ c. search needs)
+    (λ c. search needs) (λ c. search needs) (λ c. search needs) returns)

@@ -1,5 +1,4 @@
--- `passing::take::holding_in` meets its contract.
--- Assumes nothing.
+-- `passing::take::holding_in` meets its contract. Assumes nothing.
 use mathlib.Core.Path.{_∙_, sym}
 use lib.ListN.{length, getD}
 use native.Mathlib.Omega.{arith}

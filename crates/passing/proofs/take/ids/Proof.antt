@@ -1,5 +1,4 @@
--- `passing::take::ids` meets its contract.
--- Assumes nothing.
+-- `passing::take::ids` meets its contract. Assumes nothing.
 use mathlib.Core.Path.{sym}
 use borrow.Author.Needs.{needs}
 use native.Mathlib.Omega.{arith}
@@ -7,10 +6,9 @@ use Rattle.passing.proofs.Littles.{five}
 use Rattle.passing.proofs.take.ids.Statement.{statement}
 use Rattle.passing.proofs.take.ids.Tie as tie
 
-returns : tie.Need-returns
-returns c = sym (five 0 (c .before .before .before .before .before .args .bytes .now) 6 (omega arith))
-
 pub ids-spec : {M : Type 1} → statement M
 ids-spec =
     tie.close
-    (tie.spec (λ c. search needs) (λ c. search needs) (λ c. search needs) (λ c. search needs) (λ c. search needs) returns)
+    (tie.spec (λ c. search needs) (λ c. search needs) (λ c. search needs) (λ c. search needs) (λ c. search needs) (λ c. search needs)
+    (λ c. search needs) (λ c. search needs) (λ c. search needs)
+    (λ c. sym (five 0 (c .before .before .before .before .before .args .bytes .now) 6 (omega arith))))

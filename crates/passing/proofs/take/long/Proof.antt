@@ -1,5 +1,4 @@
--- `passing::take::long` meets its contract.
--- Assumes nothing.
+-- `passing::take::long` meets its contract. Assumes nothing.
 use mathlib.Core.Path.{_∙_}
 use borrow.Author.Needs.{needs}
 use Rattle.passing.proofs.Littles.{long-at}

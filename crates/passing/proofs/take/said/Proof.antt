@@ -1,16 +1,9 @@
--- `passing::take::said` meets its contract.
--- Assumes nothing.
+-- `passing::take::said` meets its contract. Assumes nothing.
 use native.Mathlib.Omega.{arith}
 use borrow.Author.Needs.{needs}
 use Rattle.passing.specs.Passing.{truth, said}
 use Rattle.passing.proofs.take.said.Statement.{statement}
 use Rattle.passing.proofs.take.said.Tie as tie
-
-cast-t9 : tie.Need-cast-t9
-cast-t9 c = record { fits = omega (arith, c .shared-slice-known4 .given 2) }
-
-cast-t17 : tie.Need-cast-t17
-cast-t17 c = record { fits = omega (arith, c .shared-slice-known5 .given 3) }
 
 returns : tie.Need-returns
 unfolding said truth
@@ -20,5 +13,6 @@ returns c =
 pub said-spec : {M : Type 1} → statement M
 said-spec =
     tie.close
-    (tie.spec (λ c. search needs) (λ c. search needs) (λ c. search needs) cast-t9 (λ c κs. search needs) (λ c κs. search needs) (λ c κs. search needs)
-    (λ c κs. search needs) (λ c κs. search needs) (λ c. search needs) cast-t17 (λ c κs. search needs) (λ c. search needs) returns)
+    (tie.spec (λ c. search needs) (λ c. search needs) (λ c. search needs) (λ c. record { fits = omega (arith, c .shared-slice-known4 .given 2) })
+    (λ c κs. search needs) (λ c κs. search needs) (λ c κs. search needs) (λ c κs. search needs) (λ c κs. search needs) (λ c. search needs)
+    (λ c. record { fits = omega (arith, c .shared-slice-known5 .given 3) }) (λ c κs. search needs) (λ c. search needs) returns)

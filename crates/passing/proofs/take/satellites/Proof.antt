@@ -1,5 +1,4 @@
--- `passing::take::satellites` meets its contract.
--- Assumes nothing.
+-- `passing::take::satellites` meets its contract. Assumes nothing.
 use mathlib.Core.Path.{sym}
 use borrow.Author.Needs.{needs}
 use Rattle.passing.proofs.Littles.{five-littles}
@@ -14,4 +13,5 @@ returns c =
 pub satellites-spec : {M : Type 1} → statement M
 satellites-spec =
     tie.close
-    (tie.spec (λ c κs. search needs) (λ c κs. search needs) (λ c κs. search needs) (λ c κs. search needs) (λ c κs. search needs) returns)
+    (tie.spec (λ c κs. search needs) (λ c. search needs) (λ c κs. search needs) (λ c. search needs) (λ c κs. search needs) (λ c. search needs)
+    (λ c κs. search needs) (λ c. search needs) (λ c κs. search needs) returns)

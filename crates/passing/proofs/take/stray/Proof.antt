@@ -1,5 +1,4 @@
--- `passing::take::stray` meets its contract.
--- Assumes nothing.
+-- `passing::take::stray` meets its contract. Assumes nothing.
 use mathlib.Core.Path.{_∙_, ap}
 use borrow.Author.Needs.{needs}
 use mathlib.Core.Bool.{false}
@@ -20,7 +19,4 @@ unfolding stray
 returns c = c .with-system .ensures ∙ ap (λ (h : Holding). withSystem h 0 0 0 false) (c .before .empty .ensures)
 
 pub stray-spec : {M : Type 1} → statement M
-stray-spec = tie.close (tie.spec
-    (λ c κs. search needs)
-    with-system-requires
-    returns)
+stray-spec = tie.close (tie.spec (λ c κs. search needs) with-system-requires returns)

@@ -1,5 +1,4 @@
--- `passing::take::strips` meets its contract. The loop's invariant: the strips passed are the numbers in their bytes.
--- Assumes nothing.
+-- `passing::take::strips` meets its contract. The loop's invariant: the strips passed are the numbers in their bytes. Assumes nothing.
 use mathlib.Core.Path.{_≡_, refl, sym, ap, _∙_}
 use mathlib.Core.List.{List}
 use Prim.Native.Nat.{ℕ, _-_, _*_, _≤_}
@@ -22,9 +21,6 @@ abbrev μ-loop : tie.MeasureT-loop
 loop-holds : tie.Need-loop-holds Inv-loop μ-loop
 unfolding littles
 loop-holds c = (omega arith, refl, refl)
-
-array-write-strips : tie.Need-array-write-strips Inv-loop μ-loop
-array-write-strips c = omega arith
 
 loop-again : tie.Need-loop-again Inv-loop μ-loop
 loop-again c =
@@ -50,5 +46,5 @@ returns c =
 pub strips-spec : {M : Type 1} → statement M
 strips-spec =
     tie.close
-    (tie.spec Inv-loop μ-loop loop-holds (λ c. search needs) (λ c. search needs) (λ c κs. search needs) (λ c. search needs) array-write-strips
+    (tie.spec Inv-loop μ-loop loop-holds (λ c. search needs) (λ c. search needs) (λ c κs. search needs) (λ c. search needs) (λ c. omega arith)
     (λ c. search needs) (λ c. search needs) loop-again returns)

@@ -1,5 +1,4 @@
--- `passing::take::word` meets its contract.
--- Assumes nothing.
+-- `passing::take::word` meets its contract. Assumes nothing.
 use native.Mathlib.Omega.{arith}
 use Prim.Native.Nat.{_+_}
 use borrow.Author.Needs.{needs}
@@ -7,30 +6,13 @@ use Rattle.passing.proofs.Littles.{word-at}
 use Rattle.passing.proofs.take.word.Statement.{statement}
 use Rattle.passing.proofs.take.word.Tie as tie
 
-cast-result : tie.Need-cast-result
-cast-result c = record { fits = omega (arith, c .shared-slice-known .given (c .before .args .i)) }
-
-cast-result-2 : tie.Need-cast-result-2
-cast-result-2 c = record { fits = omega (arith, c .shared-slice-known2 .given (c .before .before .args .i + 1)) }
-
-mul-result : tie.Need-mul-result
-mul-result c = record { fits = omega (arith, c .shared-slice-known2 .given (c .before .before .args .i + 1)) }
-
 add-result-2 : tie.Need-add-result-2
 add-result-2 c = record { fits = omega (arith, c .before .shared-slice-known .given (c .before .before .args .i), c .shared-slice-known2 .given (c .before .before .args .i + 1)) }
-
-returns : tie.Need-returns
-returns c = word-at (c .before .before .args .bytes .now) (c .before .before .args .i)
 
 pub word-spec : {M : Type 1} → statement M
 word-spec =
     tie.close
-    (tie.spec
-    (λ c. search needs)
-    cast-result
-    (λ c. search needs)
-    (λ c. search needs)
-    cast-result-2
-    mul-result
-    add-result-2
-    returns)
+    (tie.spec (λ c. search needs) (λ c. record { fits = omega (arith, c .shared-slice-known .given (c .before .args .i)) }) (λ c. search needs)
+    (λ c. search needs) (λ c. record { fits = omega (arith, c .shared-slice-known2 .given (c .before .before .args .i + 1)) })
+    (λ c. record { fits = omega (arith, c .shared-slice-known2 .given (c .before .before .args .i + 1)) }) add-result-2
+    (λ c. word-at (c .before .before .args .bytes .now) (c .before .before .args .i)))

@@ -1,5 +1,4 @@
--- `reader::raw::raw` meets its contract.
--- Assumes nothing.
+-- `reader::raw::raw` meets its contract. Assumes nothing.
 use mathlib.Core.Path.{_∙_, sym}
 use borrow.Author.Needs.{needs}
 use borrow.Author.Tests.{not-true, not-false}

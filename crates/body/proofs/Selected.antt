@@ -1,38 +1,21 @@
--- Picking by the bits of a 64-bit selection: its first bit, the selection moved up, all of it, and how many it picks.
--- Assumes nothing.
+-- Picking by the bits of a 64-bit selection: its first bit, the selection moved up, all of it, and how many it picks. Assumes nothing.
 use mathlib.Core.Path.{_≡_, refl, sym, ap, _∙_}
-use mathlib.Core.Bool.{Bool, true, false}
+use mathlib.Core.Bool.{Bool}
 use mathlib.Core.List.{List, [], _∷_, _++_}
-use Prim.Native.Nat.{ℕ, zero, suc, _+_, _-_, _*_, _/_, _%_, _^_, _≤_, _<_}
-use native.Mathlib.Nat.{zero-div, mul-mod-left, mod-lt, le-of-suc-le-suc}
+use Prim.Native.Nat.{ℕ, _+_, _-_, _*_, _/_, _%_, _^_, _≤_, _<_}
+use native.Mathlib.Nat.{mul-mod-left, mod-lt}
 use native.Mathlib.Omega.{arith}
 use lib.Count.{ones}
-use lib.ListN.{length, take, drop, replicate}
+use lib.ListN.{length, take, drop}
 use lib.Pow.{pow-pos, split, shl-shr, mod-pow-add, shr-lt}
 use lib.Seq.{take-at}
 use Rattle.bits.proofs.BitLists.{length-spell, spell-low, spell-append}
 use Rattle.bits.specs.BitLists.{spell}
 use Rattle.format.specs.Masks.{placesFrom, pick}
-use Rattle.holding.proofs.PicturedCells.{pick-nil, pick-append}
+use Rattle.format.proofs.Picks.{pick-nil, pick-append, pick-filled, pick-count}
 use Rattle.holding.proofs.Places.{ones-places, drop-spell}
 
 -- ---- a selection moved up
-
-module _ {A : Type 0} where
-  -- zeros pick nothing
-  pick-zeros : (n : ℕ) (xs : List A) → pick (spell n 0) xs ≡ []
-  unfolding pick spell
-  pick-zeros zero xs = refl
-  pick-zeros (suc n) [] = refl
-  pick-zeros (suc n) (x ∷ xs) = rw (zero-div (2 ^ n)) (pick-zeros n xs)
-
-  -- nor do they behind other bits
-  pick-filled : (bits : List Bool) (n : ℕ) (xs : List A) → pick (bits ++ spell n 0) xs ≡ pick bits xs
-  unfolding pick
-  pick-filled [] n xs = pick-zeros n xs
-  pick-filled (b ∷ bits) n [] = refl
-  pick-filled (true ∷ bits) n (x ∷ xs) = ap (λ (l : List A). x ∷ l) (pick-filled bits n xs)
-  pick-filled (false ∷ bits) n (x ∷ xs) = pick-filled bits n xs
 
 -- the bits left of a number that was moved up
 spell-up : (u n c : ℕ) → spell (u + n) (c * 2 ^ n % 2 ^ (u + n)) ≡ spell u c ++ spell n 0
@@ -75,36 +58,6 @@ module _ {A : Type 0} where
 
   pub pick-clear : (c : ℕ) (x : A) (xs : List A) → c < 2 ^ 63 → pick (spell 64 c) (x ∷ xs) ≡ pick (spell 64 (c * 2 ^ 1 % 2 ^ 64)) xs
   pick-clear c x xs clear = pick-split c 1 (x ∷ []) xs refl (omega arith) ∙ ap (λ (l : List A). l ++ pick (spell 64 (c * 2 ^ 1 % 2 ^ 64)) xs) (pick-none c x clear)
-
-  -- ---- all
-
-  pick-trues : (n : ℕ) (xs : List A) → length xs ≤ n → pick (replicate n true) xs ≡ xs
-  unfolding pick
-  pick-trues n [] few = pick-nil (replicate n true)
-  pick-trues zero (x ∷ xs) few = absurd (omega arith)
-  pick-trues (suc n) (x ∷ xs) few = ap (λ (l : List A). x ∷ l) (pick-trues n xs (le-of-suc-le-suc few))
-
-  -- all ones pick all
-  pub pick-all : (xs : List A) → length xs ≤ 64 → pick (spell 64 18446744073709551615) xs ≡ xs
-  unfolding spell
-  pick-all xs few = pick-trues 64 xs few
-
-  -- ---- how many
-
-  pub pick-few : (bits : List Bool) (xs : List A) → length (pick bits xs) ≤ length xs
-  unfolding pick
-  pick-few [] xs = omega arith
-  pick-few (b ∷ bits) [] = omega arith
-  pick-few (true ∷ bits) (x ∷ xs) = omega (arith, pick-few bits xs)
-  pick-few (false ∷ bits) (x ∷ xs) = omega (arith, pick-few bits xs)
-
-  pick-count : (bits : List Bool) (xs : List A) (k : ℕ) → length (pick bits xs) ≡ length (placesFrom k (take (length xs) bits))
-  unfolding pick placesFrom
-  pick-count [] [] k = refl
-  pick-count [] (x ∷ xs) k = refl
-  pick-count (b ∷ bits) [] k = refl
-  pick-count (true ∷ bits) (x ∷ xs) k = ap suc (pick-count bits xs (suc k))
-  pick-count (false ∷ bits) (x ∷ xs) k = pick-count bits xs (suc k)
 
 -- the first bits of a number
 take-spell : (n z c : ℕ) → take n (spell (n + z) c) ≡ spell n (c / 2 ^ z)
