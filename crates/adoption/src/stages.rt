@@ -15,12 +15,8 @@ use holding::assigned;
 use holding::named;
 use holding::set_places;
 
-// How many bits an ID and the two masks have.
+// How many bits an ID has.
 const ID: usize = 4;
-
-const SATELLITE_MASK: usize = 40;
-
-const SIGNAL_MASK: usize = 16;
 
 // An ID that is known and new, and the place after it; or the refusal and how many bits were missing.
 pub enum Named {
@@ -61,14 +57,14 @@ fn read_signals(id: u8, satellites: u64, bytes: &[u8], end: usize, place: usize)
     ensures { λ r. ⌜ endMasked r ≡ endFrom (systemSignals id (spell 40 satellites)) (now (bytes .entry)) end place ⌝ }
     ensures { λ r. ⌜ FitsMasked r ⌝ }
 {
-    let taken = take_field(bytes, end, place, SIGNAL_MASK);
+    let taken = take_field(bytes, end, place, Holding::SIGNAL_MASK);
     match taken {
         Taken::Short(missing) => Masked::Refused(Refusal::Short, missing),
         Taken::Whole(signals) => {
             if !assigned::signals_assigned(id as usize, signals) {
                 return Masked::Refused(Refusal::Reserved, 0);
             }
-            Masked::Fine(satellites, signals as u16, place + SIGNAL_MASK)
+            Masked::Fine(satellites, signals as u16, place + Holding::SIGNAL_MASK)
         }
     }
 }
@@ -79,7 +75,7 @@ pub fn read_masks(n: usize, id: u8, bytes: &[u8], end: usize, place: usize) -> M
     ensures { λ r. ⌜ endMasked r ≡ endFrom (systemMasks n id) (now (bytes .entry)) end place ⌝ }
     ensures { λ r. ⌜ FitsMasked r ⌝ }
 {
-    let taken = take_field(bytes, end, place, SATELLITE_MASK);
+    let taken = take_field(bytes, end, place, Holding::SATELLITE_MASK);
     match taken {
         Taken::Short(missing) => Masked::Refused(Refusal::Short, missing),
         Taken::Whole(satellites) => {
@@ -89,7 +85,7 @@ pub fn read_masks(n: usize, id: u8, bytes: &[u8], end: usize, place: usize) -> M
             if n + set_places::count(satellites) > Holding::SATELLITES {
                 return Masked::Refused(Refusal::Size, 0);
             }
-            read_signals(id, satellites, bytes, end, place + SATELLITE_MASK)
+            read_signals(id, satellites, bytes, end, place + Holding::SATELLITE_MASK)
         }
     }
 }

@@ -38,7 +38,7 @@ use Rattle.table.specs.declared.Keys.the-variants.{Satellites, Cells, Parts}
 use Rattle.table.specs.Bodies.{linesOver, linesIn, FitsKeys, Fits}
 use Rattle.body.specs.Chosen.{alone, cellsIn, striped, chosenLines}
 use Rattle.body.specs.Written.{Room, Counts}
-use Rattle.body.proofs.Groups.{alone-chosen, striped-chosen}
+use Rattle.body.proofs.Groups.{no-cells, alone-chosen, striped-chosen}
 use Rattle.body.proofs.Sizes.{Few, few-satellites, total-most, satellites-alike}
 use Rattle.body.proofs.Slots.{count-of}
 
@@ -56,11 +56,6 @@ made-columns : (shape : ℕ) (t : Shape) → t ≡ shapeFor shape → columnsIn 
 made-columns shape t made = ap columnsIn made ∙ (λ i system. columns-in system shape i)
 
 -- ---- the cells of satellites that are chosen
-
-no-cells : (sats : List Satellite) → stripCells sats [] ≡ []
-unfolding stripCells
-no-cells [] = refl
-no-cells (sat ∷ sats) = refl
 
 cells-few : (bits : List Bool) (sats : List Satellite) (strips : List ℕ) → length (stripCells (pick bits sats) (pick bits strips)) ≤ length (stripCells sats strips)
 unfolding stripCells pick

@@ -28,6 +28,11 @@ pub narrow-in : (s : Shape) (system : ℕ) → Narrow s → columnsOf s ≡ colu
 unfolding columnsOf columnsIn
 narrow-in s system thin = rw (thin .iode)
 
+pub no-cells : (sats : List Satellite) → stripCells sats [] ≡ []
+unfolding stripCells
+no-cells [] = refl
+no-cells (sat ∷ sats) = refl
+
 module _ (shape : ℕ → List Column) where
   -- ---- one line for each
 
@@ -99,10 +104,6 @@ module _ (shape : ℕ → List Column) where
   flatten-striped (b ∷ bits) [] strips = refl
   flatten-striped (true ∷ bits) (sat ∷ sats) [] = refl
   flatten-striped (false ∷ bits) (sat ∷ sats) [] = ap (cellLines shape) (sym (no-cells (pick bits sats)))
-    where
-      no-cells : (sats : List Satellite) → stripCells sats [] ≡ []
-      no-cells [] = refl
-      no-cells (sat ∷ sats) = refl
   flatten-striped (true ∷ bits) (sat ∷ sats) (strip ∷ strips) = rw (flatten-striped bits sats strips, map-append)
   flatten-striped (false ∷ bits) (sat ∷ sats) (strip ∷ strips) = flatten-striped bits sats strips
 

@@ -33,6 +33,9 @@ pub enum Refusal {
 // What isn't there, in a head or a row.
 pub const ABSENT: i32 = -32768;
 
+// The most bits of a stretch: 30 data parts of 1,695.
+pub const STRETCH: usize = 50850;
+
 // How many numbers a row buffer must have: 256 rows of eight.
 pub const ROOM: usize = 2048;
 

@@ -34,14 +34,12 @@ pub struct Holding {
 }
 
 impl Holding {
-    // Document 01's limits: systems, whose IDs are below it; satellites and cells over all of them; bits of a stretch.
+    // Document 01's limits: systems, whose IDs are below it; satellites and cells over all of them.
     pub const SYSTEMS: usize = 5;
 
     pub const SATELLITES: usize = 64;
 
     pub const CELLS: usize = 256;
-
-    pub const BITS: usize = 50850;
 
     // The widths of a system's satellite mask and of its signal mask.
     pub const SATELLITE_MASK: usize = 40;

@@ -8,7 +8,7 @@ ghost use Rattle.format.specs.Answers.{numberOf};
 ghost use Rattle.format.specs.Good.{isHolding};
 ghost use Rattle.format.specs.Messages.{maskMessage};
 ghost use Rattle.format.specs.Programs.{run};
-ghost use Rattle.format.specs.Reading.{bitsFrom, lentAfter, answerOf, over, rowsAfter};
+ghost use Rattle.format.specs.Reading.{stretchLimit, bitsFrom, lentAfter, answerOf, over, rowsAfter};
 ghost use Rattle.heads.specs.Sorting.{adoptedBy};
 ghost use Rattle.holding.specs.Pictures.{maskOf, sound};
 ghost use Rattle.passing.specs.Passing.{size, bytesOf};
@@ -129,7 +129,7 @@ fn hand(answer: Answer, start: usize) -> Handed
 
 // Adopts the mask message behind its number and sub type: where it is accepted, the holding's bytes are the mask's.
 fn adopt(holding: &mut [u8], held: Holding, bytes: &[u8], end: usize, place: usize) -> Answer
-    requires { ⌜ (end ≤ 8 * length (now bytes)) × (end ≤ 50850) × (place ≤ end) × (sound held ≡ true) × (size ≤ length (now holding)) × (over (bytesOf held) (now holding) ≡ now holding) × (isHolding (lentAfter (adoptedBy (maskOf held) place (run maskMessage (bitsFrom (now bytes) end place)))) ≡ true) ⌝ }
+    requires { ⌜ (end ≤ 8 * length (now bytes)) × (end ≤ stretchLimit) × (place ≤ end) × (sound held ≡ true) × (size ≤ length (now holding)) × (over (bytesOf held) (now holding) ≡ now holding) × (isHolding (lentAfter (adoptedBy (maskOf held) place (run maskMessage (bitsFrom (now bytes) end place)))) ≡ true) ⌝ }
     ensures { λ r. ⌜ r ≡ answerOf (adoptedBy (maskOf held) place (run maskMessage (bitsFrom (now (bytes .entry)) end place))) ⌝ }
     ensures { λ _. ⌜ now (holding .exit) ≡ bytesAfter (lentAfter (adoptedBy (maskOf held) place (run maskMessage (bitsFrom (now (bytes .entry)) end place)))) (now (holding .entry)) ⌝ }
 {

@@ -12,6 +12,7 @@ use crate::message::find;
 use format::Answer;
 use format::ROOM;
 use format::Refusal;
+use format::STRETCH;
 use heads::OPENING;
 use holding::Holding;
 
@@ -25,7 +26,7 @@ pub struct Reading {
 pub fn is_placed(bytes: &[u8], end: usize, start: usize) -> bool
     ensures { λ r. ⌜ r ≡ placed (now (bytes .entry)) end start ⌝ }
 {
-    if end > Holding::BITS {
+    if end > STRETCH {
         return false;
     }
     if bytes.len() < (end + 7) / 8 {

@@ -5,7 +5,7 @@ ghost use Prim.Native.Nat.{_*_, _≤_};
 ghost use lib.ListN.{length};
 ghost use Rattle.format.specs.Messages.{maskMessage};
 ghost use Rattle.format.specs.Programs.{run};
-ghost use Rattle.format.specs.Reading.{answerOf, rowsAfter, bitsFrom};
+ghost use Rattle.format.specs.Reading.{stretchLimit, rowRoom, answerOf, rowsAfter, bitsFrom};
 ghost use Rattle.heads.specs.Headings.{saidBy, FitsHeading};
 ghost use Rattle.heads.specs.Sorting.{headedAt, adoptedBy};
 ghost use Rattle.holding.specs.Held.{viewOf};
@@ -27,7 +27,7 @@ use table::kind_of;
 
 // The body that a heading says: its length is tested once, and only then are its rows written.
 fn body_of(holding: Holding, heading: Heading, bytes: &[u8], end: usize, rows: &mut [i32]) -> Answer
-    requires { ⌜ (sound holding ≡ true) × FitsHeading heading × Begins end (saidBy (viewOf holding) heading) × (end ≤ 8 * length (now bytes)) × (end ≤ 50850) × (2048 ≤ length (now rows)) ⌝ }
+    requires { ⌜ (sound holding ≡ true) × FitsHeading heading × Begins end (saidBy (viewOf holding) heading) × (end ≤ 8 * length (now bytes)) × (end ≤ stretchLimit) × (rowRoom ≤ length (now rows)) ⌝ }
     ensures { λ r. ⌜ r ≡ answerOf (headedAt (maskOf holding) (now (bytes .entry)) end (saidBy (viewOf holding) heading)) ⌝ }
     ensures { λ _. ⌜ now (rows .exit) ≡ rowsAfter (headedAt (maskOf holding) (now (bytes .entry)) end (saidBy (viewOf holding) heading)) (now (rows .entry)) ⌝ }
 {
@@ -50,7 +50,7 @@ fn body_of(holding: Holding, heading: Heading, bytes: &[u8], end: usize, rows: &
 
 // A mask message behind its number and sub type.
 pub fn adopted(holding: Holding, bytes: &[u8], end: usize, place: usize) -> Reading
-    requires { ⌜ (end ≤ 8 * length (now bytes)) × (end ≤ 50850) × (place ≤ end) × (sound holding ≡ true) ⌝ }
+    requires { ⌜ (end ≤ 8 * length (now bytes)) × (end ≤ stretchLimit) × (place ≤ end) × (sound holding ≡ true) ⌝ }
     ensures { λ r. ⌜ r ≡ readingOf holding (adoptedBy (maskOf holding) place (run maskMessage (bitsFrom (now (bytes .entry)) end place))) ⌝ }
 {
     let adoption = adoption::adopt(holding, bytes, end, place);
@@ -87,7 +87,7 @@ pub enum Found {
 // Reads any message but a mask. Number and sub type come first: where they are read, some bit is set. What was held is
 // held after it, so that it is handed to the body alone: each step more would be a copy.
 pub fn find(holding: Holding, bytes: &[u8], end: usize, start: usize, rows: &mut [i32]) -> Found
-    requires { ⌜ (sound holding ≡ true) × (end ≤ 8 * length (now bytes)) × (end ≤ 50850) × (start ≤ end) × (2048 ≤ length (now rows)) ⌝ }
+    requires { ⌜ (sound holding ≡ true) × (end ≤ 8 * length (now bytes)) × (end ≤ stretchLimit) × (start ≤ end) × (rowRoom ≤ length (now rows)) ⌝ }
     ensures { λ r. ⌜ r ≡ foundAt holding (now (bytes .entry)) end start ⌝ }
     ensures { λ _. ⌜ now (rows .exit) ≡ rowsAfter (readAt holding (now (bytes .entry)) end start) (now (rows .entry)) ⌝ }
 {

@@ -1,7 +1,7 @@
 -- `heads::heading::gated` meets its contract. Assumes nothing.
 use mathlib.Core.Path.{_≡_, ap, refl}
 use mathlib.Core.Bool.{Bool, true, false, cond}
-use Prim.Native.Nat.{ℕ, _≤_, _<_}
+use Prim.Native.Nat.{ℕ, _-_, _^_}
 use native.Mathlib.Omega.{arith}
 use borrow.Author.Needs.{needs}
 use borrow.Author.Tests.{eq-eqb, ne-eqb, not-true, not-false}
@@ -53,20 +53,20 @@ module _ (n : ℕ) (l : Layout) (sky : Sky) (h : Messages.Common) where
 
 -- rows alone go over all that is seen
 module _ (v : View) (n : ℕ) (shows : Shows v n) (shape : ℕ) where
-  all-satellites : linesOver v (Satellites 18446744073709551615) shape ≡ overSatellites (shapeAt shape) (skyIn v)
+  all-satellites : linesOver v (Satellites (2 ^ 64 - 1)) shape ≡ overSatellites (shapeAt shape) (skyIn v)
   unfolding linesOver overSatellites skyIn
   all-satellites = rw (pick-all (v .satellites) (omega (arith, shows .count, shows .few)))
 
-  all-cells : linesOver v (Cells 18446744073709551615) shape ≡ overCells (shapeAt shape) (skyIn v)
+  all-cells : linesOver v (Cells (2 ^ 64 - 1)) shape ≡ overCells (shapeAt shape) (skyIn v)
   unfolding linesOver overCells skyIn
   all-cells = rw (pick-all (v .satellites) (omega (arith, shows .count, shows .few)), pick-all (v .strips) (shows .strips))
 
-alone-lines : (l : Layout) (v : View) (n : ℕ) → Shows v n → linesOver v (keysFor (l .cells) 18446744073709551615) (l .shape) ≡ overBy l (skyIn v)
+alone-lines : (l : Layout) (v : View) (n : ℕ) → Shows v n → linesOver v (keysFor (l .cells) (2 ^ 64 - 1)) (l .shape) ≡ overBy l (skyIn v)
 unfolding keysFor overBy
 alone-lines l v n shows = go (l .cells)
   where
     go : (b : Bool)
-        → linesOver v (cond b (Cells 18446744073709551615) (Satellites 18446744073709551615)) (l .shape)
+        → linesOver v (cond b (Cells (2 ^ 64 - 1)) (Satellites (2 ^ 64 - 1))) (l .shape)
         ≡ cond b (overCells (shapeAt (l .shape))) (overSatellites (shapeAt (l .shape))) (skyIn v)
     go true = all-cells v n shows (l .shape)
     go false = all-satellites v n shows (l .shape)
