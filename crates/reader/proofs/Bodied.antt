@@ -9,7 +9,7 @@ use Rattle.format.specs.declared.Answer.the-variants as Answers
 use Rattle.format.specs.declared.Head.{Head}
 use Rattle.format.specs.declared.Refusal.the-variants.{Short}
 use Rattle.format.specs.Masks.{Held, lent}
-use Rattle.format.specs.Programs.{Ended, well, badly}
+use Rattle.format.specs.Programs.{well}
 use Rattle.format.specs.Reading.{Outcome, accepted, refused, answerOf}
 use Rattle.format.specs.Rows.{Line, shapeWidth, bodyWidth}
 use Rattle.format.specs.Table.{Message}

@@ -1,10 +1,10 @@
 -- What is lent as a struct, and what is lent after a reading as that struct again. Assumes nothing.
-use mathlib.Core.Path.{_≡_, refl, ap, _∙_}
+use mathlib.Core.Path.{_≡_, refl}
 use mathlib.Core.Bool.{Bool, true, false, cond}
 use Rattle.format.specs.Good.{isHolding}
-use Rattle.format.specs.Masks.{Lent, stray, lent, heldIn}
+use Rattle.format.specs.Masks.{stray, lent}
 use Rattle.holding.specs.declared.Holding.{Holding}
-use Rattle.holding.specs.Pictures.{pictureOf, maskOf, sound}
+use Rattle.holding.specs.Pictures.{maskOf, sound}
 use Rattle.holding.proofs.Sounds.{sounds}
 use Rattle.reader.specs.Readings.{lentBy, structOf}
 

@@ -1,6 +1,6 @@
 -- The outcome of a reading by the tests of what is lent. Assumes nothing.
-use mathlib.Core.Path.{_≡_, refl, sym, ap, _∙_}
-use mathlib.Core.Bool.{Bool, true, false, cond}
+use mathlib.Core.Path.{_≡_, refl, sym, _∙_}
+use mathlib.Core.Bool.{Bool, true, false}
 use mathlib.Core.List.{List, [], _∷_}
 use Prim.Native.Nat.{ℕ, _≤_}
 use native.Mathlib.Omega.{arith}
@@ -9,7 +9,6 @@ use lib.IntN.{ℤ}
 use lib.ListN.{length}
 use borrow.Author.Tests.{leb-true}
 use denote.Enum.Declared.{tagOf}
-use Rattle.format.specs.declared.Refusal.{Refusal}
 use Rattle.format.specs.declared.Refusal.the-variants.{Room, Place, Value}
 use Rattle.format.specs.Good.{isHolding}
 use Rattle.format.specs.Masks.{Lent, heldIn}
@@ -18,7 +17,7 @@ use Rattle.format.specs.Table.{table}
 use Rattle.format.specs.Tests.{Test, verdict}
 use Rattle.format.proofs.Placed.{Inside, inside}
 use Rattle.holding.specs.declared.Holding.{Holding}
-use Rattle.holding.specs.Pictures.{maskOf, sound}
+use Rattle.holding.specs.Pictures.{sound}
 use Rattle.reader.specs.declared.Verdict.{Verdict}
 use Rattle.reader.specs.declared.Verdict.the-variants.{Good, Refused}
 use Rattle.reader.specs.Readings.{lentBy, outcomeAt, testsOf, testedBy, readAt}

@@ -2,7 +2,7 @@
 use mathlib.Core.Path.{_≡_, refl, sym, ap, subst, _∙_}
 use mathlib.Core.List.{List, [], flatten}
 use mathlib.Core.Logic.{_⊎_, inl, inr}
-use Prim.Native.Nat.{ℕ, _+_, _≤_}
+use Prim.Native.Nat.{ℕ, _+_}
 use native.Mathlib.Nat.{add-zero}
 use native.Mathlib.Omega.{arith}
 use lib.IntN.{ℤ}
@@ -11,10 +11,10 @@ use denote.Enum.Declared.{tagOf}
 use Rattle.format.specs.declared.Answer.{Answer}
 use Rattle.format.specs.declared.Answer.the-variants as Answers
 use Rattle.format.specs.declared.Head.{Head}
-use Rattle.format.specs.Reading.{Outcome, accepted, idle, refused, bitsFrom, lentAfter, answerOf, over, rowsAfter}
+use Rattle.format.specs.Reading.{Outcome, accepted, idle, refused, lentAfter, answerOf, over, rowsAfter}
 use Rattle.format.specs.Masks.{Held, mask}
-use Rattle.format.specs.Messages.{Adopted, maskMessage}
-use Rattle.format.specs.Programs.{Ended, well, badly, run}
+use Rattle.format.specs.Messages.{Adopted}
+use Rattle.format.specs.Programs.{Ended, well, badly}
 use Rattle.format.specs.Table.{Message}
 use Rattle.format.proofs.Answer as Answer
 use Rattle.format.proofs.Stops.{Stopped, stop-leaves}
@@ -28,7 +28,6 @@ use Rattle.reader.specs.Readings.{structOf, holdingAfter, readingOf, readAt, fo
 use Rattle.reader.proofs.Findings.{FoundMask, found-mask, FoundAnswer, found-answer, adopted-rows}
 use Rattle.reader.proofs.Lents.{kept}
 use Rattle.reader.proofs.message.Found.{the-type}
-use Rattle.walk.specs.declared.Tally.{Tally}
 use Rattle.walk.specs.declared.Halt.{Halt}
 use Rattle.walk.specs.Standing.{Stand, standAt, Stands, walkedFrom, rowsFrom, Gone, Halts, Came}
 use Rattle.walk.proofs.Going.{nextStand, Goes, within, next-goes, stop-lent, stop-walked, stop-numbers}

@@ -1,11 +1,11 @@
 -- `reader::read` meets its contract. Assumes nothing.
-use mathlib.Core.Path.{_≡_, _∙_, sym, ap, refl}
+use mathlib.Core.Path.{_∙_, sym, ap}
 use native.Mathlib.Omega.{arith}
 use borrow.Author.Needs.{needs}
 use denote.Enum.Declared.{tagOf}
 use Rattle.reader.specs.Readings.{structOf, readingOf}
 use Rattle.reader.proofs.Lents.{lent-back}
-use Rattle.reader.proofs.Sought.{SoughtMask, sought-mask, SoughtAnswer, sought-answer}
+use Rattle.reader.proofs.Sought.{SoughtMask, sought-mask, sought-answer}
 use Rattle.reader.proofs.message.Found.{the-type}
 use Rattle.reader.proofs.read.Statement.{statement}
 use Rattle.reader.proofs.read.Tie as tie

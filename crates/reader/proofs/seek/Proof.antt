@@ -1,5 +1,5 @@
 -- `reader::seek` meets its contract. Assumes nothing.
-use mathlib.Core.Path.{_≡_, _∙_, sym, ap, refl}
+use mathlib.Core.Path.{_≡_, _∙_, sym, ap}
 use borrow.Author.Needs.{needs}
 use lib.ListN.{length}
 use Rattle.format.specs.Reading.{Outcome, rowsAfter}

@@ -1,9 +1,7 @@
 -- `walk::walk` meets its contract. Assumes nothing.
-use mathlib.Core.Path.{_≡_, sym, ap, _∙_}
+use mathlib.Core.Path.{sym, _∙_}
 use lib.ListN.{length}
 use borrow.Author.Needs.{needs}
-use Rattle.reader.specs.declared.Verdict.the-variants.{Good}
-use Rattle.reader.specs.Readings.{testsOf, testedBy}
 use Rattle.reader.proofs.Outcomes.{Fine}
 use Rattle.reader.proofs.Sought.{good-lent}
 use Rattle.walk.proofs.Begins.{refused-walked, begin, begun-walked}
