@@ -2,13 +2,13 @@
 use mathlib.Core.Path.{_≡_, refl}
 use mathlib.Core.Bool.{Bool, true, false}
 use mathlib.Core.List.{List}
-use Prim.Native.Nat.{ℕ, suc, _+_, _-_, _*_, _≤_}
+use Prim.Native.Nat.{ℕ, suc, _+_, _-_, _≤_}
 use native.Mathlib.Nat.{le-refl}
 use native.Mathlib.Omega.{arith}
 use lib.Dec.{leb}
 use lib.IntN.{ℤ}
 use lib.ListN.{length}
-use borrow.Author.Tests.{le-ltb, le-leb}
+use borrow.Author.Tests.{le-ltb}
 use denote.Enum.Declared.{tagOf}
 use denote.Ref.{RefT}
 use Rattle.bits.specs.Parts.{startOf, countOf, partOf, IsPart}
@@ -20,7 +20,7 @@ use Rattle.format.specs.Tests.{verdict}
 use Rattle.format.specs.Reading.{Outcome, refused, bitsFrom, placed, lentTests, readingBy, reading, rawEnd, answerOf}
 use Rattle.format.specs.Table.{table, message}
 use Rattle.format.proofs.Answer.{the-type}
-use Rattle.format.proofs.Placed.{Inside, inside, length-from}
+use Rattle.format.proofs.Placed.{Inside, inside, is-placed, length-from}
 use Rattle.format.proofs.Runs.{taken-le}
 use Rattle.format.proofs.Stops.{reading-ends}
 use Rattle.reader.specs.Readings.{rawTo}
@@ -50,13 +50,8 @@ not-message bs start (Answers.Refused r missing) k e = refl
 
 -- a message that was read lies in its stretch
 in-stretch : (bs : List ℕ) (end start taken : ℕ) → Inside bs end start → taken ≤ end - start → placed bs (start + taken) start ≡ true
-unfolding placed
 in-stretch bs end start taken known few =
-    rw (
-      le-leb (start + taken) 50850 (omega (arith, known .limit, known .there)),
-      le-leb (start + taken) (8 * length bs) (omega (arith, known .lent, known .there)),
-      le-leb start (start + taken) (omega arith),
-    )
+    is-placed bs _ _ (record { limit = omega (arith, known .limit, known .there); lent = omega (arith, known .lent, known .there); there = omega arith })
 
 -- so its raw part is from its first bit to its last, and a stop's is empty
 abbrev Raw : List ℕ → ℕ → Outcome → Type 0

@@ -1,13 +1,13 @@
 -- `heads::heading::by_flags` meets its contract. Assumes nothing.
-use mathlib.Core.Path.{_≡_, ap, refl}
-use Prim.Native.Nat.{ℕ, zero, suc, _+_, _/_, _%_, _<_}
+use mathlib.Core.Path.{_≡_, ap}
+use Prim.Native.Nat.{ℕ, _+_, _/_, _%_, _<_}
 use native.Mathlib.Omega.{arith}
 use borrow.Author.Needs.{needs}
 use lib.Dec.{eqb}
 use lib.IntN.{pos}
 use mir.Facts.{toZ-pos}
 use mir.Syntax.{w32}
-use Rattle.bits.specs.BitLists.{digit}
+use Rattle.bits.proofs.BitLists.{digit-eqb}
 use Rattle.format.specs.declared.Head.{Head}
 use Rattle.format.specs.Messages.{selection, satelliteLines, headOf}
 use Rattle.format.specs.Masks.{Sky}
@@ -28,16 +28,11 @@ use Rattle.table.specs.Bodies.{linesIn, linesOver, FitsKeys}
 use Rattle.table.specs.Shapes.{shapesFrom}
 
 -- the shape that two flags say, by half of the number that the three are
-bit : (n : ℕ) → n < 2 → digit (eqb n 1) ≡ n
-bit zero small = refl
-bit (suc zero) small = refl
-bit (suc (suc n)) small = absurd (omega arith)
-
 by-half : (shape flags : ℕ) → flags < 8 → shapesFrom shape (eqb (flags / 4) 1) (eqb (flags / 2 % 2) 1) ≡ shapeAt (shape + flags / 2)
 unfolding shapesFrom
 by-half shape flags small =
-    let first = bit (flags / 4) (omega arith) in
-    let second = bit (flags / 2 % 2) (omega arith) in
+    let first = digit-eqb (flags / 4) (omega arith) in
+    let second = digit-eqb (flags / 2 % 2) (omega arith) in
     rw (first, second) (ap (λ (i : ℕ). shapeAt (shape + i)) (omega arith))
 
 -- with a network, and without
