@@ -2,5 +2,5 @@ pub mod Runs
 pub mod Headed
 pub mod Commons
 pub mod Sorted
-pub mod Opened
+pub mod ByOpening
 pub mod Chosen

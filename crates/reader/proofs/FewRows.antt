@@ -22,7 +22,7 @@ use Rattle.format.proofs.Picks.{pick-few}
 use Rattle.format.proofs.Spells.{packet-count}
 use Rattle.format.proofs.Steps.{Gives, gives-done, gives-refuse, gives-require, gives-taking, gives-numbered, gives-bind, gives-itself}
 use Rattle.heads.specs.declared.heading.Seen.{Seen}
-use Rattle.heads.proofs.Opened.{opened, read-unopened}
+use Rattle.heads.proofs.ByOpening.{type-taken, read-unopened}
 use Rattle.heads.specs.Headings.{gateBy, gatedBy, underBy}
 use Rattle.heads.specs.Sorting.{headingFor, bodiedBy, headedAt, adoptedBy}
 use Rattle.holding.specs.declared.Holding.{Holding}
@@ -130,7 +130,7 @@ module _ (h : Holding) (fine : sound h ≡ true) {bs : List ℕ} {end start : �
   few-kind : {n next : ℕ} → endFrom opening bs end start ≡ well n next → (kindFor n ≡ Kinds.Mask) ⊎ (kindFor n ≡ Kinds.Mask → ⊥) → FewRows (readAt h bs end start)
   few-kind {n} ran (inl masked) = subst FewRows (sym (read-sorted h fine at ran ∙ sorted-adopted (maskOf h) bs end (start + 16) n masked)) (few-adopted (maskOf h) (start + 16) _)
   few-kind {n} ran (inr other) =
-      let after = opened at ran .after in
+      let after = type-taken at ran .after in
       subst FewRows (sym (read-sorted h fine at ran ∙ sorted-headed h fine after n other)) (few-headed (maskOf h) after _ (heading-says (skyIn (viewOf h)) (few-sky .0) (few-sky .1) (kindFor n) _))
 
   few-stop : (b : Bool) (r : Refusal) (missing : ℕ) → FewRows (cond b (idle (lent (maskOf h))) (refused r missing (lent (maskOf h))))

@@ -25,14 +25,14 @@ use Rattle.heads.specs.declared.Opening.the-variants as Openings
 use Rattle.heads.specs.Heads.{openingBy}
 use Rattle.heads.specs.Headings.{Shows}
 use Rattle.heads.specs.Sorting.{skyHeld, headingFor, bodiedBy, headedAt, adoptedBy}
-use Rattle.heads.proofs.Opened.{opened, read-opened, read-unopened}
+use Rattle.heads.proofs.ByOpening.{type-taken, read-opened, read-unopened}
 use Rattle.heads.proofs.Sorted.{kind-ended, adopted-ended}
 use Rattle.holding.specs.declared.Holding.{Holding}
 use Rattle.holding.specs.Held.{skyIn, viewOf}
 use Rattle.holding.specs.Pictures.{maskOf, sound}
 use Rattle.holding.proofs.Sounds.{sounds}
 use Rattle.reader.specs.declared.message.Found.the-variants.{Mask, Answered}
-use Rattle.reader.specs.Readings.{readAt, sortedAt, unopenedAt, foundAs, foundBy, foundAt, Begins}
+use Rattle.reader.specs.Readings.{readAt, readAs, unopenedAt, foundAs, foundBy, foundAt, Begins}
 use Rattle.reader.proofs.message.Found.{the-type}
 use Rattle.table.specs.declared.Kind.{Kind}
 use Rattle.table.specs.declared.Kind.the-variants as Kinds
@@ -79,8 +79,8 @@ adopted-rows held place (well d taken) rows = refl
 adopted-rows held place (badly r missing) rows = refl
 
 -- a mask
-pub sorted-adopted : (held : Held) (bs : List ℕ) (end place n : ℕ) → kindFor n ≡ Kinds.Mask → sortedAt held bs end place n ≡ adoptedBy held place (run Messages.maskMessage (bitsFrom bs end place))
-unfolding sortedAt
+pub sorted-adopted : (held : Held) (bs : List ℕ) (end place n : ℕ) → kindFor n ≡ Kinds.Mask → readAs held bs end place n ≡ adoptedBy held place (run Messages.maskMessage (bitsFrom bs end place))
+unfolding readAs
 sorted-adopted held bs end place n e = rw e (adopted-ended held place n (bitsFrom bs end place))
 
 -- ---- in a stretch, under a sound holding
@@ -98,9 +98,9 @@ module _ (h : Holding) (fine : sound h ≡ true) where
 
   -- any message but a mask, by its heading
   pub sorted-headed : {bs : List ℕ} {end place : ℕ} → Within bs end place → (n : ℕ) → (kindFor n ≡ Kinds.Mask → ⊥)
-      → sortedAt (maskOf h) bs end place n
+      → readAs (maskOf h) bs end place n
       ≡ headedAt (maskOf h) bs end (endFrom (headingFor (kindFor n) (record { held = h .held; iod = h .iod; n = h .nsat; subtype = n }) (skyIn (viewOf h))) bs end place)
-  unfolding sortedAt
+  unfolding readAs
   sorted-headed {bs} {end} {place} at n other =
       let s = sounds h fine in
       kind-ended at (maskOf h) n (h .nsat) (kindFor n) other
@@ -108,8 +108,8 @@ module _ (h : Holding) (fine : sound h ≡ true) where
 
   module _ {bs : List ℕ} {end start : ℕ} (at : Within bs end start) where
     -- a sub type was read
-    pub read-sorted : {n next : ℕ} → endFrom opening bs end start ≡ well n next → readAt h bs end start ≡ sortedAt (maskOf h) bs end (start + 16) n
-    unfolding sortedAt
+    pub read-sorted : {n next : ℕ} → endFrom opening bs end start ≡ well n next → readAt h bs end start ≡ readAs (maskOf h) bs end (start + 16) n
+    unfolding readAs
     read-sorted e = read-opened at (maskOf h) e
 
     -- refused before that: a stop
@@ -157,7 +157,7 @@ module _ (h : Holding) (fine : sound h ≡ true) where
     found-mask =
         by-end (λ e. tagOf the-type (foundBy (openingBy e) (readAt h bs end start)) ≡ 0 → FoundMask) (endFrom opening bs end start)
         (λ n next ran tag. record {
-          room = opened at ran .after .room;
+          room = type-taken at ran .after .room;
           adopts = read-sorted ran ∙ sorted-adopted (maskOf h) bs end (start + 16) n (mask-found (kindFor n) (readAt h bs end start) tag);
         })
         (λ r missing ran tag. absurd (omega arith))
@@ -168,5 +168,5 @@ module _ (h : Holding) (fine : sound h ≡ true) where
         by-end (λ e. foundBy (openingBy e) (readAt h bs end start) ≡ Answered a → FoundAnswer a) (endFrom opening bs end start)
         (λ n next ran said.
         let it = answer-found (kindFor n) (readAt h bs end start) a said in
-        record { says = it .0; keeps = ap lentAfter (read-sorted ran ∙ sorted-headed (opened at ran .after) n (it .1)) ∙ headed-keeps (maskOf h) bs end _ })
+        record { says = it .0; keeps = ap lentAfter (read-sorted ran ∙ sorted-headed (type-taken at ran .after) n (it .1)) ∙ headed-keeps (maskOf h) bs end _ })
         (λ r missing ran said. record { says = cc; keeps = read-stopped ran .1 })

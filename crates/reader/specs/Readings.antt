@@ -64,8 +64,8 @@ abbrev pub readAt : Holding → List ℕ → ℕ → ℕ → Outcome
 readAt h bytes end start = readFrom table (maskOf h) start (bitsFrom bytes end start)
 
 -- behind number and sub type, by the kind
-unfoldable pub sortedAt : Held → List ℕ → ℕ → ℕ → ℕ → Outcome
-sortedAt held bytes end place n = endedAt held place (run (byKind (kindBy n (kindFor n)) held) (bitsFrom bytes end place))
+unfoldable pub readAs : Held → List ℕ → ℕ → ℕ → ℕ → Outcome
+readAs held bytes end place n = endedAt held place (run (byKind (kindBy n (kindFor n)) held) (bitsFrom bytes end place))
 
 -- what answers to a refusal that comes before the sub type
 unfoldable pub unopenedAt : List ℕ → ℕ → ℕ → Refusal → ℕ → Answer

@@ -13,7 +13,7 @@ use Rattle.format.specs.Table.{opening}
 use Rattle.heads.specs.Heads.{openingBy}
 use Rattle.heads.specs.Headings.{saidBy}
 use Rattle.heads.specs.Sorting.{headingFor, headedAt}
-use Rattle.heads.proofs.Opened.{Opened, opened}
+use Rattle.heads.proofs.ByOpening.{TypeTaken, type-taken}
 use Rattle.holding.specs.declared.Holding.{Holding}
 use Rattle.holding.specs.Held.{skyIn, viewOf}
 use Rattle.holding.specs.Pictures.{maskOf}
@@ -62,8 +62,8 @@ module _ (c : tie.After-kind-of) where
   ran : (next : ℕ) × (endFrom opening (s .args .bytes .now) (s .args .end) (s .args .start) ≡ well n next)
   ran = opened-well _ n (sym (o .before .before .open .ensures) ∙ o .opening2 .given .1)
 
-  told : Opened (within s) n (ran .0)
-  told = opened (within s) (ran .1)
+  told : TypeTaken (within s) n (ran .0)
+  told = type-taken (within s) (ran .1)
 
   of-table : c .kind-of .result ≡ kindFor n
   of-table = c .kind-of .ensures

@@ -24,15 +24,15 @@ use Rattle.table.proofs.Tabled.{table-means}
 
 module _ {bs : List ℕ} {end place : ℕ} (at : Within bs end place) where
   -- number and sub type were read
-  pub record Opened (n next : ℕ) : Type 0 where
+  pub record TypeTaken (n next : ℕ) : Type 0 where
     pub ends : next ≡ place + 16
     pub after : Within bs end (place + 16)
     pub ours : field bs place 12 ≡ 4073
     pub small : n < 16
 
-  pub opened : {n next : ℕ} → endFrom opening bs end place ≡ well n next → Opened n next
+  pub type-taken : {n next : ℕ} → endFrom opening bs end place ≡ well n next → TypeTaken n next
   unfolding opening
-  opened {n} {next} e =
+  type-taken {n} {next} e =
       let number = number-began at 12 _ e in
       let ours = test-began bs end (place + 12) (eqb (field bs place 12) 4073) Number _ (number .1) in
       let behind = number-began (onward at (number .0)) 4 done (ours .1) in
@@ -47,7 +47,7 @@ module _ {bs : List ℕ} {end place : ℕ} (at : Within bs end place) where
         → readFrom table held place (bitsFrom bs end place) ≡ endedAt held (place + 16) (run (byKind (kindBy n (kindFor n)) held) (bitsFrom bs end (place + 16)))
     unfolding readFrom messageBy endFrom
     read-opened {n} e =
-        let o = opened e in
+        let o = type-taken e in
         let some = ne-eqb (field bs place (end - place)) 0 (λ none. omega (arith, o .ours, zero-part bs place end place 12 (le-refl place) (omega (arith, o .after)) none)) in
         rw (blank-from bs end place (at .inside) (at .room), some, ended-from held place, then-well at opening (λ s. byKind (table s) held) e, o .ends, table-means n) (sym (ended-from held (place + 16) _))
 
