@@ -9,7 +9,7 @@ use Rattle.adoption.specs.declared.stages.Named.the-variants as Named
 use Rattle.bits.specs.BitLists.{spell}
 use Rattle.format.specs.declared.Head.{Head}
 use Rattle.format.specs.Masks.{Mask}
-use Rattle.format.specs.Messages.{BothMasks, systems, Adopted}
+use Rattle.format.specs.Messages.{BothMasks, systems, Adopted, maskType}
 use Rattle.format.specs.Programs.{Program, done, _>>=_, numbered, Ended, well, badly}
 use Rattle.format.specs.Rows.{absent}
 use Rattle.heads.specs.declared.CommonHead.{CommonHead}
@@ -42,4 +42,4 @@ unfoldable pub withSystems : Head → ℕ → Mask → Program Adopted
 withSystems head n m = systems n (m .systems) >>= (λ all. done (record { head = head; made = record { iod = m .iod; systems = all } }))
 
 unfoldable pub afterCommonHead : CommonHead → Program Adopted
-afterCommonHead h = numbered 4 >>= (λ n. withSystems (headWith 1 h (pos n) absent absent) n (record { iod = h .iod; systems = [] }))
+afterCommonHead h = numbered 4 >>= (λ n. withSystems (headWith maskType h (pos n) absent absent) n (record { iod = h .iod; systems = [] }))

@@ -46,9 +46,7 @@ pub struct Adoption {
     pub holding: Holding,
 }
 
-// A mask message's sub type, and how many bits its common head and its number of systems have.
-const MASK: usize = 1;
-
+// How many bits a mask message's common head and its number of systems have.
 const COMMON: usize = heads::EPOCH + heads::AFTER_EPOCH;
 
 const COUNT: usize = 4;
@@ -85,7 +83,7 @@ fn after_head(old: Holding, h: CommonHead, bytes: &[u8], end: usize, place: usiz
             holding: old,
         },
         Taken::Whole(n) => {
-            let numbers = heading::head(MASK, h, n as i32, ABSENT, ABSENT);
+            let numbers = heading::head(table::MASK, h, n as i32, ABSENT, ABSENT);
             let first = old.adopt(h.iod as u8);
             let at = place + COUNT;
             systems::all_systems(old, first, numbers, bytes, end, at, n as usize)

@@ -12,7 +12,7 @@ use Rattle.bits.proofs.BitLists.{length-spell}
 use Rattle.format.specs.declared.Refusal.the-variants.{SubType}
 use Rattle.format.specs.Lengths.{total, orbitBits, combinedBits, lengths, maskOr, lengthOf}
 use Rattle.format.specs.Masks.{System, Mask, Held, nothing, mask, Satellite, Cell, satellites, cells, skyOf, Sky}
-use Rattle.format.specs.Messages.{Content, Heading, overSatellites, overCells, Common, common, headOf, satelliteLines, cellLines, iodeWidth, orbitShape, clockShape, codeShape, phaseShape, combinedShape, packetShape, packetLines, packet, rowsAlone, flagged, selection, system, systems, maskMessage}
+use Rattle.format.specs.Messages.{Content, Heading, overSatellites, overCells, Common, common, headOf, satelliteLines, cellLines, iodeWidth, orbitShape, clockShape, codeShape, phaseShape, combinedShape, packetShape, packetLines, packet, rowsAlone, flagged, selection, system, systems, maskMessage, packetHeading}
 use Rattle.format.specs.Programs.{Program}
 use Rattle.format.specs.Rows.{Line, Column, gap, plain, counts, absent, bodyWidth, shapeWidth, widthOf, rowsOf}
 use Rattle.format.specs.Same.{sameℤ}
@@ -200,7 +200,7 @@ mask-at held =
     gives-done {a = record { content = c; after = mask (d .made) }} (it .0, rw append-nil (omega (arith, it .1, at-number (mask (d .made)) c 1 (it .0)), omega (arith, it .1)))
 
 packet-at : LongAt 10 (free (record { program = packet; spelling = putPacket }))
-unfolding byKind packet lengthOf lengths
+unfolding byKind packet packetHeading lengthOf lengths
 packet-at held =
     body-long 10 held
     (gives-numbered _ _ λ indicator _.

@@ -12,7 +12,7 @@ use Rattle.bits.specs.BitLists.{spell}
 use Rattle.bits.specs.Signed.{unsigned}
 use Rattle.format.specs.declared.Head.{Head}
 use Rattle.format.specs.Masks.{Satellite, Cell, satellites, Sky}
-use Rattle.format.specs.Messages.{Common, headOf, rowsAlone, packet, packetLines, satelliteLines, cellLines, selection, Heading, flagged}
+use Rattle.format.specs.Messages.{Common, headOf, rowsAlone, packet, packetLines, satelliteLines, cellLines, selection, Heading, flagged, packetHeading, packetType}
 use Rattle.format.specs.Rows.{absent, Column, Line, rowsOf, bodyWidth}
 use Rattle.format.specs.Same.{sameℤ}
 use Rattle.format.specs.Spelling.{put, putRows, putSelection, chosenBy, putFlagged, putPacket}
@@ -54,8 +54,8 @@ unfolding packetLines
 packet-count k zero = refl
 packet-count k (suc n) = ap suc (packet-count (suc k) n)
 
-pub packet-spelled : Gives packet (λ d b. (d .head .subtype ≡ pos 10) × Spells putPacket d b)
-unfolding packet putPacket put unsigned
+pub packet-spelled : Gives packet (λ d b. (d .head .subtype ≡ pos packetType) × Spells putPacket d b)
+unfolding packet packetHeading putPacket put unsigned
 packet-spelled =
     gives-numbered _ _ λ indicator _.
     gives-numbered _ _ λ counter _.

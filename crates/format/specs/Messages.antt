@@ -132,18 +132,25 @@ unfoldable pub packetLines : ℕ → ℕ → List Line
 packetLines k zero = []
 packetLines k (suc n) = record { keys = absent ∷ absent ∷ pos k ∷ []; shape = packetShape } ∷ packetLines (suc k) n
 
+-- the sub type where its number is said
+abbrev pub packetType : ℕ
+packetType = 10
+
+unfoldable pub packetHeading : ℕ → ℕ → ℕ → Heading
+packetHeading indicator counter size =
+    record {
+      head =
+          record
+          { subtype = pos packetType; epoch = absent; interval = absent; indicator = pos indicator; iod = absent; a = pos counter; b = pos size; c = absent };
+      lines = packetLines 1 (suc size);
+    }
+
 unfoldable pub packet : Program Heading
 packet = do
   indicator ← numbered 1
   counter ← numbered 3
   size ← numbered 2
-  done
-      (record {
-        head =
-            record
-            { subtype = pos 10; epoch = absent; interval = absent; indicator = pos indicator; iod = absent; a = pos counter; b = pos size; c = absent };
-        lines = packetLines 1 (suc size);
-      })
+  done (packetHeading indicator counter size)
 
 -- ---- 1: a mask
 
@@ -214,9 +221,12 @@ pub record Adopted : Type 0 where
   pub head : Head
   pub made : Mask
 
+abbrev pub maskType : ℕ
+maskType = 1
+
 unfoldable pub maskMessage : Program Adopted
 maskMessage = do
   h ← common 20
   count ← numbered 4
   all ← systems count []
-  done (record { head = headOf 1 h (pos count) absent absent; made = record { iod = h .iod; systems = all } })
+  done (record { head = headOf maskType h (pos count) absent absent; made = record { iod = h .iod; systems = all } })

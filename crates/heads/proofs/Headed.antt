@@ -19,7 +19,7 @@ use Rattle.format.specs.declared.Refusal.the-variants.{Short, Network}
 use Rattle.format.specs.Ends.{Within, endFrom}
 use Rattle.format.specs.Masks.{Satellite, Sky, pick}
 use Rattle.format.specs.Messages as Messages
-use Rattle.format.specs.Messages.{Selected, selection, packet, packetLines, flagged, satelliteLines}
+use Rattle.format.specs.Messages.{Selected, selection, packet, packetHeading, flagged, satelliteLines}
 use Rattle.format.specs.Programs.{Program, done, _>>=_, _>>_, taking, numbered, require, well, badly, later, run}
 use Rattle.format.specs.Rows.{Column, absent}
 use Rattle.heads.specs.declared.CommonHead.{CommonHead}
@@ -37,29 +37,23 @@ module _ {A : Type 0} {bs : List ℕ} {end place : ℕ} (at : Within bs end plac
 
 -- ---- a packet's part
 
--- what its three fields say, and the six bits that they are
-unfoldable pub packetWith : ℕ → ℕ → ℕ → Messages.Heading
-packetWith indicator counter size = record {
-  head = record { subtype = pos 10; epoch = absent; interval = absent; indicator = pos indicator; iod = absent; a = pos counter; b = pos size; c = absent };
-  lines = packetLines 1 (suc size);
-}
-
+-- what its six bits say
 unfoldable pub packetOf : ℕ → Messages.Heading
-packetOf n = packetWith (n / 32) (n / 4 % 8) (n % 4)
+packetOf n = packetHeading (n / 32) (n / 4 % 8) (n % 4)
 
 module _ {bs : List ℕ} {end place : ℕ} (at : Within bs end place) where
   abbrev with-three : List ℕ → Program Messages.Heading
-  with-three ns = done (packetWith (getD ns 0 0) (getD ns 1 0) (getD ns 2 0))
+  with-three ns = done (packetHeading (getD ns 0 0) (getD ns 1 0) (getD ns 2 0))
 
   pub packet-there : {n : ℕ} → takenAt bs end place 6 ≡ Taken.Whole n → endFrom packet bs end place ≡ well (packetOf n) (place + 6)
-  unfolding packet packetOf packetWith together bitsOf partsOf numbered _>>=_
+  unfolding packet packetOf packetHeading together bitsOf partsOf numbered _>>=_
   packet-there {n} e =
       let b : n % 32 / 4 ≡ n / 4 % 8 = omega arith in
       let c : n % 32 % 4 / 1 ≡ n % 4 = omega arith in
       fields-whole at (1 ∷ 3 ∷ 2 ∷ []) with-three e ∙ rw (done-end, b, c)
 
   pub packet-short : {m : ℕ} → takenAt bs end place 6 ≡ Taken.Short m → endFrom packet bs end place ≡ badly Short (shortBy (1 ∷ 3 ∷ 2 ∷ 0 ∷ []) (end - place))
-  unfolding packet packetWith together bitsOf numbered _>>=_
+  unfolding packet packetHeading together bitsOf numbered _>>=_
   packet-short e = three-cut at 1 3 2 with-three e
 
   -- ---- the three flags

@@ -226,7 +226,8 @@ const PACKET: Widths = Widths {
 
 const PACKET_BITS: usize = 6;
 
-const PACKET_PART: i32 = 10;
+// Its sub type, as a head says it.
+const PACKET_TYPE: i32 = table::PACKET as i32;
 
 // A packet's part, which needs no mask.
 pub fn packet(bytes: &[u8], end: usize, place: usize) -> Heading
@@ -240,7 +241,7 @@ pub fn packet(bytes: &[u8], end: usize, place: usize) -> Heading
         Taken::Whole(n) => {
             let size = n % 4;
             let numbers = Head {
-                subtype: PACKET_PART,
+                subtype: PACKET_TYPE,
                 epoch: ABSENT,
                 interval: ABSENT,
                 indicator: (n / 32) as i32,

@@ -14,7 +14,7 @@ use Rattle.format.specs.declared.Answer.{Answer}
 use Rattle.format.specs.declared.Answer.the-variants as Answers
 use Rattle.format.specs.Good.{isHolding}
 use Rattle.format.specs.Masks.{Held, mask, Lent, stray, lent}
-use Rattle.format.specs.Messages.{Adopted, maskMessage}
+use Rattle.format.specs.Messages.{Adopted, maskType, maskMessage}
 use Rattle.format.specs.Programs.{Ended, well, badly, run}
 use Rattle.format.specs.Reading.{Outcome, accepted, idle, refused, lentAfter, answerOf, over, rawEnd}
 use Rattle.format.specs.Table.{Message}
@@ -91,11 +91,11 @@ unfolding hostOutcome
 sought-bytes hb bs end start rows small it = ap (λ (l : Lent). bytesAfter l hb) (it .keeps) ∙ sym (bytes-stay hb small)
 
 -- an accepted mask message says its sub type
-adopted-one : (held : Held) (place : ℕ) (l : List Bool) (m : Message) (next : ℕ) → adoptedBy held place (run maskMessage l) ≡ accepted m next → m .content .head .subtype ≡ pos 1
+adopted-one : (held : Held) (place : ℕ) (l : List Bool) (m : Message) (next : ℕ) → adoptedBy held place (run maskMessage l) ≡ accepted m next → m .content .head .subtype ≡ pos maskType
 unfolding adoptedBy
 adopted-one held place l m next = go (run maskMessage l) refl
   where
-    go : (e : Ended Adopted) → run maskMessage l ≡ e → adoptedBy held place e ≡ accepted m next → m .content .head .subtype ≡ pos 1
+    go : (e : Ended Adopted) → run maskMessage l ≡ e → adoptedBy held place e ≡ accepted m next → m .content .head .subtype ≡ pos maskType
     go (well d taken) ran said =
         let same : record { content = record { head = d .head; rows = [] }; after = mask (d .made) } ≡ m = cc in
         sym (ap (λ (n : Message). n .content .head .subtype) same) ∙ mask-spelled .gives l d taken ran .0
@@ -103,7 +103,7 @@ adopted-one held place l m next = go (run maskMessage l) refl
 
 -- so every accepted message but a mask leaves the holding's bytes as they were
 pub message-bytes : (hb bs : List ℕ) (end start : ℕ) (rows : List ℤ) → Bytes hb
-    → (m : Message) (next : ℕ) → hostOutcome hb bs end start rows ≡ accepted m next → ¬ (m .content .head .subtype ≡ pos 1)
+    → (m : Message) (next : ℕ) → hostOutcome hb bs end start rows ≡ accepted m next → ¬ (m .content .head .subtype ≡ pos maskType)
     → holdingBytes (hostOutcome hb bs end start rows) hb ≡ hb
 unfolding hostOutcome
 message-bytes hb bs end start rows small m next said other = go (soughtAt (holdingIn hb) bs end start (length rows)) refl

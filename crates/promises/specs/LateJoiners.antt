@@ -10,7 +10,7 @@ use lib.ListN.{length}
 use Rattle.format.specs.declared.Refusal.{Refusal}
 use Rattle.format.specs.declared.Refusal.the-variants.{NoMask, OtherIssue}
 use Rattle.format.specs.Masks.{Mask, Held, mask, Lent, lent, heldIn}
-use Rattle.format.specs.Messages.{Content}
+use Rattle.format.specs.Messages.{Content, maskType}
 use Rattle.format.specs.Reading.{rowRoom, Outcome, accepted, idle, refused, bitsFrom, subTypeIn, lentAfter}
 use Rattle.format.specs.Table.{Kind}
 use Rattle.format.specs.Walking.{Walk, walkOn}
@@ -90,7 +90,7 @@ pub data OfTheMask : Refusal → Type 0 where
 
 -- "if the stretch opens with a mask message"
 unfoldable pub OpensWithMask : Turn → Type 0
-OpensWithMask x = subTypeIn (bitsFrom (x .bytes) (x .end) 0) ≡ 1
+OpensWithMask x = subTypeIn (bitsFrom (x .bytes) (x .end) 0) ≡ maskType
 
 pub record Truth (f s : Held) (x : Turn) (a b : Walk) : Type 0 where
   -- "it hands out an opening part of the first receiver's messages, record for record"

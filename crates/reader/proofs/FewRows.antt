@@ -12,7 +12,7 @@ use Rattle.format.specs.declared.Refusal.{Refusal}
 use Rattle.format.specs.Ends.{Within, endFrom}
 use Rattle.format.specs.Masks.{Held, Sky, lent}
 use Rattle.format.specs.Messages as Messages
-use Rattle.format.specs.Messages.{Heading, Common, common, selection, satelliteLines, cellLines, packet, overSatellites, overCells, rowsAlone, flagged}
+use Rattle.format.specs.Messages.{Heading, Common, common, selection, satelliteLines, cellLines, packet, packetHeading, overSatellites, overCells, rowsAlone, flagged}
 use Rattle.format.specs.Programs.{Program, _>>=_, _>>_, Ended, well, badly}
 use Rattle.format.specs.Reading.{Outcome, accepted, idle, refused}
 use Rattle.format.specs.Table.{Message, opening}
@@ -44,7 +44,7 @@ abbrev Few : Program Heading → Type 0
 Few p = Gives p (λ d _. length (d .lines) ≤ 256)
 
 packet-says : Few packet
-unfolding packet
+unfolding packet packetHeading
 packet-says =
     gives-numbered _ _ λ indicator _.
     gives-numbered _ _ λ counter _.

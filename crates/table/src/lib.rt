@@ -50,17 +50,22 @@ fn alone(cells: bool, shape: usize) -> Kind
     })
 }
 
+// The sub types whose number is said elsewhere, too: in a head, and to tell a mask.
+pub const MASK: usize = 1;
+
+pub const PACKET: usize = 10;
+
 // The table.
 pub fn kind_of(n: usize) -> Kind
     ensures { λ r. ⌜ r ≡ kindFor n ⌝ }
 {
     match n {
-        1 => Kind::Mask,
+        MASK => Kind::Mask,
         2 => alone(false, shapes::ORBIT),
         3 => alone(false, shapes::CLOCK),
         4 => alone(true, shapes::CODE),
         5 => alone(true, shapes::PHASE),
-        10 => Kind::Packet,
+        PACKET => Kind::Packet,
         11 => Kind::Masked(Layout {
             cells: false,
             flagged: true,

@@ -8,6 +8,7 @@ use lib.IntN.{ℤ}
 use mir.Facts.{toZ-pos}
 use mir.Syntax.{w32}
 use Rattle.adoption.proofs.ManySystems.{first-mask}
+use Rattle.format.specs.Messages.{maskType}
 use Rattle.format.proofs.Ends.{after-field, fits, number-whole, number-short}
 use Rattle.adoption.specs.Adoptions.{adoptionBy, maskIn}
 use Rattle.adoption.specs.declared.Adoption.{Adoption}
@@ -57,7 +58,7 @@ returns-2 c =
     let t = s p in
     let x = t .args in
     let answer : Head → Mask → Adoption = λ (k : Head) (m : Mask). adoptionBy (x .old) (endFrom (withSystems k (n p) m) (x .bytes .now) (x .end) (x .place + 4)) in
-    let numbers = c .before .before .before .head .ensures ∙ ap (λ (z : ℤ). headWith 1 (x .h) z absent absent) (toZ-pos w32 {n = n p} (omega (arith, few p))) in
+    let numbers = c .before .before .before .head .ensures ∙ ap (λ (z : ℤ). headWith maskType (x .h) z absent absent) (toZ-pos w32 {n = n p} (omega (arith, few p))) in
     c .all-systems .ensures ∙ ap₂ answer numbers (first (c .before) .1) ∙ ap (adoptionBy (x .old)) (sym (number-whole (t .pre .1) 4 (there p) _))
 
 pub after-head-spec : {M : Type 1} → statement M

@@ -12,8 +12,9 @@ use Rattle.bits.proofs.Short.{field-short}
 use Rattle.format.proofs.Ends.{fits}
 use Rattle.format.specs.declared.Refusal.the-variants as Refusal
 use Rattle.format.specs.Programs.{badly}
+use Rattle.format.specs.Messages.{packetHeading}
 use Rattle.heads.specs.Headings.{saidBy, FitsHeading}
-use Rattle.heads.proofs.Headed.{packetWith, packetOf, packet-there, packet-short}
+use Rattle.heads.proofs.Headed.{packetOf, packet-there, packet-short}
 use Rattle.heads.proofs.heading.packet.Statement.{statement}
 use Rattle.heads.proofs.heading.packet.Tie as tie
 use Rattle.table.specs.Bodies.{linesIn, linesOver, FitsKeys}
@@ -44,7 +45,7 @@ module _ (c : tie.After-known-told) where
   small = fits (took .before .before .pre) 6 there
 
 returns-2 : tie.Need-returns-2
-unfolding saidBy FitsHeading FitsKeys linesIn linesOver packetOf packetWith
+unfolding saidBy FitsHeading FitsKeys linesIn linesOver packetOf packetHeading
 returns-2 c = (
   λ v.
       rw (
