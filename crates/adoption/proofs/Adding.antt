@@ -43,6 +43,15 @@ strip-front (true ∷ places) (b ∷ l) k (suc n) room = ap (λ (m : List Bool).
 abbrev pub stripsAt : List ℕ → ℕ → ℕ → ℕ → List ℕ
 stripsAt bs place n signals = stripsFrom n (spell 16 signals) (drop place (bits bs))
 
+-- without a signal each is 0, as the signal mask is
+pub no-signals : (bs : List ℕ) (place n signals : ℕ) → signals ≡ 0 → replicate n signals ≡ stripsAt bs place n signals
+unfolding stripsFrom spell spread placesFrom number
+no-signals bs place n signals none = rw none (zeros n (drop place (bits bs)))
+  where
+    zeros : (n : ℕ) (l : List Bool) → replicate n 0 ≡ stripsFrom n (spell 16 0) l
+    zeros zero l = refl
+    zeros (suc n) l = ap (λ (strips : List ℕ). 0 ∷ strips) (zeros n l)
+
 -- the first strips of an array of 64, and those left, are all strips
 pub record Filling (all strips : List ℕ) (i : ℕ) (left : List ℕ) : Type 0 where
   pub same : all ≡ take i strips ++ left

@@ -7,7 +7,9 @@ ghost use lib.ListN.{length, drop, replicate};
 ghost use Rattle.bits.specs.BitLists.{spell, bits};
 ghost use Rattle.holding.specs.Building.{withStrips};
 ghost use Rattle.holding.specs.Pictures.{stripsFrom};
+use crate::spread::four_strips;
 use crate::spread::spread_strip;
+use crate::spread::without_four;
 use bits::read::read_field;
 use holding::Holding;
 use holding::set_places;
@@ -17,13 +19,21 @@ pub fn cell_strips(h: Holding, bytes: &[u8], place: usize, n: usize, signals: u1
     requires { ⌜ (h .nsat + n ≤ 64) × (h .ncell ≤ 256) × (place + n * ones signals ≤ 8 * length (now bytes)) × (place < 2 ^ 32) ⌝ }
     ensures { λ r. ⌜ r ≡ withStrips h (stripsFrom n (spell 16 signals) (drop place (bits (now (bytes .entry))))) ⌝ }
 {
+    if signals == 0 {
+        return all_strips(h, n, signals);
+    }
     let w = set_places::count(signals as u64);
+    let four = four_strips(signals);
+    let rest = without_four(signals);
     let mut strips = [0u16; Holding::SATELLITES];
     let mut at = place;
+    let mut next = place + w;
     let mut i = 0;
     while i < n {
-        strips[i] = spread_strip(signals, read_field(bytes, at, w));
+        let bits = read_field(bytes, at, next - at);
+        strips[i] = four[(bits % 16) as usize] + spread_strip(rest, bits / 16);
         at += w;
+        next += w;
         i += 1;
     }
     h.with_strips(&strips[..n])
