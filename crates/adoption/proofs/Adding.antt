@@ -82,12 +82,6 @@ module _ (bs : List ℕ) (n i at signals : ℕ) (more : i < n) (small : signals 
 pub all-filled : (all strips : List ℕ) (i : ℕ) → Filling all strips i [] → take i strips ≡ all
 all-filled all strips i f = sym (f .same ∙ append-nil (take i strips))
 
--- the first of an array's strips that are all the same
-pub take-replicate : (n m x : ℕ) → n ≤ m → take n (replicate m x) ≡ replicate n x
-take-replicate zero m x fits = refl
-take-replicate (suc n) zero x fits = absurd (omega arith)
-take-replicate (suc n) (suc m) x fits = ap (λ (l : List ℕ). x ∷ l) (take-replicate n m x (omega arith))
-
 -- ---- what they build
 
 -- strips behind those of a mask

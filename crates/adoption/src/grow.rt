@@ -1,9 +1,9 @@
 // The strips of one system's satellites, added to a holding: document 01, "Message layouts": the cell mask goes satellite
-// by satellite, and with flag 0 every signal counts for every satellite.
+// by satellite.
 ghost use mathlib.Core.Path.{_≡_};
 ghost use Prim.Native.Nat.{_+_, _*_, _^_, _≤_, _<_};
 ghost use lib.Count.{ones};
-ghost use lib.ListN.{length, drop, replicate};
+ghost use lib.ListN.{length, drop};
 ghost use Rattle.bits.specs.BitLists.{spell, bits};
 ghost use Rattle.holding.specs.Building.{withStrips};
 ghost use Rattle.holding.specs.Pictures.{stripsFrom};
@@ -14,13 +14,13 @@ use bits::read::read_field;
 use holding::Holding;
 use holding::set_places;
 
-// With flag 1: n strips, each from the next bits of the cell mask, which stands at a place.
+// n strips, each from the next bits of the cell mask, which stands at a place.
 pub fn cell_strips(h: Holding, bytes: &[u8], place: usize, n: usize, signals: u16) -> Holding
     requires { ⌜ (h .nsat + n ≤ 64) × (h .ncell ≤ 256) × (place + n * ones signals ≤ 8 * length (now bytes)) × (place < 2 ^ 32) ⌝ }
     ensures { λ r. ⌜ r ≡ withStrips h (stripsFrom n (spell 16 signals) (drop place (bits (now (bytes .entry))))) ⌝ }
 {
     if signals == 0 {
-        return all_strips(h, n, signals);
+        return h.with_equal(n, signals);
     }
     let w = set_places::count(signals as u64);
     let four = four_strips(signals);
@@ -36,14 +36,5 @@ pub fn cell_strips(h: Holding, bytes: &[u8], place: usize, n: usize, signals: u1
         next += w;
         i += 1;
     }
-    h.with_strips(&strips[..n])
-}
-
-// With flag 0: n strips that are the signal mask.
-pub fn all_strips(h: Holding, n: usize, signals: u16) -> Holding
-    requires { ⌜ (h .nsat + n ≤ 64) × (h .ncell ≤ 256) ⌝ }
-    ensures { λ r. ⌜ r ≡ withStrips h (replicate n signals) ⌝ }
-{
-    let strips = [signals; Holding::SATELLITES];
     h.with_strips(&strips[..n])
 }

@@ -7,7 +7,7 @@ use native.Mathlib.Numerals.{add-one}
 use native.Mathlib.Omega.{arith}
 use borrow.Author.Needs.{needs}
 use lib.Count.{ones, ones-le}
-use lib.ListN.{length, getD, take, replicate}
+use lib.ListN.{length, getD, take}
 use lib.Seq.{length-take-le}
 use Rattle.adoption.specs.Spreading.{stripOf}
 use Rattle.adoption.proofs.Adding.{stripsAt, no-signals, Filling, one-filled, all-filled}
@@ -27,7 +27,7 @@ abbrev μ-loop : tie.MeasureT-loop
 none : tie.Need-returns Inv-loop μ-loop
 none c =
     let x = c .before .before .before .args in
-    c .all-strips .ensures ∙ ap (withStrips (x .h)) (no-signals (x .bytes .now) (x .place) (x .n) (x .signals) (c .before .if1 .taken))
+    c .with-equal .ensures ∙ ap (withStrips (x .h)) (no-signals (x .bytes .now) (x .place) (x .n) (x .signals) (c .before .if1 .taken))
 
 loop-holds : tie.Need-loop-holds Inv-loop μ-loop
 loop-holds c =
