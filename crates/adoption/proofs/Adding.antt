@@ -3,13 +3,16 @@
 use mathlib.Core.Path.{_≡_, refl, sym, ap, _∙_}
 use mathlib.Core.Bool.{Bool, true, false}
 use mathlib.Core.List.{List, [], _∷_, _++_, append-nil, flatMap}
-use Prim.Native.Nat.{ℕ, zero, suc, _+_, _-_, _*_, _^_, _≤_, _<_}
+use Prim.Native.Nat.{ℕ, zero, suc, _+_, _-_, _*_, _/_, _%_, _^_, _≤_, _<_}
 use native.Mathlib.Nat.{le-of-suc-le-suc}
 use native.Mathlib.Omega.{arith}
 use lib.Count.{ones}
 use lib.ListN.{length, take, drop, set, replicate, length-append, length-set}
 use lib.Seq.{append-snoc, drop-drop, take-suc-set}
+use Rattle.adoption.specs.declared.grow.Window.{Window}
+use Rattle.adoption.specs.Growing.{Sees}
 use Rattle.bits.proofs.Bridge.{spell-field}
+use Rattle.bits.proofs.Windows.{in-window}
 use Rattle.bits.specs.BitLists.{number, spell, bits}
 use Rattle.bits.specs.Places.{field}
 use Rattle.format.specs.Masks.{Mask, placesFrom}
@@ -36,6 +39,13 @@ strip-front (false ∷ places) l k n room = ap (λ (m : List Bool). false ∷ m)
 strip-front (true ∷ places) l k zero room = absurd (omega arith)
 strip-front (true ∷ places) [] k (suc n) room = refl
 strip-front (true ∷ places) (b ∷ l) k (suc n) room = ap (λ (m : List Bool). b ∷ m) (strip-front places l (suc k) n (le-of-suc-le-suc room))
+
+-- those at a place, cut out of a window
+pub seen-field : (bs : List ℕ) (window : Window) (at w n : ℕ) → Sees bs window at → at - window .from + w < 64 → n ≡ window .bits / 2 ^ (64 - (at - window .from) - w) % 2 ^ w → n ≡ field bs at w
+seen-field bs window at w n sees fits e =
+    let there : window .from + (at - window .from) ≡ at = omega (arith, sees .before) in
+    e ∙ ap (λ (b : ℕ). b / 2 ^ (64 - (at - window .from) - w) % 2 ^ w) (sees .bits)
+    ∙ in-window bs (window .from) (at - window .from) w (64 - (at - window .from) - w) (omega arith) ∙ ap (λ (p : ℕ). field bs p w) there
 
 -- ---- an array filled with strips
 

@@ -9,8 +9,9 @@ use borrow.Author.Needs.{needs}
 use lib.Count.{ones, ones-le}
 use lib.ListN.{length, getD, take}
 use lib.Seq.{length-take-le}
+use Rattle.adoption.specs.Growing.{Sees}
 use Rattle.adoption.specs.Spreading.{stripOf}
-use Rattle.adoption.proofs.Adding.{stripsAt, no-signals, Filling, one-filled, all-filled}
+use Rattle.adoption.proofs.Adding.{stripsAt, no-signals, seen-field, Filling, one-filled, all-filled}
 use Rattle.adoption.proofs.Bitwise.{spreadOf, spread-lt}
 use Rattle.holding.specs.Building.{withStrips}
 use Rattle.holding.specs.Pictures.{stripsFrom}
@@ -18,11 +19,11 @@ use Rattle.adoption.proofs.grow.cell_strips.Statement.{statement}
 use Rattle.adoption.proofs.grow.cell_strips.Tie as tie
 
 abbrev Inv-loop : tie.InvT-loop
-Inv-loop h bytes place n signals w four rest strips₀ at₀ next₀ i₀ strips at next i =
-    (i ≤ n) × (next ≡ at + w) × (at ≤ place + 16 * i) × (at + (n - i) * ones signals ≤ 8 * length bytes) × Filling (stripsAt bytes place n signals) strips i (stripsAt bytes at (n - i) signals)
+Inv-loop h bytes place n signals w four rest strips₀ at₀ window₀ i₀ strips at window i =
+    (i ≤ n) × Sees bytes window at × (at ≤ place + 16 * i) × (at + (n - i) * ones signals ≤ 8 * length bytes) × Filling (stripsAt bytes place n signals) strips i (stripsAt bytes at (n - i) signals)
 
 abbrev μ-loop : tie.MeasureT-loop
-μ-loop h bytes place n signals w four rest strips₀ at₀ next₀ i₀ strips at next i = n - i
+μ-loop h bytes place n signals w four rest strips₀ at₀ window₀ i₀ strips at window i = n - i
 
 none : tie.Need-returns Inv-loop μ-loop
 none c =
@@ -31,7 +32,7 @@ none c =
 
 loop-holds : tie.Need-loop-holds Inv-loop μ-loop
 loop-holds c =
-    (omega arith, refl, omega arith, rw sub-zero (c .before .before .before .before .before .pre .2), rw sub-zero (record { same = refl; room = refl }))
+    (omega arith, record { before = omega arith; bits = c .window-at .ensures }, omega arith, rw sub-zero (c .before .before .before .before .before .before .pre .2), rw sub-zero (record { same = refl; room = refl }))
 
 -- a strip has few bits
 few : (c : tie.After-count Inv-loop μ-loop) → c .count .result ≤ 16
@@ -40,7 +41,7 @@ few c = rw (c .count .ensures) (ones-le 16 (c .before .before .before .args .sig
 -- the bits of the next strip
 module _ (c : tie.In-loop Inv-loop μ-loop) where
   abbrev counted : tie.After-count Inv-loop μ-loop
-  counted = c .before .before .before .before
+  counted = c .before .before .before .before .before
 
   abbrev s : tie.Start Inv-loop μ-loop
   s = counted .before .before .before
@@ -56,34 +57,40 @@ module _ (c : tie.In-loop Inv-loop μ-loop) where
 
 -- the next strip, of the last four bits and the others
 module _ (c : tie.After-spread-strip Inv-loop μ-loop) where
-  abbrev bits : ℕ
-  bits = c .before .read-field .result
+  abbrev l : tie.In-loop Inv-loop μ-loop
+  l = c .before .before .before .before
 
-  whole : getD (c .before .before .before .before .before .four-strips .result) (bits % 16) 0 + c .spread-strip .result ≡ stripOf (s (c .before .before) .args .signals) bits
+  abbrev signals : ℕ
+  signals = s l .args .signals
+
+  abbrev bits : ℕ
+  bits = c .before .cut .result
+
+  whole : getD (l .before .before .before .before .four-strips .result) (bits % 16) 0 + c .spread-strip .result ≡ stripOf signals bits
   whole =
-      let p = c .before .before .before .before in
+      let p = l .before .before .before in
       let others = rw (p .without-four .ensures) at (c .spread-strip .ensures) in
       omega (arith, others, p .before .four-strips .ensures .apart bits)
 
-  small : stripOf (s (c .before .before) .args .signals) bits < 2 ^ 16
+  small : stripOf signals bits < 2 ^ 16
   unfolding spreadOf
-  small = spread-lt 16 (s (c .before .before) .args .signals) bits
+  small = spread-lt 16 signals bits
 
 loop-again : tie.Need-loop-again Inv-loop μ-loop
 loop-again c =
-    let p = c .before .before in
+    let p = l c in
     let x = s p .args in
     let l = p .before .loop in
     let wide : counted p .count .result ≡ w p = counted p .count .ensures in
-    let width : l .next - l .at ≡ counted p .count .result = omega (arith, l .inv .1) in
-    let strip = whole c ∙ ap (stripOf (x .signals)) (rw width at (c .before .read-field .ensures)) in
+    let seen = c .before .before .before .window-for .ensures in
+    let strip = whole c ∙ ap (stripOf (x .signals)) (seen-field (x .bytes .now) _ (l .at) _ _ (seen .0) (seen .1) (c .before .cut .ensures)) in
     let filled = one-filled (x .bytes .now) (x .n) (l .i) (l .at) (x .signals) (omega arith) (s p .fits .signals .fits) wide strip (omega (arith, there p, wide)) _ (l .strips) (l .inv .4) (omega arith) in
-    (omega arith, omega (arith, l .inv .1), omega (arith, few (counted p)), rw (add-one (l .i)) (omega (arith, wide, there p)), rw (add-one (l .i)) filled)
+    (omega arith, record { before = omega (arith, seen .0 .before); bits = seen .0 .bits }, omega (arith, few (counted p)), rw (add-one (l .i)) (omega (arith, wide, there p)), rw (add-one (l .i)) filled)
 
 -- as many strips as there are satellites
 module _ (c : tie.After-strips Inv-loop μ-loop) where
   abbrev first : tie.Start Inv-loop μ-loop
-  first = c .before .before .before .before .before .before .before .before
+  first = c .before .before .before .before .before .before .before .before .before
 
   long : length (take (first .args .n) (c .before .before .loop .strips)) ≡ first .args .n
   long = length-take-le (first .args .n) (c .before .before .loop .strips) (omega (arith, c .before .before .loop .inv .4 .room))
@@ -108,18 +115,19 @@ cell-strips-spec =
     (λ c κs. search needs)
     (λ c κs. search needs)
     (λ c κs. search needs)
-    (λ c. omega (arith, few (c .before .before)))
+    (λ c κs. omega arith)
+    (λ c. omega arith)
     loop-holds
-    (λ c. omega (arith, c .before .loop .inv .1))
-    (λ c κs. omega (arith, c .before .loop .inv .1, few (counted c)))
+    (λ c κs. (few (counted c), omega (arith, c .before .loop .inv), c .before .loop .inv .1))
+    (λ c. c .before .window-for .ensures .0 .before)
+    (λ c κs. c .before .window-for .ensures .1)
     (λ c. omega arith)
     (λ c. omega arith)
     (λ c κs. search needs)
     (λ c. omega (arith, whole c, small c))
     (λ c. omega arith)
     (λ c. omega arith)
-    (λ c. omega (arith, few (counted (c .before .before))))
-    (λ c. omega (arith, few (counted (c .before .before))))
+    (λ c. omega (arith, few (counted (l c))))
     (λ c. omega arith)
     (λ c. omega arith)
     loop-again
