@@ -3,13 +3,16 @@
 use mathlib.Core.Path.{_≡_, refl, sym, ap, _∙_}
 use mathlib.Core.Bool.{Bool, true, false}
 use mathlib.Core.List.{List, [], _∷_, _++_, append-nil, flatMap}
-use Prim.Native.Nat.{ℕ, zero, suc, _+_, _-_, _*_, _^_, _≤_, _<_}
+use Prim.Native.Nat.{ℕ, zero, suc, _+_, _-_, _*_, _/_, _%_, _^_, _≤_, _<_}
 use native.Mathlib.Nat.{le-of-suc-le-suc}
 use native.Mathlib.Omega.{arith}
 use lib.Count.{ones}
 use lib.ListN.{length, take, drop, set, replicate, length-append, length-set}
 use lib.Seq.{append-snoc, drop-drop, take-suc-set}
+use Rattle.adoption.specs.declared.grow.Window.{Window}
+use Rattle.adoption.specs.Growing.{Sees}
 use Rattle.bits.proofs.Bridge.{spell-field}
+use Rattle.bits.proofs.Windows.{in-window}
 use Rattle.bits.specs.BitLists.{number, spell, bits}
 use Rattle.bits.specs.Places.{field}
 use Rattle.format.specs.Masks.{Mask, placesFrom}
@@ -37,11 +40,27 @@ strip-front (true ∷ places) l k zero room = absurd (omega arith)
 strip-front (true ∷ places) [] k (suc n) room = refl
 strip-front (true ∷ places) (b ∷ l) k (suc n) room = ap (λ (m : List Bool). b ∷ m) (strip-front places l (suc k) n (le-of-suc-le-suc room))
 
+-- those at a place, cut out of a window
+pub seen-field : (bs : List ℕ) (window : Window) (at w n : ℕ) → Sees bs window at → at - window .from + w < 64 → n ≡ window .bits / 2 ^ (64 - (at - window .from) - w) % 2 ^ w → n ≡ field bs at w
+seen-field bs window at w n sees fits e =
+    let there : window .from + (at - window .from) ≡ at = omega (arith, sees .before) in
+    e ∙ ap (λ (b : ℕ). b / 2 ^ (64 - (at - window .from) - w) % 2 ^ w) (sees .bits)
+    ∙ in-window bs (window .from) (at - window .from) w (64 - (at - window .from) - w) (omega arith) ∙ ap (λ (p : ℕ). field bs p w) there
+
 -- ---- an array filled with strips
 
 -- n strips of the bits from a place on
 abbrev pub stripsAt : List ℕ → ℕ → ℕ → ℕ → List ℕ
 stripsAt bs place n signals = stripsFrom n (spell 16 signals) (drop place (bits bs))
+
+-- without a signal each is 0, as the signal mask is
+pub no-signals : (bs : List ℕ) (place n signals : ℕ) → signals ≡ 0 → replicate n signals ≡ stripsAt bs place n signals
+unfolding stripsFrom spell spread placesFrom number
+no-signals bs place n signals none = rw none (zeros n (drop place (bits bs)))
+  where
+    zeros : (n : ℕ) (l : List Bool) → replicate n 0 ≡ stripsFrom n (spell 16 0) l
+    zeros zero l = refl
+    zeros (suc n) l = ap (λ (strips : List ℕ). 0 ∷ strips) (zeros n l)
 
 -- the first strips of an array of 64, and those left, are all strips
 pub record Filling (all strips : List ℕ) (i : ℕ) (left : List ℕ) : Type 0 where
@@ -72,12 +91,6 @@ module _ (bs : List ℕ) (n i at signals : ℕ) (more : i < n) (small : signals 
 -- with none left
 pub all-filled : (all strips : List ℕ) (i : ℕ) → Filling all strips i [] → take i strips ≡ all
 all-filled all strips i f = sym (f .same ∙ append-nil (take i strips))
-
--- the first of an array's strips that are all the same
-pub take-replicate : (n m x : ℕ) → n ≤ m → take n (replicate m x) ≡ replicate n x
-take-replicate zero m x fits = refl
-take-replicate (suc n) zero x fits = absurd (omega arith)
-take-replicate (suc n) (suc m) x fits = ap (λ (l : List ℕ). x ∷ l) (take-replicate n m x (omega arith))
 
 -- ---- what they build
 

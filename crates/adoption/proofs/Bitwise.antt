@@ -3,13 +3,14 @@
 use mathlib.Core.Path.{_≡_, refl, sym, ap, _∙_}
 use mathlib.Core.Bool.{Bool, true, false}
 use mathlib.Core.List.{List, [], _∷_, _++_, append-nil}
-use Prim.Native.Nat.{ℕ, zero, suc, _+_, _-_, _*_, _/_, _%_, _^_, _<_}
-use native.Mathlib.Nat.{add-zero, suc-inj, pow-suc, mul-assoc, mul-comm}
+use Prim.Native.Nat.{ℕ, zero, suc, _+_, _-_, _*_, _/_, _%_, _^_, _≤_, _<_}
+use native.Mathlib.Nat.{add-zero, zero-add, suc-inj, pow-suc, mul-assoc, mul-comm}
 use native.Mathlib.Numerals.{add-one}
 use native.Mathlib.Omega.{arith}
-use lib.Bits.{bitAnd, and-step, and-self}
+use lib.Bits.{bitAnd, and-step, and-self, and-le-l}
 use lib.Count.{ones, ones-step}
-use lib.ListN.{length}
+use lib.ListN.{length, getD}
+use Rattle.adoption.specs.Spreading.{withoutLast, withoutFour, ByFour}
 use Rattle.bits.proofs.BitLists.{number-lt, number-append, length-spell, spell-append}
 use Rattle.bits.specs.BitLists.{number, spell}
 use Rattle.format.specs.Masks.{placesFrom}
@@ -141,3 +142,90 @@ next (suc w) mask bits some small =
     by zero bit some fewer more = next-even w (mask / 2) bits (omega arith) fewer (more (omega arith))
     by (suc zero) bit some fewer more = next-odd w (mask / 2) bits fewer
     by (suc (suc d)) bit some fewer more = absurd (omega arith)
+
+-- ---- four places at once
+
+-- the last place taken away, also where there is none
+last-out : (mask rest bits : ℕ) → rest ≡ withoutLast mask → mask < 2 ^ 16 → (rest ≤ mask) × (spreadOf 16 mask bits ≡ spreadOf 16 rest (bits / 2) + (mask - rest) * (bits % 2))
+last-out zero rest bits e small =
+    let none : rest ≡ 0 = omega (arith, e, and-le-l 0 (0 - 1)) in
+    rw none (omega arith, omega (arith, spread-none bits, spread-none (bits / 2)))
+last-out (suc m) rest bits e small = let it = next 16 (suc m) bits (omega arith) small in rw e (omega (arith, it .less), it .strip)
+
+-- what four bits add up to, and the sums by the number that the bits are
+abbrev fourOf : ℕ → ℕ → ℕ → ℕ → ℕ → ℕ
+fourOf a b c d bits = a * (bits % 2) + b * (bits / 2 % 2) + c * (bits / 2 / 2 % 2) + d * (bits / 2 / 2 / 2 % 2)
+
+abbrev sums : ℕ → ℕ → ℕ → ℕ → List ℕ
+sums a b c d =
+    0 ∷ a ∷ b ∷ (a + b) ∷ c ∷ (a + c) ∷ (b + c) ∷ (a + b + c) ∷ d ∷ (a + d) ∷ (b + d) ∷ (a + b + d) ∷ (c + d) ∷ (a + (c + d)) ∷ (b + (c + d)) ∷ (a + b + (c + d)) ∷ []
+
+-- numbers that a law gives, from the k-th on
+unfoldable Lawful : (ℕ → ℕ) → ℕ → List ℕ → Type 0
+Lawful f k [] = Unit {0}
+Lawful f k (x ∷ xs) = (x ≡ f k) × Lawful f (suc k) xs
+
+lawful-at : (f : ℕ → ℕ) (k : ℕ) (xs : List ℕ) (n : ℕ) → Lawful f k xs → n < length xs → getD xs n 0 ≡ f (k + n)
+unfolding Lawful
+lawful-at f k [] n laws inside = absurd (omega arith)
+lawful-at f k (x ∷ xs) zero laws inside = laws .0 ∙ ap f (sym (add-zero k))
+lawful-at f k (x ∷ xs) (suc n) laws inside = lawful-at f (suc k) xs n (laws .1) (omega arith) ∙ ap f (omega arith)
+
+sum-at : (a b c d n : ℕ) → n < 16 → getD (sums a b c d) n 0 ≡ fourOf a b c d n
+unfolding Lawful
+sum-at a b c d n small =
+    lawful-at (fourOf a b c d) 0 (sums a b c d) n (
+      omega arith,
+      (
+        omega arith,
+        (
+          omega arith,
+          (
+            omega arith,
+            (
+              omega arith,
+              (
+                omega arith,
+                (
+                  omega arith,
+                  (
+                    omega arith,
+                    (
+                      omega arith,
+                      (omega arith, (omega arith, (omega arith, (omega arith, (omega arith, (omega arith, (omega arith, tt {0}))))))),
+                    ),
+                  ),
+                ),
+              ),
+            ),
+          ),
+        ),
+      ),
+    )
+    small ∙ ap (fourOf a b c d) (zero-add n)
+
+pub four-out : (mask second third fourth rest : ℕ) → mask < 2 ^ 16 → second ≡ withoutLast mask → third ≡ withoutLast second → fourth ≡ withoutLast third → rest ≡ withoutLast fourth
+    → ByFour mask (sums (mask - second) (second - third) (third - fourth) (fourth - rest))
+unfolding spreadOf
+four-out mask second third fourth rest small e e′ e″ e‴ =
+    let chain : rest ≡ withoutFour mask = e‴ ∙ ap (λ (m : ℕ). withoutLast m) (e″ ∙ ap (λ (m : ℕ). withoutLast m) (e′ ∙ ap (λ (m : ℕ). withoutLast m) e)) in
+    record {
+      apart = λ bits.
+          let it = last-out mask second bits e small in
+          let it′ = last-out second third (bits / 2) e′ (omega (arith, it)) in
+          let it″ = last-out third fourth (bits / 2 / 2) e″ (omega (arith, it, it′)) in
+          let it‴ = last-out fourth rest (bits / 2 / 2 / 2) e‴ (omega (arith, it, it′, it″)) in
+          let sum = sum-at (mask - second) (second - third) (third - fourth) (fourth - rest) (bits % 16) (omega arith) in
+          let half : bits / 2 ≡ bits / 16 * 8 + bits % 16 / 2 = omega arith in
+          let quarter : bits / 2 / 2 ≡ bits / 16 * 4 + bits % 16 / 2 / 2 = omega (arith, half) in
+          let eighth : bits / 2 / 2 / 2 ≡ bits / 16 * 2 + bits % 16 / 2 / 2 / 2 = omega (arith, quarter) in
+          let down : bits / 16 ≡ bits / 2 / 2 / 2 / 2 = omega (arith, eighth) in
+          let bit : bits % 16 % 2 ≡ bits % 2 = omega arith in
+          let bit′ : bits % 16 / 2 % 2 ≡ bits / 2 % 2 = omega (arith, half) in
+          let bit″ : bits % 16 / 2 / 2 % 2 ≡ bits / 2 / 2 % 2 = omega (arith, quarter) in
+          let bit‴ : bits % 16 / 2 / 2 / 2 % 2 ≡ bits / 2 / 2 / 2 % 2 = omega (arith, eighth) in
+          rw (← chain, sum, down, bit, bit′, bit″, bit‴) (gather _ _ _ _ _ (it .1) (it′ .1) (it″ .1) (it‴ .1));
+    }
+  where
+    gather : (t p q r u : ℕ) {s s′ s″ s‴ : ℕ} → s ≡ s′ + p → s′ ≡ s″ + q → s″ ≡ s‴ + r → s‴ ≡ t + u → s ≡ t + (p + q + r + u)
+    gather t p q r u e e′ e″ e‴ = omega arith

@@ -1,3 +1,4 @@
 pub mod Adoptions
 pub mod Growing
+pub mod Spreading
 pub mod Stages

@@ -77,7 +77,8 @@ pub fn read_cells(h: Holding, bytes: &[u8], end: usize, place: usize, m: Masks) 
             if flag != 0 {
                 return flagged_cells(h, bytes, end, at, m);
             }
-            let grown = grow::all_strips(h, set_places::count(m.satellites), m.signals);
+            // every signal counts for every satellite
+            let grown = h.with_equal(set_places::count(m.satellites), m.signals);
             settle(h, grown, m, false, at)
         }
     }

@@ -1,8 +1,62 @@
-// One satellite's strip from its part of a cell mask.
+// One satellite's strip from its part of a cell mask: the last four bits by a table that the signal mask alone fixes, the
+// others one by one.
 ghost use mathlib.Core.Path.{_≡_};
+ghost use Prim.Native.Nat.{_≤_};
 ghost use lib.Count.{ones};
+ghost use Rattle.adoption.specs.Spreading.{withoutLast, withoutFour, ByFour};
 ghost use Rattle.bits.specs.BitLists.{number, spell};
 ghost use Rattle.holding.specs.Spread.{spread};
+
+// A mask without its last place; 0 where it has none.
+fn without_last(mask: u16) -> u16
+    ensures { λ r. ⌜ r ≡ withoutLast mask ⌝ }
+    ensures { λ r. ⌜ r ≤ mask ⌝ }
+{
+    if mask == 0 {
+        return 0;
+    }
+    mask & (mask - 1)
+}
+
+// A mask without its last four places.
+pub fn without_four(mask: u16) -> u16
+    ensures { λ r. ⌜ r ≡ withoutFour mask ⌝ }
+{
+    without_last(without_last(without_last(without_last(mask))))
+}
+
+// The strips that four bits make at a mask's last four places, by the number that the bits are.
+pub fn four_strips(mask: u16) -> [u16; 16]
+    ensures { λ r. ⌜ ByFour mask r ⌝ }
+{
+    let second = without_last(mask);
+    let third = without_last(second);
+    let fourth = without_last(third);
+    let a = mask - second;
+    let b = second - third;
+    let c = third - fourth;
+    let d = fourth - without_last(fourth);
+    let ab = a + b;
+    let cd = c + d;
+    [
+        0,
+        a,
+        b,
+        ab,
+        c,
+        a + c,
+        b + c,
+        ab + c,
+        d,
+        a + d,
+        b + d,
+        ab + d,
+        cd,
+        a + cd,
+        b + cd,
+        ab + cd,
+    ]
+}
 
 // The low bits, as many as the signal mask has places set, at those places: the last bit at the last place, and so
 // up to the first.

@@ -10,7 +10,7 @@ pub mod testing;
 
 ghost use mathlib.Core.Path.{_≡_};
 ghost use mathlib.Core.List.{[]};
-ghost use lib.ListN.{length};
+ghost use lib.ListN.{length, replicate};
 ghost use Prim.Native.Nat.{_+_, _<_, _≤_};
 ghost use Rattle.format.specs.Masks.{nothing, mask};
 ghost use Rattle.holding.specs.Building.{withStrips, withSystem};
@@ -118,6 +118,22 @@ impl Holding {
         }
         self.nsat = first + i;
         self.ncell = sum;
+        self
+    }
+
+    // With the same strip for each of the next n satellites.
+    pub fn with_equal(mut self, n: usize, strip: u16) -> Self
+        requires { ⌜ (self .nsat + n ≤ 64) × (self .ncell ≤ 256) ⌝ }
+        ensures { λ r. ⌜ r ≡ withStrips self (replicate n strip) ⌝ }
+    {
+        let first = self.nsat;
+        let mut i = 0;
+        while i < n {
+            self.strips[first + i] = strip;
+            i += 1;
+        }
+        self.nsat = first + i;
+        self.ncell += i * set_places::count(strip as u64);
         self
     }
 

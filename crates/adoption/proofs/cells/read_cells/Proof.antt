@@ -56,13 +56,13 @@ returns c =
     let p = c .before .before in
     c .flagged-cells .ensures ∙ ap (grownBy (maskIn (s p .args .h))) (sym (ends p 1 (omega (arith, fits (s p .pre .1) 1 (there p), c .before .if1 .taken))))
 
-all-strips-requires : tie.Need-all-strips-requires
-all-strips-requires c κs =
+with-equal-requires : tie.Need-with-equal-requires
+with-equal-requires c κs =
     let s = s (c .before .before) in
     (omega (arith, c .count .ensures, s .pre .0 .strips), holds (s .args .h) (s .pre .0 .has-mask) .few-cells)
 
 settle-requires : tie.Need-settle-requires
-settle-requires c κs = rw (c .all-strips .ensures, strips-count) (s (c .before .before .before) .pre .0 .slot)
+settle-requires c κs = rw (c .with-equal .ensures, strips-count) (s (c .before .before .before) .pre .0 .slot)
 
 returns-2 : tie.Need-returns-2
 unfolding systemCells
@@ -78,7 +78,7 @@ returns-3 c =
     let p = c .before .before .before .before in
     let s = s p in
     let x = s .args in
-    let strips = c .before .all-strips .ensures ∙ ap (λ (n : ℕ). withStrips (x .h) (replicate n (x .m .signals))) (c .before .before .count .ensures) in
+    let strips = c .before .with-equal .ensures ∙ ap (λ (n : ℕ). withStrips (x .h) (replicate n (x .m .signals))) (c .before .before .count .ensures) in
     c .settle .ensures ∙ ap (λ (g : Holding). settled (x .h) g (x .m .id) (x .m .satellites) (x .m .signals) false (x .place + 1)) strips
     ∙ plain-made (s .pre .0) (x .m .id) (x .m .signals) (s .good .1 .1 .1 .1 .0 .1 .1 .1 .1 .0 .1) (after p) ∙ ap (grownBy (maskIn (x .h))) (sym (ends p 0 (c .before .before .before .if1 .left)))
 
@@ -86,4 +86,4 @@ pub read-cells-spec : {M : Type 1} → statement M
 read-cells-spec =
     tie.close
     (tie.spec (λ c κs. search needs) (λ c. search needs) (λ c. search needs) (λ c. search needs) (λ c κs. (s (c .before) .pre .0, after (c .before))) returns (λ c κs. search needs)
-    all-strips-requires settle-requires returns-2 returns-3)
+    with-equal-requires settle-requires returns-2 returns-3)
