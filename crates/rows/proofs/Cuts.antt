@@ -1,12 +1,12 @@
 -- The values of a row, cut out of a window that was halved: one alone, those of a row of three columns, and those of a row of five with the last from
 -- elsewhere.
 -- Assumes nothing.
-use mathlib.Core.Path.{_≡_, refl, ap, ap₂, _∙_}
+use mathlib.Core.Path.{_≡_, refl, sym, ap, ap₂, _∙_}
 use mathlib.Core.List.{List, [], _∷_}
 use Prim.Native.Nat.{ℕ, _+_, _-_, _*_, _/_, _%_, _^_, _≤_, _<_}
 use native.Mathlib.Omega.{arith}
 use lib.IntN.{ℤ}
-use lib.Pow.{shr-le, shr-shr}
+use lib.Pow.{shr-le, shr-shr, shl-shr, shl-exact}
 use Rattle.bits.proofs.Fields.{field-lt}
 use Rattle.bits.proofs.Windows.{in-window}
 use Rattle.bits.specs.Places.{field}
@@ -47,6 +47,18 @@ module _ (bs : List ℕ) (at : ℕ) {window : ℕ} (there : window ≡ field bs 
 
   pub moved-lt : (s k : ℕ) → window / 2 / 2 ^ s / 2 ^ k < 2 ^ 63
   moved-lt s k = omega (arith, half-lt s, shr-le (window / 2 / 2 ^ s) k)
+
+  -- its front half, moved up to a place and down behind w bits
+  pub front-cut : (w : ℕ) → w ≤ 15 → window / 2 ^ 32 * 2 ^ (at % 8) % 2 ^ 64 / 2 ^ (32 - w) ≡ window / 2 / 2 ^ (63 - at % 8 - w)
+  front-cut w narrow =
+      let up : ℕ = at % 8 in
+      let down : ℕ = 32 - w - up in
+      let front : ℕ = window / 2 ^ 32 in
+      let small : front < 2 ^ 32 = omega (arith, field-lt bs (8 * (at / 8)) 64) in
+      let e : 32 - w ≡ up + down = omega arith in
+      let f : 32 + down ≡ 1 + (63 - up - w) = omega arith in
+      rw (shl-exact 32 up 64 small (omega arith), e, ← (shr-shr (front * 2 ^ up) up down), shl-shr front up)
+      (shr-shr window 32 down ∙ ap (λ (k : ℕ). window / 2 ^ k) f ∙ sym (shr-shr window 1 (63 - up - w)))
 
   -- the column at a place from there on, with s bits below it up to the window's last bit but one
   pub column-cut : (c : CodeColumn) (place s : ℕ) → at ≤ place → place + c .width + s ≡ 8 * (at / 8) + 63 → cutBy c (window / 2 / 2 ^ s) ≡ columnAt c bs place

@@ -32,14 +32,25 @@ fn store(row: &mut [i32], a: i32, b: i32, c: i32, d: i32, e: i32, f: i32, g: i32
     row[7] = h;
 }
 
-// The value of one column, from a window of its own. A window is halved first, so that a shift by all of it, for a
-// column of no bits at its front, stays below 64.
+// The value of one column, from the front of a window of its own: half of it holds every column, and is one load where
+// a window moved down by one bit is a load for each byte.
 fn alone(bytes: &[u8], at: usize, c: Column) -> i32
     requires { ⌜ Formed c × (at + 64 ≤ 8 * length (now bytes)) ⌝ }
     ensures { λ r. ⌜ r ≡ valueOf (columnOf c) (field (now (bytes .entry)) at (c .width)) ⌝ }
 {
-    let half = window::eight(bytes, at / 8) >> 1;
-    shape::value(half >> (63 - at % 8 - c.width), c)
+    let front = window::eight(bytes, at / 8) >> 32;
+    shape::value((front << (at % 8)) >> (32 - c.width), c)
+}
+
+// The value of a row's only column. A row of gaps reads no window: the compiler tests it outside the loop over rows.
+fn sole(bytes: &[u8], at: usize, c: Column) -> i32
+    requires { ⌜ Formed c × (at + 64 ≤ 8 * length (now bytes)) ⌝ }
+    ensures { λ r. ⌜ r ≡ valueOf (columnOf c) (field (now (bytes .entry)) at (c .width)) ⌝ }
+{
+    if c.width > 0 {
+        return alone(bytes, at, c);
+    }
+    ABSENT
 }
 
 // The value of a column that most rows do not have, from half a window of which so many bits are left.
@@ -127,7 +138,7 @@ fn last(
     requires { ⌜ (length (now row) ≡ 8) × Formed v5 × (at + 64 ≤ 8 * length (now bytes)) ⌝ }
     ensures { λ _. ⌜ now (row .exit) ≡ system ∷ satellite ∷ signal ∷ valuesAt (columnsOf (lastOf v5)) (now (bytes .entry)) at ⌝ }
 {
-    let value = alone(bytes, at, v5);
+    let value = sole(bytes, at, v5);
     store(
         row,
         system,

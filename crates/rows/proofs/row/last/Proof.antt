@@ -15,8 +15,8 @@ returns c =
     let s = v .before .before in
     let x = s .args in
     c .before .store .ensures
-    ∙ rw (toZ-ofZ (s .fits .system), toZ-ofZ (s .fits .satellite), toZ-ofZ (s .fits .signal), toZ-ofZ {w = w32} (record { sfits = v .alone .ok }))
-    (ap (λ (l : List ℤ). x .system ∷ x .satellite ∷ x .signal ∷ l) (values-last (x .v5) (x .bytes .now) (x .at) (v .alone .ensures)))
+    ∙ rw (toZ-ofZ (s .fits .system), toZ-ofZ (s .fits .satellite), toZ-ofZ (s .fits .signal), toZ-ofZ {w = w32} (record { sfits = v .sole .ok }))
+    (ap (λ (l : List ℤ). x .system ∷ x .satellite ∷ x .signal ∷ l) (values-last (x .v5) (x .bytes .now) (x .at) (v .sole .ensures)))
 
 pub last-spec : {M : Type 1} → statement M
 last-spec = tie.close (tie.spec (λ c κs. search needs) (λ c κs. search needs) (λ c. search needs) returns)

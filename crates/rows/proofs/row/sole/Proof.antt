@@ -1,0 +1,15 @@
+-- `rows::row::sole` meets its contract. Assumes nothing.
+use native.Mathlib.Omega.{arith}
+use borrow.Author.Needs.{needs}
+use Rattle.format.specs.Rows.{valueOf}
+use Rattle.rows.proofs.Columns.{gap-of}
+use Rattle.rows.proofs.row.sole.Statement.{statement}
+use Rattle.rows.proofs.row.sole.Tie as tie
+
+-- a column of no bits is a gap
+returns-2 : tie.Need-returns-2
+unfolding valueOf
+returns-2 c = let x = c .before .before .before .args in rw (gap-of (x .c) (omega arith))
+
+pub sole-spec : {M : Type 1} → statement M
+sole-spec = tie.close (tie.spec (λ c κs. search needs) (λ c. search needs) returns-2)
