@@ -1,8 +1,9 @@
 -- The values of a row, cut out of a window that was halved: one alone, those of a row of three columns, and those of a row of five with the last from
--- elsewhere.
+-- elsewhere; and those of a row of gaps but for one column.
 -- Assumes nothing.
 use mathlib.Core.Path.{_≡_, refl, sym, ap, ap₂, _∙_}
 use mathlib.Core.List.{List, [], _∷_}
+use mathlib.Core.Logic.{_⊎_, ⊎-elim}
 use Prim.Native.Nat.{ℕ, _+_, _-_, _*_, _/_, _%_, _^_, _≤_, _<_}
 use native.Mathlib.Omega.{arith}
 use lib.IntN.{ℤ}
@@ -10,11 +11,11 @@ use lib.Pow.{shr-le, shr-shr, shl-shr, shl-exact}
 use Rattle.bits.proofs.Fields.{field-lt}
 use Rattle.bits.proofs.Windows.{in-window}
 use Rattle.bits.specs.Places.{field}
-use Rattle.format.specs.Rows.{Column, absent, widthOf, valueOf}
+use Rattle.format.specs.Rows.{Column, absent, valueOf}
 use Rattle.rows.specs.declared.shape.Column.{Column as CodeColumn}
 use Rattle.rows.specs.declared.shape.Shape.{Shape}
 use Rattle.rows.specs.At.{valuesAt}
-use Rattle.rows.specs.Shapes.{columnOf, columnFor, columnsOf, lastOf, FormedShape, Narrow}
+use Rattle.rows.specs.Shapes.{columnOf, columnsOf, FormedShape, Narrow}
 use Rattle.rows.proofs.Columns.{gap-of, width-of}
 
 -- what a column makes of a number whose low bits are its own
@@ -31,14 +32,6 @@ values-cons :
     → z ≡ columnAt c bs at → zs ≡ valuesAt cs bs (at + c .width) → z ∷ zs ≡ valuesAt (columnOf c ∷ cs) bs at
 unfolding valuesAt
 values-cons c cs bs at here rest = rw (width-of c) (ap₂ _∷_ here rest)
-
--- gaps and one value
-pub values-last : (c : CodeColumn) (bs : List ℕ) (at : ℕ) {e : ℤ} → e ≡ columnAt c bs at
-    → absent ∷ absent ∷ absent ∷ absent ∷ e ∷ [] ≡ valuesAt (columnsOf (lastOf c)) bs at
-unfolding valuesAt valueOf widthOf columnOf columnFor columnsOf lastOf
-values-last c bs at e =
-    let here : at ≡ at + 0 + 0 + 0 + 0 = omega arith in
-    rw (width-of c, e) (ap (λ (p : ℕ). absent ∷ absent ∷ absent ∷ absent ∷ columnAt c bs p ∷ []) here)
 
 -- the window at the byte of a place
 module _ (bs : List ℕ) (at : ℕ) {window : ℕ} (there : window ≡ field bs (8 * (at / 8)) 64) where
@@ -75,37 +68,47 @@ module _ (bs : List ℕ) (at : ℕ) {window : ℕ} (there : window ≡ field bs 
       → cutBy c (window / 2 / 2 ^ s / 2 ^ k) ≡ columnAt c bs place
   moved-cut c place s k after whole = ap (cutBy c) (shr-shr (window / 2) s k) ∙ column-cut c place (s + k) after whole
 
-  module _ (h : Shape) (formed : FormedShape h) where
-    abbrev w1 : ℕ
-    w1 = h .v1 .width
+-- the values of a row
+module _ (bs : List ℕ) (at : ℕ) (h : Shape) where
+  abbrev w1 : ℕ
+  w1 = h .v1 .width
 
-    abbrev w2 : ℕ
-    w2 = h .v2 .width
+  abbrev w2 : ℕ
+  w2 = h .v2 .width
 
-    abbrev w3 : ℕ
-    w3 = h .v3 .width
+  abbrev w3 : ℕ
+  w3 = h .v3 .width
 
-    abbrev w4 : ℕ
-    w4 = h .v4 .width
+  abbrev w4 : ℕ
+  w4 = h .v4 .width
 
-    -- five values that are those of the columns at their places
-    values-five : {a b c d e : ℤ}
-        → a ≡ columnAt (h .v1) bs at
-        → b ≡ columnAt (h .v2) bs (at + w1)
-        → c ≡ columnAt (h .v3) bs (at + w1 + w2)
-        → d ≡ columnAt (h .v4) bs (at + w1 + w2 + w3)
-        → e ≡ columnAt (h .v5) bs (at + w1 + w2 + w3 + w4)
-        → a ∷ b ∷ c ∷ d ∷ e ∷ [] ≡ valuesAt (columnsOf h) bs at
-    unfolding columnsOf valuesAt
-    values-five one two three four five =
-        let c5 : List Column = columnOf (h .v5) ∷ [] in
-        let c4 : List Column = columnOf (h .v4) ∷ c5 in
-        let c3 : List Column = columnOf (h .v3) ∷ c4 in
-        values-cons (h .v1) (columnOf (h .v2) ∷ c3) bs at one
-        (values-cons (h .v2) c3 bs (at + w1) two
-        (values-cons (h .v3) c4 bs (at + w1 + w2) three
-        (values-cons (h .v4) c5 bs (at + w1 + w2 + w3) four (values-cons (h .v5) [] bs (at + w1 + w2 + w3 + w4) five refl))))
+  -- five values that are those of the columns at their places
+  values-five : {a b c d e : ℤ}
+      → a ≡ columnAt (h .v1) bs at
+      → b ≡ columnAt (h .v2) bs (at + w1)
+      → c ≡ columnAt (h .v3) bs (at + w1 + w2)
+      → d ≡ columnAt (h .v4) bs (at + w1 + w2 + w3)
+      → e ≡ columnAt (h .v5) bs (at + w1 + w2 + w3 + w4)
+      → a ∷ b ∷ c ∷ d ∷ e ∷ [] ≡ valuesAt (columnsOf h) bs at
+  unfolding columnsOf valuesAt
+  values-five one two three four five =
+      let c5 : List Column = columnOf (h .v5) ∷ [] in
+      let c4 : List Column = columnOf (h .v4) ∷ c5 in
+      let c3 : List Column = columnOf (h .v3) ∷ c4 in
+      values-cons (h .v1) (columnOf (h .v2) ∷ c3) bs at one
+      (values-cons (h .v2) c3 bs (at + w1) two
+      (values-cons (h .v3) c4 bs (at + w1 + w2) three
+      (values-cons (h .v4) c5 bs (at + w1 + w2 + w3) four (values-cons (h .v5) [] bs (at + w1 + w2 + w3 + w4) five refl))))
 
+  -- the first and the last, one of which is a gap, from the row's place
+  pub values-ends : w2 + w3 ≡ 0 → w4 ≡ 0 → (h .v5 .width ≡ 0) ⊎ (w1 + w2 + w3 ≡ 0) → {a e : ℤ} → a ≡ columnAt (h .v1) bs at → e ≡ columnAt (h .v5) bs at
+      → a ∷ absent ∷ absent ∷ absent ∷ e ∷ [] ≡ valuesAt (columnsOf h) bs at
+  unfolding valueOf
+  values-ends none fourth others one five =
+      values-five one (rw (gap-of (h .v2) (omega arith))) (rw (gap-of (h .v3) (omega arith))) (rw (gap-of (h .v4) fourth))
+      (five ∙ ⊎-elim (λ gone. rw (gap-of (h .v5) gone)) (λ gone. ap (columnAt (h .v5) bs) (omega arith)) others)
+
+  module _ {window : ℕ} (there : window ≡ field bs (8 * (at / 8)) 64) (formed : FormedShape h) where
     -- three from the half window, s bits being below the first
     pub values-three : Narrow h → (s : ℕ) → s ≡ 63 - at % 8 - w1 → {a b c : ℤ}
         → a ≡ cutBy (h .v1) (window / 2 / 2 ^ s)
@@ -114,9 +117,9 @@ module _ (bs : List ℕ) (at : ℕ) {window : ℕ} (there : window ≡ field bs 
         → a ∷ b ∷ c ∷ absent ∷ absent ∷ [] ≡ valuesAt (columnsOf h) bs at
     unfolding valueOf
     values-three narrow s below one two three =
-        values-five (one ∙ column-cut (h .v1) at s (omega arith) (omega arith))
-        (two ∙ column-cut (h .v2) (at + w1) (s - w2) (omega arith) (omega arith))
-        (three ∙ column-cut (h .v3) (at + w1 + w2) (s - w2 - w3) (omega arith) (omega arith))
+        values-five (one ∙ column-cut bs at there (h .v1) at s (omega arith) (omega arith))
+        (two ∙ column-cut bs at there (h .v2) (at + w1) (s - w2) (omega arith) (omega arith))
+        (three ∙ column-cut bs at there (h .v3) (at + w1 + w2) (s - w2 - w3) (omega arith) (omega arith))
         (rw (gap-of (h .v4) (narrow .fourth)))
         (rw (gap-of (h .v5) (narrow .fifth)))
 
@@ -131,8 +134,8 @@ module _ (bs : List ℕ) (at : ℕ) {window : ℕ} (there : window ≡ field bs 
     values-wide s below one two three four five =
         let room = formed .window in
         let behind : at + (w1 + (w2 + (w3 + w4))) ≡ at + w1 + w2 + w3 + w4 = omega arith in
-        values-five (one ∙ moved-cut (h .v1) at s (w2 + (w3 + w4)) (omega arith) (omega arith))
-        (two ∙ moved-cut (h .v2) (at + w1) s (w3 + w4) (omega arith) (omega arith))
-        (three ∙ moved-cut (h .v3) (at + w1 + w2) s w4 (omega arith) (omega arith))
-        (four ∙ column-cut (h .v4) (at + w1 + w2 + w3) s (omega arith) (omega arith))
+        values-five (one ∙ moved-cut bs at there (h .v1) at s (w2 + (w3 + w4)) (omega arith) (omega arith))
+        (two ∙ moved-cut bs at there (h .v2) (at + w1) s (w3 + w4) (omega arith) (omega arith))
+        (three ∙ moved-cut bs at there (h .v3) (at + w1 + w2) s w4 (omega arith) (omega arith))
+        (four ∙ column-cut bs at there (h .v4) (at + w1 + w2 + w3) s (omega arith) (omega arith))
         (five ∙ ap (columnAt (h .v5) bs) behind)

@@ -61,17 +61,12 @@ module _ (s : Shape) (laid : Laid s) (system : ℕ) where
       let fourth : columnOf (s .v4) ≡ counts 13 = ap (λ (t : Shape). columnOf (t .v4)) same in
       rw (e, second, third, fourth) (ap (λ (c : Column). c ∷ counts 15 ∷ counts 13 ∷ counts 13 ∷ columnOf (s .v5) ∷ []) (column-back (fine-plain (iodeWidth system) (iode .0) (omega arith))))
 
-  pub last-columns : s .iode ≡ false → s .v1 .width + s .v2 .width + s .v3 .width ≡ 0 → columnsOf (lastOf (s .v5)) ≡ columnsIn s system
-  unfolding columnOf columnFor columnsOf columnsIn lastOf
-  last-columns e none =
-      rw (e, gap-of (s .v1) (omega arith), gap-of (s .v2) (omega arith), gap-of (s .v3) (omega arith), gap-of (s .v4) (laid .fourth e))
-
   pub bare-columns : s .iode ≡ false → columnsOf s ≡ columnsIn s system
   unfolding columnsOf columnsIn
   bare-columns e = rw e
 
-  pub bare-narrow : s .iode ≡ false → (s .v1 .width + s .v2 .width + s .v3 .width ≡ 0 → ⊥) → Narrow s
-  bare-narrow e some = record { iode = e; fourth = laid .fourth e; fifth = ⊎-elim (λ none. none) (λ none. absurd (some none)) (laid .others e) }
+  pub bare-narrow : s .iode ≡ false → (s .v2 .width + s .v3 .width ≡ 0 → ⊥) → Narrow s
+  bare-narrow e some = record { iode = e; fourth = laid .fourth e; fifth = ⊎-elim (λ none. none) (λ none. absurd (some (omega arith))) (laid .others e) }
 
 -- ---- how wide
 

@@ -1,6 +1,7 @@
 // One row, written: its three keys, and the values that its columns have at a place. Windows are read without a
 // test, so eight bytes have to be there from the byte of the row's last bit on.
 ghost use mathlib.Core.Path.{_≡_};
+ghost use mathlib.Core.Bool.{false};
 ghost use mathlib.Core.List.{[], _∷_};
 ghost use Prim.Native.Nat.{_+_, _-_, _*_, _/_, _%_, _^_, _≤_, _<_};
 ghost use lib.IntN.{pos};
@@ -9,7 +10,7 @@ ghost use Rattle.bits.specs.Places.{field};
 ghost use Rattle.format.specs.Messages.{iodeWidth};
 ghost use Rattle.format.specs.Rows.{absent, valueOf};
 ghost use Rattle.rows.specs.At.{valuesAt};
-ghost use Rattle.rows.specs.Shapes.{columnOf, columnsOf, columnsIn, lastOf, Formed, FormedShape, Laid, Narrow};
+ghost use Rattle.rows.specs.Shapes.{columnOf, columnsOf, columnsIn, Formed, FormedShape, Laid, Narrow};
 use crate::shape;
 use crate::shape::Column;
 use crate::shape::Shape;
@@ -42,7 +43,8 @@ fn alone(bytes: &[u8], at: usize, c: Column) -> i32
     shape::value((front << (at % 8)) >> (32 - c.width), c)
 }
 
-// The value of a row's only column. A row of gaps reads no window: the compiler tests it outside the loop over rows.
+// The value of a column that a row may have or not. One without bits reads no window: the compiler tests it outside the
+// loop over rows, so that each kind of row has a loop of its own.
 fn sole(bytes: &[u8], at: usize, c: Column) -> i32
     requires { ⌜ Formed c × (at + 64 ≤ 8 * length (now bytes)) ⌝ }
     ensures { λ r. ⌜ r ≡ valueOf (columnOf c) (field (now (bytes .entry)) at (c .width)) ⌝ }
@@ -125,30 +127,21 @@ pub fn wide(
     );
 }
 
-// A row of four gaps and one column.
-fn last(
-    row: &mut [i32],
-    system: i32,
-    satellite: i32,
-    signal: i32,
-    bytes: &[u8],
-    at: usize,
-    v5: Column,
-)
-    requires { ⌜ (length (now row) ≡ 8) × Formed v5 × (at + 64 ≤ 8 * length (now bytes)) ⌝ }
-    ensures { λ _. ⌜ now (row .exit) ≡ system ∷ satellite ∷ signal ∷ valuesAt (columnsOf (lastOf v5)) (now (bytes .entry)) at ⌝ }
+// A row of gaps but for its first or its last column.
+fn ends(row: &mut [i32], system: i32, satellite: i32, bytes: &[u8], at: usize, s: Shape)
+    requires { ⌜ (length (now row) ≡ 8) × FormedShape s × Laid s × (s .iode ≡ false) × (s .v2 .width + s .v3 .width ≡ 0) × (at + 64 ≤ 8 * length (now bytes)) ⌝ }
+    ensures { λ _. ⌜ now (row .exit) ≡ system ∷ satellite ∷ absent ∷ valuesAt (columnsOf s) (now (bytes .entry)) at ⌝ }
 {
-    let value = sole(bytes, at, v5);
     store(
         row,
         system,
         satellite,
-        signal,
+        ABSENT,
+        sole(bytes, at, s.v1),
         ABSENT,
         ABSENT,
         ABSENT,
-        ABSENT,
-        value,
+        sole(bytes, at, s.v5),
     );
 }
 
@@ -176,8 +169,8 @@ pub fn satellite(
             at,
             shapes::orbit(iode, s.v5),
         );
-    } else if s.v1.width + s.v2.width + s.v3.width == 0 {
-        last(row, id, number, ABSENT, bytes, at, s.v5);
+    } else if s.v2.width + s.v3.width == 0 {
+        ends(row, id, number, bytes, at, s);
     } else {
         three(row, id, number, ABSENT, bytes, at, s);
     }
