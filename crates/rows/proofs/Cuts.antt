@@ -1,15 +1,16 @@
--- The values of a row, cut out of a window that was halved: one alone, those of a row of three columns, and those of a row of five with the last from
+-- The values of a row, cut out of a window that was halved: one alone, those of a row of two columns, and those of a row of five with the last from
 -- elsewhere; and those of a row of gaps but for one column.
 -- Assumes nothing.
 use mathlib.Core.Path.{_≡_, refl, sym, ap, ap₂, _∙_}
 use mathlib.Core.List.{List, [], _∷_}
 use mathlib.Core.Logic.{_⊎_, ⊎-elim}
 use Prim.Native.Nat.{ℕ, _+_, _-_, _*_, _/_, _%_, _^_, _≤_, _<_}
+use native.Mathlib.Nat.{mod-lt}
 use native.Mathlib.Omega.{arith}
 use lib.IntN.{ℤ}
-use lib.Pow.{shr-le, shr-shr, shl-shr, shl-exact}
+use lib.Pow.{shr-le, shr-shr, shl-shr, shl-exact, mod-pow-add, low, pow-pos}
 use Rattle.bits.proofs.Fields.{field-lt}
-use Rattle.bits.proofs.Windows.{in-window}
+use Rattle.bits.proofs.Windows.{in-window, shifted}
 use Rattle.bits.specs.Places.{field}
 use Rattle.format.specs.Rows.{Column, absent, valueOf}
 use Rattle.rows.specs.declared.shape.Column.{Column as CodeColumn}
@@ -32,6 +33,9 @@ values-cons :
     → z ≡ columnAt c bs at → zs ≡ valuesAt cs bs (at + c .width) → z ∷ zs ≡ valuesAt (columnOf c ∷ cs) bs at
 unfolding valuesAt
 values-cons c cs bs at here rest = rw (width-of c) (ap₂ _∷_ here rest)
+
+mod-mod : (n u v : ℕ) → n % 2 ^ (u + v) % 2 ^ v ≡ n % 2 ^ v
+mod-mod n u v = rw (mod-pow-add n u v) (low (n / 2 ^ v % 2 ^ u) v (mod-lt n (pow-pos v)))
 
 -- the window at the byte of a place
 module _ (bs : List ℕ) (at : ℕ) {window : ℕ} (there : window ≡ field bs (8 * (at / 8)) 64) where
@@ -67,6 +71,29 @@ module _ (bs : List ℕ) (at : ℕ) {window : ℕ} (there : window ≡ field bs 
   moved-cut : (c : CodeColumn) (place s k : ℕ) → at ≤ place → place + c .width + (s + k) ≡ 8 * (at / 8) + 63
       → cutBy c (window / 2 / 2 ^ s / 2 ^ k) ≡ columnAt c bs place
   moved-cut c place s k after whole = ap (cutBy c) (shr-shr (window / 2) s k) ∙ column-cut c place (s + k) after whole
+
+  -- ---- the window moved up to the place
+
+  abbrev pub up : ℕ
+  up = window * 2 ^ (at % 8) % 2 ^ 64
+
+  pub up-lt : (s : ℕ) → 1 ≤ s → up / 2 ^ s < 2 ^ 63
+  up-lt s some =
+      let e : up / 2 ^ s ≡ up / 2 / 2 ^ (s - 1) = ap (λ (k : ℕ). up / 2 ^ k) (omega arith) ∙ sym (shr-shr up 1 (s - 1)) in
+      omega (arith, e, shr-le (up / 2) (s - 1), mod-lt (window * 2 ^ (at % 8)) (pow-pos 64))
+
+  -- the column at a place from there on, with s bits below it
+  up-cut : (c : CodeColumn) (place s : ℕ) → at ≤ place → 8 ≤ s → place + c .width + s ≡ at + 64 → cutBy c (up / 2 ^ s) ≡ columnAt c bs place
+  up-cut c place s after low whole =
+      let first : ℕ = 8 * (at / 8) in
+      let t : ℕ = s - at % 8 in
+      let e : s ≡ at % 8 + t = omega arith in
+      let w : 64 - s ≡ (64 - s - c .width) + c .width = omega arith in
+      let back : first + (place - first) ≡ place = omega arith in
+      ap (λ (k : ℕ). cutBy c (up / 2 ^ k)) e
+      ∙ ap (cutBy c) (shifted window (at % 8) (64 - s) t 64 (omega arith) ∙ ap (λ (k : ℕ). window / 2 ^ t % 2 ^ k) w)
+      ∙ ap (valueOf (columnOf c)) (mod-mod (window / 2 ^ t) (64 - s - c .width) (c .width) ∙ ap (λ (x : ℕ). x / 2 ^ t % 2 ^ (c .width)) there ∙ in-window bs first (place - first) (c .width) t (omega arith))
+      ∙ ap (columnAt c bs) back
 
 -- the values of a row
 module _ (bs : List ℕ) (at : ℕ) (h : Shape) where
@@ -109,21 +136,21 @@ module _ (bs : List ℕ) (at : ℕ) (h : Shape) where
       (five ∙ ⊎-elim (λ gone. rw (gap-of (h .v5) gone)) (λ gone. ap (columnAt (h .v5) bs) (omega arith)) others)
 
   module _ {window : ℕ} (there : window ≡ field bs (8 * (at / 8)) 64) (formed : FormedShape h) where
-    -- three from the half window, s bits being below the first
-    pub values-three : Narrow h → (s : ℕ) → s ≡ 63 - at % 8 - w1 → {a b c : ℤ}
-        → a ≡ cutBy (h .v1) (window / 2 / 2 ^ s)
-        → b ≡ cutBy (h .v2) (window / 2 / 2 ^ (s - w2))
-        → c ≡ cutBy (h .v3) (window / 2 / 2 ^ (s - w2 - w3))
-        → a ∷ b ∷ c ∷ absent ∷ absent ∷ [] ≡ valuesAt (columnsOf h) bs at
+    -- two from the window moved up
+    pub values-pair : Narrow h → w3 ≡ 0 → {a b : ℤ}
+        → a ≡ cutBy (h .v1) (up bs at there / 2 ^ (64 - w1))
+        → b ≡ cutBy (h .v2) (up bs at there / 2 ^ (64 - w1 - w2))
+        → a ∷ b ∷ absent ∷ absent ∷ absent ∷ [] ≡ valuesAt (columnsOf h) bs at
     unfolding valueOf
-    values-three narrow s below one two three =
-        values-five (one ∙ column-cut bs at there (h .v1) at s (omega arith) (omega arith))
-        (two ∙ column-cut bs at there (h .v2) (at + w1) (s - w2) (omega arith) (omega arith))
-        (three ∙ column-cut bs at there (h .v3) (at + w1 + w2) (s - w2 - w3) (omega arith) (omega arith))
+    values-pair narrow none one two =
+        let room = formed .window in
+        values-five (one ∙ up-cut bs at there (h .v1) at (64 - w1) (omega arith) (omega arith) (omega arith))
+        (two ∙ up-cut bs at there (h .v2) (at + w1) (64 - w1 - w2) (omega arith) (omega arith) (omega arith))
+        (rw (gap-of (h .v3) none))
         (rw (gap-of (h .v4) (narrow .fourth)))
         (rw (gap-of (h .v5) (narrow .fifth)))
 
-    -- four from it, moved down so that s bits are left behind, and one more
+    -- four from the half window, moved down so that s bits are left behind, and one more
     pub values-wide : (s : ℕ) → s ≡ 63 - at % 8 - (w1 + (w2 + (w3 + w4))) → {a b c d e : ℤ}
         → a ≡ cutBy (h .v1) (window / 2 / 2 ^ s / 2 ^ (w2 + (w3 + w4)))
         → b ≡ cutBy (h .v2) (window / 2 / 2 ^ s / 2 ^ (w3 + w4))

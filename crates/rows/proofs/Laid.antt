@@ -65,9 +65,6 @@ module _ (s : Shape) (laid : Laid s) (system : ℕ) where
   unfolding columnsOf columnsIn
   bare-columns e = rw e
 
-  pub bare-narrow : s .iode ≡ false → (s .v2 .width + s .v3 .width ≡ 0 → ⊥) → Narrow s
-  bare-narrow e some = record { iode = e; fourth = laid .fourth e; fifth = ⊎-elim (λ none. none) (λ none. absurd (some (omega arith))) (laid .others e) }
-
 -- ---- how wide
 
 pub columns-width : (s : Shape) (system : ℕ) → FormedShape s → shapeWidth (columnsIn s system) ≤ 71

@@ -1,7 +1,7 @@
 // One row, written: its three keys, and the values that its columns have at a place. Windows are read without a
 // test, so eight bytes have to be there from the byte of the row's last bit on.
 ghost use mathlib.Core.Path.{_≡_};
-ghost use mathlib.Core.Bool.{false};
+ghost use mathlib.Core.Bool.{true, false};
 ghost use mathlib.Core.List.{[], _∷_};
 ghost use Prim.Native.Nat.{_+_, _-_, _*_, _/_, _%_, _^_, _≤_, _<_};
 ghost use lib.IntN.{pos};
@@ -49,25 +49,25 @@ fn sole(bytes: &[u8], at: usize, c: Column) -> i32
     requires { ⌜ Formed c × (at + 64 ≤ 8 * length (now bytes)) ⌝ }
     ensures { λ r. ⌜ r ≡ valueOf (columnOf c) (field (now (bytes .entry)) at (c .width)) ⌝ }
 {
-    if c.width > 0 {
-        return alone(bytes, at, c);
-    }
-    ABSENT
-}
-
-// The value of a column that most rows do not have, from half a window of which so many bits are left.
-fn third(half: u64, left: usize, c: Column) -> i32
-    requires { ⌜ (half < 2 ^ 63) × (left ≤ 63) × (c .width ≤ left) × Formed c ⌝ }
-    ensures { λ r. ⌜ r ≡ valueOf (columnOf c) (half / 2 ^ (left - c .width) % 2 ^ (c .width)) ⌝ }
-{
     if c.width == 0 {
         return ABSENT;
     }
-    shape::value(half >> (left - c.width), c)
+    alone(bytes, at, c)
 }
 
-// A row of three columns and two gaps: the values are cut from one window.
-pub fn three(
+// Whether a row has a first column and no third.
+fn paired(s: Shape) -> bool
+    ensures { λ r. ⌜ (r ≡ true → (1 ≤ s .v1 .width) × (s .v3 .width ≡ 0)) ⌝ }
+{
+    if s.v3.width > 0 {
+        return false;
+    }
+    s.v1.width > 0
+}
+
+// A row of two columns and three gaps: the values are cut from one window, moved up so that the first of them is
+// highest.
+fn pair(
     row: &mut [i32],
     system: i32,
     satellite: i32,
@@ -76,20 +76,20 @@ pub fn three(
     at: usize,
     s: Shape,
 )
-    requires { ⌜ (length (now row) ≡ 8) × FormedShape s × Narrow s × (at + 64 ≤ 8 * length (now bytes)) ⌝ }
+    requires { ⌜ (length (now row) ≡ 8) × FormedShape s × Narrow s × ((1 ≤ s .v1 .width) × (s .v3 .width ≡ 0)) × (at + 64 ≤ 8 * length (now bytes)) ⌝ }
     ensures { λ _. ⌜ now (row .exit) ≡ system ∷ satellite ∷ signal ∷ valuesAt (columnsOf s) (now (bytes .entry)) at ⌝ }
 {
-    let half = window::eight(bytes, at / 8) >> 1;
-    let first = 63 - at % 8 - s.v1.width;
+    let up = window::eight(bytes, at / 8) << (at % 8);
+    let first = 64 - s.v1.width;
     let second = first - s.v2.width;
     store(
         row,
         system,
         satellite,
         signal,
-        shape::value(half >> first, s.v1),
-        shape::value(half >> second, s.v2),
-        third(half, second, s.v3),
+        shape::value(up >> first, s.v1),
+        shape::value(up >> second, s.v2),
+        ABSENT,
         ABSENT,
         ABSENT,
     );
@@ -125,6 +125,26 @@ pub fn wide(
         shape::value(four, s.v4),
         alone(bytes, at + front, s.v5),
     );
+}
+
+// A row of a cell.
+pub fn cell(
+    row: &mut [i32],
+    system: i32,
+    satellite: i32,
+    signal: i32,
+    bytes: &[u8],
+    at: usize,
+    s: Shape,
+)
+    requires { ⌜ (length (now row) ≡ 8) × (at < 2 ^ 32) × FormedShape s × Narrow s × (at + 120 ≤ 8 * length (now bytes)) ⌝ }
+    ensures { λ _. ⌜ now (row .exit) ≡ system ∷ satellite ∷ signal ∷ valuesAt (columnsOf s) (now (bytes .entry)) at ⌝ }
+{
+    if paired(s) {
+        pair(row, system, satellite, signal, bytes, at, s);
+    } else {
+        wide(row, system, satellite, signal, bytes, at, s);
+    }
 }
 
 // A row of gaps but for its first or its last column.
@@ -172,6 +192,6 @@ pub fn satellite(
     } else if s.v2.width + s.v3.width == 0 {
         ends(row, id, number, bytes, at, s);
     } else {
-        three(row, id, number, ABSENT, bytes, at, s);
+        wide(row, id, number, ABSENT, bytes, at, s);
     }
 }
