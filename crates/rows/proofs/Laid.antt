@@ -3,7 +3,7 @@
 use mathlib.Core.Path.{_≡_, refl, sym, ap, _∙_}
 use mathlib.Core.Bool.{Bool, true, false, cond, false≢true}
 use mathlib.Core.List.{[], _∷_}
-use mathlib.Core.Logic.{_⊎_, ⊎-elim}
+use mathlib.Core.Logic.{_⊎_}
 use Prim.Native.Nat.{ℕ, _+_, _≤_}
 use native.Mathlib.Omega.{arith}
 use lib.Dec.{eqb}
@@ -11,8 +11,8 @@ use Rattle.format.specs.Messages.{iodeWidth}
 use Rattle.format.specs.Rows.{Column, plain, counts, widthOf, shapeWidth}
 use Rattle.rows.specs.declared.shape.Column.{Column as CodeColumn}
 use Rattle.rows.specs.declared.shape.Shape.{Shape}
-use Rattle.rows.specs.Shapes.{columnOf, columnFor, columnsOf, columnsIn, orbitOf, lastOf, Formed, FormedShape, Laid, Narrow}
-use Rattle.rows.proofs.Columns.{fine-plain, fine-counts, column-back, gap-of, width-of, formed-for}
+use Rattle.rows.specs.Shapes.{columnOf, columnFor, columnsOf, columnsIn, orbitOf, Formed, FormedShape, Laid}
+use Rattle.rows.proofs.Columns.{fine-plain, fine-counts, column-back, width-of, formed-for}
 
 -- an IODE has 1 to 10 bits
 pub iode-some : (system : ℕ) {iode : ℕ} → iode ≡ iodeWidth system → (1 ≤ iode) × (iode ≤ 10)
