@@ -12,7 +12,7 @@ use lib.Seq.{take-at}
 use Rattle.bits.proofs.BitLists.{length-spell, spell-low, spell-append}
 use Rattle.bits.specs.BitLists.{spell}
 use Rattle.format.specs.Masks.{placesFrom, pick}
-use Rattle.format.proofs.Picks.{pick-nil, pick-append, pick-filled, pick-count}
+use Rattle.format.proofs.Picks.{pick-nil, pick-all, pick-append, pick-filled, pick-count}
 use Rattle.holding.proofs.Places.{ones-places, drop-spell}
 
 -- ---- a selection moved up
@@ -76,3 +76,10 @@ picked c xs small few =
     ∙ ap (λ (w : ℕ). length (placesFrom 0 (take n (spell w c)))) e
     ∙ ap (λ (l : List Bool). length (placesFrom 0 l)) (take-spell n (64 - n) c)
     ∙ sym (ones-places n (c / 2 ^ (64 - n)) 0 below)
+
+-- all ones pick all
+pub all-picked : (n : ℕ) → n ≤ 64 → ones ((2 ^ 64 - 1) / 2 ^ (64 - n)) ≡ n
+all-picked n few =
+    let xs : List Bool = spell n 0 in
+    let e : length xs ≡ n = length-spell n 0 in
+    ap (λ (k : ℕ). ones ((2 ^ 64 - 1) / 2 ^ (64 - k))) (sym e) ∙ sym (picked (2 ^ 64 - 1) xs (omega arith) (omega arith)) ∙ ap length (pick-all xs (omega arith)) ∙ e

@@ -44,7 +44,7 @@ fn satellite(
     while left > 0 {
         let signal = set_places::first(left) as i32;
         let e = k + 8;
-        row::three(&mut rows[k..e], system, satellite, signal, bytes, place, s);
+        row::cell(&mut rows[k..e], system, satellite, signal, bytes, place, s);
         left = set_places::rest(left);
         k = e;
         place += width;

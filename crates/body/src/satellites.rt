@@ -21,6 +21,7 @@ use holding::set_places;
 use rows::row;
 use rows::shape::Shape;
 use rows::shapes;
+use table::ALL;
 
 // How many bits a row of a system has, whose IODE has so many.
 fn width(s: Shape, system: u8) -> usize
@@ -102,7 +103,8 @@ pub fn fill(
     }
 }
 
-// How many of the next n satellites a selection chooses: its first n bits that are set.
+// How many of the next n satellites a selection chooses: its first n bits that are set. Most often all are, and a count
+// takes longer than to see that.
 fn picked(chosen: u64, n: usize) -> usize
     requires { ⌜ n ≤ 64 ⌝ }
     ensures { λ r. ⌜ r ≡ ones (chosen / 2 ^ (64 - n)) ⌝ }
@@ -110,7 +112,11 @@ fn picked(chosen: u64, n: usize) -> usize
     if n == 0 {
         return 0;
     }
-    set_places::count(chosen >> (64 - n))
+    let first = chosen >> (64 - n);
+    if first == ALL >> (64 - n) {
+        return n;
+    }
+    set_places::count(first)
 }
 
 // How many bits and rows the satellites that are chosen have.

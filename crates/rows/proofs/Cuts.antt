@@ -1,20 +1,22 @@
--- The values of a row, cut out of a window that was halved: one alone, those of a row of three columns, and those of a row of five with the last from
--- elsewhere.
+-- The values of a row, cut out of a window that was halved: one alone, those of a row of two columns, and those of a row of five with the last from
+-- elsewhere; and those of a row of gaps but for one column.
 -- Assumes nothing.
-use mathlib.Core.Path.{_≡_, refl, ap, ap₂, _∙_}
+use mathlib.Core.Path.{_≡_, refl, sym, ap, ap₂, _∙_}
 use mathlib.Core.List.{List, [], _∷_}
+use mathlib.Core.Logic.{_⊎_, ⊎-elim}
 use Prim.Native.Nat.{ℕ, _+_, _-_, _*_, _/_, _%_, _^_, _≤_, _<_}
+use native.Mathlib.Nat.{mod-lt}
 use native.Mathlib.Omega.{arith}
 use lib.IntN.{ℤ}
-use lib.Pow.{shr-le, shr-shr}
+use lib.Pow.{shr-le, shr-shr, shl-shr, shl-exact, mod-pow-add, low, pow-pos}
 use Rattle.bits.proofs.Fields.{field-lt}
-use Rattle.bits.proofs.Windows.{in-window}
+use Rattle.bits.proofs.Windows.{in-window, shifted}
 use Rattle.bits.specs.Places.{field}
-use Rattle.format.specs.Rows.{Column, absent, widthOf, valueOf}
+use Rattle.format.specs.Rows.{Column, absent, valueOf}
 use Rattle.rows.specs.declared.shape.Column.{Column as CodeColumn}
 use Rattle.rows.specs.declared.shape.Shape.{Shape}
 use Rattle.rows.specs.At.{valuesAt}
-use Rattle.rows.specs.Shapes.{columnOf, columnFor, columnsOf, lastOf, FormedShape, Narrow}
+use Rattle.rows.specs.Shapes.{columnOf, columnsOf, FormedShape, Narrow}
 use Rattle.rows.proofs.Columns.{gap-of, width-of}
 
 -- what a column makes of a number whose low bits are its own
@@ -32,13 +34,8 @@ values-cons :
 unfolding valuesAt
 values-cons c cs bs at here rest = rw (width-of c) (ap₂ _∷_ here rest)
 
--- gaps and one value
-pub values-last : (c : CodeColumn) (bs : List ℕ) (at : ℕ) {e : ℤ} → e ≡ columnAt c bs at
-    → absent ∷ absent ∷ absent ∷ absent ∷ e ∷ [] ≡ valuesAt (columnsOf (lastOf c)) bs at
-unfolding valuesAt valueOf widthOf columnOf columnFor columnsOf lastOf
-values-last c bs at e =
-    let here : at ≡ at + 0 + 0 + 0 + 0 = omega arith in
-    rw (width-of c, e) (ap (λ (p : ℕ). absent ∷ absent ∷ absent ∷ absent ∷ columnAt c bs p ∷ []) here)
+mod-mod : (n u v : ℕ) → n % 2 ^ (u + v) % 2 ^ v ≡ n % 2 ^ v
+mod-mod n u v = rw (mod-pow-add n u v) (low (n / 2 ^ v % 2 ^ u) v (mod-lt n (pow-pos v)))
 
 -- the window at the byte of a place
 module _ (bs : List ℕ) (at : ℕ) {window : ℕ} (there : window ≡ field bs (8 * (at / 8)) 64) where
@@ -47,6 +44,18 @@ module _ (bs : List ℕ) (at : ℕ) {window : ℕ} (there : window ≡ field bs 
 
   pub moved-lt : (s k : ℕ) → window / 2 / 2 ^ s / 2 ^ k < 2 ^ 63
   moved-lt s k = omega (arith, half-lt s, shr-le (window / 2 / 2 ^ s) k)
+
+  -- its front half, moved up to a place and down behind w bits
+  pub front-cut : (w : ℕ) → w ≤ 15 → window / 2 ^ 32 * 2 ^ (at % 8) % 2 ^ 64 / 2 ^ (32 - w) ≡ window / 2 / 2 ^ (63 - at % 8 - w)
+  front-cut w narrow =
+      let up : ℕ = at % 8 in
+      let down : ℕ = 32 - w - up in
+      let front : ℕ = window / 2 ^ 32 in
+      let small : front < 2 ^ 32 = omega (arith, field-lt bs (8 * (at / 8)) 64) in
+      let e : 32 - w ≡ up + down = omega arith in
+      let f : 32 + down ≡ 1 + (63 - up - w) = omega arith in
+      rw (shl-exact 32 up 64 small (omega arith), e, ← (shr-shr (front * 2 ^ up) up down), shl-shr front up)
+      (shr-shr window 32 down ∙ ap (λ (k : ℕ). window / 2 ^ k) f ∙ sym (shr-shr window 1 (63 - up - w)))
 
   -- the column at a place from there on, with s bits below it up to the window's last bit but one
   pub column-cut : (c : CodeColumn) (place s : ℕ) → at ≤ place → place + c .width + s ≡ 8 * (at / 8) + 63 → cutBy c (window / 2 / 2 ^ s) ≡ columnAt c bs place
@@ -63,52 +72,85 @@ module _ (bs : List ℕ) (at : ℕ) {window : ℕ} (there : window ≡ field bs 
       → cutBy c (window / 2 / 2 ^ s / 2 ^ k) ≡ columnAt c bs place
   moved-cut c place s k after whole = ap (cutBy c) (shr-shr (window / 2) s k) ∙ column-cut c place (s + k) after whole
 
-  module _ (h : Shape) (formed : FormedShape h) where
-    abbrev w1 : ℕ
-    w1 = h .v1 .width
+  -- ---- the window moved up to the place
 
-    abbrev w2 : ℕ
-    w2 = h .v2 .width
+  abbrev pub up : ℕ
+  up = window * 2 ^ (at % 8) % 2 ^ 64
 
-    abbrev w3 : ℕ
-    w3 = h .v3 .width
+  pub up-lt : (s : ℕ) → 1 ≤ s → up / 2 ^ s < 2 ^ 63
+  up-lt s some =
+      let e : up / 2 ^ s ≡ up / 2 / 2 ^ (s - 1) = ap (λ (k : ℕ). up / 2 ^ k) (omega arith) ∙ sym (shr-shr up 1 (s - 1)) in
+      omega (arith, e, shr-le (up / 2) (s - 1), mod-lt (window * 2 ^ (at % 8)) (pow-pos 64))
 
-    abbrev w4 : ℕ
-    w4 = h .v4 .width
+  -- the column at a place from there on, with s bits below it
+  up-cut : (c : CodeColumn) (place s : ℕ) → at ≤ place → 8 ≤ s → place + c .width + s ≡ at + 64 → cutBy c (up / 2 ^ s) ≡ columnAt c bs place
+  up-cut c place s after low whole =
+      let first : ℕ = 8 * (at / 8) in
+      let t : ℕ = s - at % 8 in
+      let e : s ≡ at % 8 + t = omega arith in
+      let w : 64 - s ≡ (64 - s - c .width) + c .width = omega arith in
+      let back : first + (place - first) ≡ place = omega arith in
+      ap (λ (k : ℕ). cutBy c (up / 2 ^ k)) e
+      ∙ ap (cutBy c) (shifted window (at % 8) (64 - s) t 64 (omega arith) ∙ ap (λ (k : ℕ). window / 2 ^ t % 2 ^ k) w)
+      ∙ ap (valueOf (columnOf c)) (mod-mod (window / 2 ^ t) (64 - s - c .width) (c .width) ∙ ap (λ (x : ℕ). x / 2 ^ t % 2 ^ (c .width)) there ∙ in-window bs first (place - first) (c .width) t (omega arith))
+      ∙ ap (columnAt c bs) back
 
-    -- five values that are those of the columns at their places
-    values-five : {a b c d e : ℤ}
-        → a ≡ columnAt (h .v1) bs at
-        → b ≡ columnAt (h .v2) bs (at + w1)
-        → c ≡ columnAt (h .v3) bs (at + w1 + w2)
-        → d ≡ columnAt (h .v4) bs (at + w1 + w2 + w3)
-        → e ≡ columnAt (h .v5) bs (at + w1 + w2 + w3 + w4)
-        → a ∷ b ∷ c ∷ d ∷ e ∷ [] ≡ valuesAt (columnsOf h) bs at
-    unfolding columnsOf valuesAt
-    values-five one two three four five =
-        let c5 : List Column = columnOf (h .v5) ∷ [] in
-        let c4 : List Column = columnOf (h .v4) ∷ c5 in
-        let c3 : List Column = columnOf (h .v3) ∷ c4 in
-        values-cons (h .v1) (columnOf (h .v2) ∷ c3) bs at one
-        (values-cons (h .v2) c3 bs (at + w1) two
-        (values-cons (h .v3) c4 bs (at + w1 + w2) three
-        (values-cons (h .v4) c5 bs (at + w1 + w2 + w3) four (values-cons (h .v5) [] bs (at + w1 + w2 + w3 + w4) five refl))))
+-- the values of a row
+module _ (bs : List ℕ) (at : ℕ) (h : Shape) where
+  abbrev w1 : ℕ
+  w1 = h .v1 .width
 
-    -- three from the half window, s bits being below the first
-    pub values-three : Narrow h → (s : ℕ) → s ≡ 63 - at % 8 - w1 → {a b c : ℤ}
-        → a ≡ cutBy (h .v1) (window / 2 / 2 ^ s)
-        → b ≡ cutBy (h .v2) (window / 2 / 2 ^ (s - w2))
-        → c ≡ cutBy (h .v3) (window / 2 / 2 ^ (s - w2 - w3))
-        → a ∷ b ∷ c ∷ absent ∷ absent ∷ [] ≡ valuesAt (columnsOf h) bs at
+  abbrev w2 : ℕ
+  w2 = h .v2 .width
+
+  abbrev w3 : ℕ
+  w3 = h .v3 .width
+
+  abbrev w4 : ℕ
+  w4 = h .v4 .width
+
+  -- five values that are those of the columns at their places
+  values-five : {a b c d e : ℤ}
+      → a ≡ columnAt (h .v1) bs at
+      → b ≡ columnAt (h .v2) bs (at + w1)
+      → c ≡ columnAt (h .v3) bs (at + w1 + w2)
+      → d ≡ columnAt (h .v4) bs (at + w1 + w2 + w3)
+      → e ≡ columnAt (h .v5) bs (at + w1 + w2 + w3 + w4)
+      → a ∷ b ∷ c ∷ d ∷ e ∷ [] ≡ valuesAt (columnsOf h) bs at
+  unfolding columnsOf valuesAt
+  values-five one two three four five =
+      let c5 : List Column = columnOf (h .v5) ∷ [] in
+      let c4 : List Column = columnOf (h .v4) ∷ c5 in
+      let c3 : List Column = columnOf (h .v3) ∷ c4 in
+      values-cons (h .v1) (columnOf (h .v2) ∷ c3) bs at one
+      (values-cons (h .v2) c3 bs (at + w1) two
+      (values-cons (h .v3) c4 bs (at + w1 + w2) three
+      (values-cons (h .v4) c5 bs (at + w1 + w2 + w3) four (values-cons (h .v5) [] bs (at + w1 + w2 + w3 + w4) five refl))))
+
+  -- the first and the last, one of which is a gap, from the row's place
+  pub values-ends : w2 + w3 ≡ 0 → w4 ≡ 0 → (h .v5 .width ≡ 0) ⊎ (w1 + w2 + w3 ≡ 0) → {a e : ℤ} → a ≡ columnAt (h .v1) bs at → e ≡ columnAt (h .v5) bs at
+      → a ∷ absent ∷ absent ∷ absent ∷ e ∷ [] ≡ valuesAt (columnsOf h) bs at
+  unfolding valueOf
+  values-ends none fourth others one five =
+      values-five one (rw (gap-of (h .v2) (omega arith))) (rw (gap-of (h .v3) (omega arith))) (rw (gap-of (h .v4) fourth))
+      (five ∙ ⊎-elim (λ gone. rw (gap-of (h .v5) gone)) (λ gone. ap (columnAt (h .v5) bs) (omega arith)) others)
+
+  module _ {window : ℕ} (there : window ≡ field bs (8 * (at / 8)) 64) (formed : FormedShape h) where
+    -- two from the window moved up
+    pub values-pair : Narrow h → w3 ≡ 0 → {a b : ℤ}
+        → a ≡ cutBy (h .v1) (up bs at there / 2 ^ (64 - w1))
+        → b ≡ cutBy (h .v2) (up bs at there / 2 ^ (64 - w1 - w2))
+        → a ∷ b ∷ absent ∷ absent ∷ absent ∷ [] ≡ valuesAt (columnsOf h) bs at
     unfolding valueOf
-    values-three narrow s below one two three =
-        values-five (one ∙ column-cut (h .v1) at s (omega arith) (omega arith))
-        (two ∙ column-cut (h .v2) (at + w1) (s - w2) (omega arith) (omega arith))
-        (three ∙ column-cut (h .v3) (at + w1 + w2) (s - w2 - w3) (omega arith) (omega arith))
+    values-pair narrow none one two =
+        let room = formed .window in
+        values-five (one ∙ up-cut bs at there (h .v1) at (64 - w1) (omega arith) (omega arith) (omega arith))
+        (two ∙ up-cut bs at there (h .v2) (at + w1) (64 - w1 - w2) (omega arith) (omega arith) (omega arith))
+        (rw (gap-of (h .v3) none))
         (rw (gap-of (h .v4) (narrow .fourth)))
         (rw (gap-of (h .v5) (narrow .fifth)))
 
-    -- four from it, moved down so that s bits are left behind, and one more
+    -- four from the half window, moved down so that s bits are left behind, and one more
     pub values-wide : (s : ℕ) → s ≡ 63 - at % 8 - (w1 + (w2 + (w3 + w4))) → {a b c d e : ℤ}
         → a ≡ cutBy (h .v1) (window / 2 / 2 ^ s / 2 ^ (w2 + (w3 + w4)))
         → b ≡ cutBy (h .v2) (window / 2 / 2 ^ s / 2 ^ (w3 + w4))
@@ -119,8 +161,8 @@ module _ (bs : List ℕ) (at : ℕ) {window : ℕ} (there : window ≡ field bs 
     values-wide s below one two three four five =
         let room = formed .window in
         let behind : at + (w1 + (w2 + (w3 + w4))) ≡ at + w1 + w2 + w3 + w4 = omega arith in
-        values-five (one ∙ moved-cut (h .v1) at s (w2 + (w3 + w4)) (omega arith) (omega arith))
-        (two ∙ moved-cut (h .v2) (at + w1) s (w3 + w4) (omega arith) (omega arith))
-        (three ∙ moved-cut (h .v3) (at + w1 + w2) s w4 (omega arith) (omega arith))
-        (four ∙ column-cut (h .v4) (at + w1 + w2 + w3) s (omega arith) (omega arith))
+        values-five (one ∙ moved-cut bs at there (h .v1) at s (w2 + (w3 + w4)) (omega arith) (omega arith))
+        (two ∙ moved-cut bs at there (h .v2) (at + w1) s (w3 + w4) (omega arith) (omega arith))
+        (three ∙ moved-cut bs at there (h .v3) (at + w1 + w2) s w4 (omega arith) (omega arith))
+        (four ∙ column-cut bs at there (h .v4) (at + w1 + w2 + w3) s (omega arith) (omega arith))
         (five ∙ ap (columnAt (h .v5) bs) behind)

@@ -3,7 +3,7 @@
 use mathlib.Core.Path.{_≡_, refl, sym, ap, _∙_}
 use mathlib.Core.Bool.{Bool, true, false, cond, false≢true}
 use mathlib.Core.List.{[], _∷_}
-use mathlib.Core.Logic.{_⊎_, ⊎-elim}
+use mathlib.Core.Logic.{_⊎_}
 use Prim.Native.Nat.{ℕ, _+_, _≤_}
 use native.Mathlib.Omega.{arith}
 use lib.Dec.{eqb}
@@ -11,8 +11,8 @@ use Rattle.format.specs.Messages.{iodeWidth}
 use Rattle.format.specs.Rows.{Column, plain, counts, widthOf, shapeWidth}
 use Rattle.rows.specs.declared.shape.Column.{Column as CodeColumn}
 use Rattle.rows.specs.declared.shape.Shape.{Shape}
-use Rattle.rows.specs.Shapes.{columnOf, columnFor, columnsOf, columnsIn, orbitOf, lastOf, Formed, FormedShape, Laid, Narrow}
-use Rattle.rows.proofs.Columns.{fine-plain, fine-counts, column-back, gap-of, width-of, formed-for}
+use Rattle.rows.specs.Shapes.{columnOf, columnFor, columnsOf, columnsIn, orbitOf, Formed, FormedShape, Laid}
+use Rattle.rows.proofs.Columns.{fine-plain, fine-counts, column-back, width-of, formed-for}
 
 -- an IODE has 1 to 10 bits
 pub iode-some : (system : ℕ) {iode : ℕ} → iode ≡ iodeWidth system → (1 ≤ iode) × (iode ≤ 10)
@@ -61,17 +61,9 @@ module _ (s : Shape) (laid : Laid s) (system : ℕ) where
       let fourth : columnOf (s .v4) ≡ counts 13 = ap (λ (t : Shape). columnOf (t .v4)) same in
       rw (e, second, third, fourth) (ap (λ (c : Column). c ∷ counts 15 ∷ counts 13 ∷ counts 13 ∷ columnOf (s .v5) ∷ []) (column-back (fine-plain (iodeWidth system) (iode .0) (omega arith))))
 
-  pub last-columns : s .iode ≡ false → s .v1 .width + s .v2 .width + s .v3 .width ≡ 0 → columnsOf (lastOf (s .v5)) ≡ columnsIn s system
-  unfolding columnOf columnFor columnsOf columnsIn lastOf
-  last-columns e none =
-      rw (e, gap-of (s .v1) (omega arith), gap-of (s .v2) (omega arith), gap-of (s .v3) (omega arith), gap-of (s .v4) (laid .fourth e))
-
   pub bare-columns : s .iode ≡ false → columnsOf s ≡ columnsIn s system
   unfolding columnsOf columnsIn
   bare-columns e = rw e
-
-  pub bare-narrow : s .iode ≡ false → (s .v1 .width + s .v2 .width + s .v3 .width ≡ 0 → ⊥) → Narrow s
-  bare-narrow e some = record { iode = e; fourth = laid .fourth e; fifth = ⊎-elim (λ none. none) (λ none. absurd (some none)) (laid .others e) }
 
 -- ---- how wide
 

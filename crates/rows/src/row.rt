@@ -1,15 +1,16 @@
 // One row, written: its three keys, and the values that its columns have at a place. Windows are read without a
 // test, so eight bytes have to be there from the byte of the row's last bit on.
 ghost use mathlib.Core.Path.{_≡_};
+ghost use mathlib.Core.Bool.{true, false};
 ghost use mathlib.Core.List.{[], _∷_};
-ghost use Prim.Native.Nat.{_+_, _-_, _*_, _/_, _%_, _^_, _≤_, _<_};
+ghost use Prim.Native.Nat.{_+_, _*_, _^_, _≤_, _<_};
 ghost use lib.IntN.{pos};
 ghost use lib.ListN.{length};
 ghost use Rattle.bits.specs.Places.{field};
 ghost use Rattle.format.specs.Messages.{iodeWidth};
 ghost use Rattle.format.specs.Rows.{absent, valueOf};
 ghost use Rattle.rows.specs.At.{valuesAt};
-ghost use Rattle.rows.specs.Shapes.{columnOf, columnsOf, columnsIn, lastOf, Formed, FormedShape, Laid, Narrow};
+ghost use Rattle.rows.specs.Shapes.{columnOf, columnsOf, columnsIn, Formed, FormedShape, Laid, Narrow};
 use crate::shape;
 use crate::shape::Column;
 use crate::shape::Shape;
@@ -32,29 +33,41 @@ fn store(row: &mut [i32], a: i32, b: i32, c: i32, d: i32, e: i32, f: i32, g: i32
     row[7] = h;
 }
 
-// The value of one column, from a window of its own. A window is halved first, so that a shift by all of it, for a
-// column of no bits at its front, stays below 64.
+// The value of one column, from the front of a window of its own: half of it holds every column, and is one load where
+// a window moved down by one bit is a load for each byte.
 fn alone(bytes: &[u8], at: usize, c: Column) -> i32
     requires { ⌜ Formed c × (at + 64 ≤ 8 * length (now bytes)) ⌝ }
     ensures { λ r. ⌜ r ≡ valueOf (columnOf c) (field (now (bytes .entry)) at (c .width)) ⌝ }
 {
-    let half = window::eight(bytes, at / 8) >> 1;
-    shape::value(half >> (63 - at % 8 - c.width), c)
+    let front = window::eight(bytes, at / 8) >> 32;
+    shape::value((front << (at % 8)) >> (32 - c.width), c)
 }
 
-// The value of a column that most rows do not have, from half a window of which so many bits are left.
-fn third(half: u64, left: usize, c: Column) -> i32
-    requires { ⌜ (half < 2 ^ 63) × (left ≤ 63) × (c .width ≤ left) × Formed c ⌝ }
-    ensures { λ r. ⌜ r ≡ valueOf (columnOf c) (half / 2 ^ (left - c .width) % 2 ^ (c .width)) ⌝ }
+// The value of a column that a row may have or not. One without bits reads no window: the compiler tests it outside the
+// loop over rows, so that each kind of row has a loop of its own.
+fn sole(bytes: &[u8], at: usize, c: Column) -> i32
+    requires { ⌜ Formed c × (at + 64 ≤ 8 * length (now bytes)) ⌝ }
+    ensures { λ r. ⌜ r ≡ valueOf (columnOf c) (field (now (bytes .entry)) at (c .width)) ⌝ }
 {
     if c.width == 0 {
         return ABSENT;
     }
-    shape::value(half >> (left - c.width), c)
+    alone(bytes, at, c)
 }
 
-// A row of three columns and two gaps: the values are cut from one window.
-pub fn three(
+// Whether a row has a first column and no third.
+fn paired(s: Shape) -> bool
+    ensures { λ r. ⌜ (r ≡ true → (1 ≤ s .v1 .width) × (s .v3 .width ≡ 0)) ⌝ }
+{
+    if s.v3.width > 0 {
+        return false;
+    }
+    s.v1.width > 0
+}
+
+// A row of two columns and three gaps: the values are cut from one window, moved up so that the first of them is
+// highest.
+fn pair(
     row: &mut [i32],
     system: i32,
     satellite: i32,
@@ -63,20 +76,20 @@ pub fn three(
     at: usize,
     s: Shape,
 )
-    requires { ⌜ (length (now row) ≡ 8) × FormedShape s × Narrow s × (at + 64 ≤ 8 * length (now bytes)) ⌝ }
+    requires { ⌜ (length (now row) ≡ 8) × FormedShape s × Narrow s × ((1 ≤ s .v1 .width) × (s .v3 .width ≡ 0)) × (at + 64 ≤ 8 * length (now bytes)) ⌝ }
     ensures { λ _. ⌜ now (row .exit) ≡ system ∷ satellite ∷ signal ∷ valuesAt (columnsOf s) (now (bytes .entry)) at ⌝ }
 {
-    let half = window::eight(bytes, at / 8) >> 1;
-    let first = 63 - at % 8 - s.v1.width;
+    let up = window::eight(bytes, at / 8) << (at % 8);
+    let first = 64 - s.v1.width;
     let second = first - s.v2.width;
     store(
         row,
         system,
         satellite,
         signal,
-        shape::value(half >> first, s.v1),
-        shape::value(half >> second, s.v2),
-        third(half, second, s.v3),
+        shape::value(up >> first, s.v1),
+        shape::value(up >> second, s.v2),
+        ABSENT,
         ABSENT,
         ABSENT,
     );
@@ -114,30 +127,41 @@ pub fn wide(
     );
 }
 
-// A row of four gaps and one column.
-fn last(
+// A row of a cell.
+pub fn cell(
     row: &mut [i32],
     system: i32,
     satellite: i32,
     signal: i32,
     bytes: &[u8],
     at: usize,
-    v5: Column,
+    s: Shape,
 )
-    requires { ⌜ (length (now row) ≡ 8) × Formed v5 × (at + 64 ≤ 8 * length (now bytes)) ⌝ }
-    ensures { λ _. ⌜ now (row .exit) ≡ system ∷ satellite ∷ signal ∷ valuesAt (columnsOf (lastOf v5)) (now (bytes .entry)) at ⌝ }
+    requires { ⌜ (length (now row) ≡ 8) × (at < 2 ^ 32) × FormedShape s × Narrow s × (at + 120 ≤ 8 * length (now bytes)) ⌝ }
+    ensures { λ _. ⌜ now (row .exit) ≡ system ∷ satellite ∷ signal ∷ valuesAt (columnsOf s) (now (bytes .entry)) at ⌝ }
 {
-    let value = alone(bytes, at, v5);
+    if paired(s) {
+        pair(row, system, satellite, signal, bytes, at, s);
+    } else {
+        wide(row, system, satellite, signal, bytes, at, s);
+    }
+}
+
+// A row of gaps but for its first or its last column.
+fn ends(row: &mut [i32], system: i32, satellite: i32, bytes: &[u8], at: usize, s: Shape)
+    requires { ⌜ (length (now row) ≡ 8) × FormedShape s × Laid s × (s .iode ≡ false) × (s .v2 .width + s .v3 .width ≡ 0) × (at + 64 ≤ 8 * length (now bytes)) ⌝ }
+    ensures { λ _. ⌜ now (row .exit) ≡ system ∷ satellite ∷ absent ∷ valuesAt (columnsOf s) (now (bytes .entry)) at ⌝ }
+{
     store(
         row,
         system,
         satellite,
-        signal,
+        ABSENT,
+        sole(bytes, at, s.v1),
         ABSENT,
         ABSENT,
         ABSENT,
-        ABSENT,
-        value,
+        sole(bytes, at, s.v5),
     );
 }
 
@@ -165,9 +189,9 @@ pub fn satellite(
             at,
             shapes::orbit(iode, s.v5),
         );
-    } else if s.v1.width + s.v2.width + s.v3.width == 0 {
-        last(row, id, number, ABSENT, bytes, at, s.v5);
+    } else if s.v2.width + s.v3.width == 0 {
+        ends(row, id, number, bytes, at, s);
     } else {
-        three(row, id, number, ABSENT, bytes, at, s);
+        wide(row, id, number, ABSENT, bytes, at, s);
     }
 }

@@ -65,11 +65,11 @@ module _ (c : tie.After-first Inv-loop μ-loop) where
         let all = ap (cellLines columns) (next-of left rest (c .before .loop-test .taken) (c .before .before .loop .inv .0) e sat) in
         going-row line _ refl (five-in _ _) (rw all at (c .before .before .loop .inv .1))
 
-three-requires : tie.Need-three-requires Inv-loop μ-loop
-three-requires c κs =
+cell-requires : tie.Need-cell-requires Inv-loop μ-loop
+cell-requires c κs =
     let f = c .before in
     let w = row f _ refl in
-    (w .part, start f .pre .1, start f .pre .2, omega (arith, w .whole))
+    (w .part, omega (arith, w .near), start f .pre .1, start f .pre .2, omega (arith, w .whole))
 
 loop-again : tie.Need-loop-again Inv-loop μ-loop
 loop-again c =
@@ -79,7 +79,7 @@ loop-again c =
     let system = key (x .args .id) (x .args .id) (omega (arith, x .fits .id)) refl in
     let number = key (x .args .number) (x .args .number) (x .pre .0) refl in
     let signal = key (f .first .result) (leadingZeros 64 (left f)) (omega (arith, fewer f _ refl .inside, f .first .ensures)) (f .first .ensures) in
-    let new = c .before .before .three .ensures ∙ keyed _ system number signal ∙ ap (λ (cs : List Column). pos (x .args .id) ∷ pos (x .args .number) ∷ pos (leadingZeros 64 (left f)) ∷ valuesAt cs (x .args .bytes .now) (f .before .before .loop .place)) (same f) in
+    let new = c .before .before .cell .ensures ∙ keyed _ system number signal ∙ ap (λ (cs : List Column). pos (x .args .id) ∷ pos (x .args .number) ∷ pos (leadingZeros 64 (left f)) ∷ valuesAt cs (x .args .bytes .now) (f .before .before .loop .place)) (same f) in
     (omega (arith, fewer f (r .result) (r .ensures) .fewer), row f (r .result) (r .ensures) .written _ _ (wide f) new)
 
 returns : tie.Need-returns Inv-loop μ-loop
@@ -94,7 +94,7 @@ satellite-spec =
     (tie.spec Inv-loop μ-loop (λ c. search needs) (λ c. record { sfits = c .before .pre .0 }) (λ c κs. c .before .pre .1)
     (λ c. (omega arith, going-start (c .before .before .pre .3))) (λ c κs. search needs)
     (λ c. record { sfits = omega (arith, fewer c _ refl .inside, c .first .ensures) }) (λ c. omega (arith, row c _ refl .room))
-    (λ c. omega (arith, row c _ refl .room)) (λ c. omega arith) (λ c. search needs) (λ c. row c _ refl .room) three-requires (λ c κs. search needs)
+    (λ c. omega (arith, row c _ refl .room)) (λ c. omega arith) (λ c. search needs) (λ c. row c _ refl .room) cell-requires (λ c κs. search needs)
     (λ c. let f = c .before .before .before .before in omega (arith, row f _ refl .near, wide f))
     (λ c. fewer (c .before .before .before .before) (c .rest .result) (c .rest .ensures) .fewer) loop-again (λ c. c .before .loop .inv .1 .same)
     returns)

@@ -4,7 +4,7 @@ use native.Mathlib.Omega.{arith}
 use borrow.Author.Needs.{needs}
 use mir.Facts.{toZ-ofZ, toZ-pos}
 use mir.Syntax.{w32}
-use Rattle.rows.proofs.Laid.{iode-some, orbit-formed, orbit-columns, last-columns, bare-columns, bare-narrow}
+use Rattle.rows.proofs.Laid.{iode-some, orbit-formed, orbit-columns, bare-columns}
 use Rattle.rows.proofs.row.satellite.Statement.{statement}
 use Rattle.rows.proofs.row.satellite.Tie as tie
 
@@ -13,11 +13,6 @@ wide-requires c κs =
     let s = c .before .before .before .before in
     let formed = orbit-formed (s .args .iode) (s .args .s .v5) (iode-some (s .args .system) (s .pre .2)) (s .pre .3 .fifth) in
     (s .pre .0, s .pre .1, rw (c .orbit .ensures) formed, s .pre .5)
-
-three-requires : tie.Need-three-requires
-three-requires c κs =
-    let s = c .before .before .before .before .before .before in
-    (s .pre .0, s .pre .3, bare-narrow (s .args .s) (s .pre .4) (s .args .system) (c .before .before .before .before .if1 .left) (c .before .if2 .left), omega (arith, s .pre .5))
 
 returns : tie.Need-returns
 returns c =
@@ -30,20 +25,20 @@ returns c =
 returns-2 : tie.Need-returns-2
 returns-2 c =
     let t = c .before .before .before in
-    let e = t .before .before .before in
+    let e = t .before .before in
     let s = e .before .before in
     let x = s .args in
-    c .before .last .ensures ∙ rw (toZ-pos w32 {n = x .system} (omega arith), toZ-ofZ (s .fits .number), last-columns (x .s) (s .pre .4) (x .system) (e .if1 .left) (t .if2 .taken))
+    c .before .ends .ensures ∙ rw (toZ-pos w32 {n = x .system} (omega arith), toZ-ofZ (s .fits .number), bare-columns (x .s) (s .pre .4) (x .system) (e .if1 .left))
 
 returns-3 : tie.Need-returns-3
 returns-3 c =
-    let e = c .before .before .before .before .before .before in
+    let e = c .before .before .before .before .before in
     let s = e .before .before in
     let x = s .args in
-    c .before .three .ensures ∙ rw (toZ-pos w32 {n = x .system} (omega arith), toZ-ofZ (s .fits .number), bare-columns (x .s) (s .pre .4) (x .system) (e .if1 .left))
+    c .before .wide2 .ensures ∙ rw (toZ-pos w32 {n = x .system} (omega arith), toZ-ofZ (s .fits .number), bare-columns (x .s) (s .pre .4) (x .system) (e .if1 .left))
 
 pub satellite-spec : {M : Type 1} → statement M
 satellite-spec =
     tie.close
-    (tie.spec (λ c. search needs) (λ c κs. iode-some _ (c .before .before .before .pre .2)) wide-requires (λ c. search needs) (λ c. search needs) (λ c κs. search needs) three-requires
+    (tie.spec (λ c. search needs) (λ c κs. iode-some _ (c .before .before .before .pre .2)) wide-requires (λ c. search needs) (λ c κs. search needs) (λ c κs. search needs)
     (λ c. search needs) returns (λ c. search needs) returns-2 (λ c. search needs) returns-3)
