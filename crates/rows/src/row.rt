@@ -65,36 +65,6 @@ fn paired(s: Shape) -> bool
     s.v1.width > 0
 }
 
-// A row of two columns and three gaps: the values are cut from one window, moved up so that the first of them is
-// highest.
-fn pair(
-    row: &mut [i32],
-    system: i32,
-    satellite: i32,
-    signal: i32,
-    bytes: &[u8],
-    at: usize,
-    s: Shape,
-)
-    requires { ⌜ (length (now row) ≡ 8) × FormedShape s × Narrow s × ((1 ≤ s .v1 .width) × (s .v3 .width ≡ 0)) × (at + 64 ≤ 8 * length (now bytes)) ⌝ }
-    ensures { λ _. ⌜ now (row .exit) ≡ system ∷ satellite ∷ signal ∷ valuesAt (columnsOf s) (now (bytes .entry)) at ⌝ }
-{
-    let up = window::eight(bytes, at / 8) << (at % 8);
-    let first = 64 - s.v1.width;
-    let second = first - s.v2.width;
-    store(
-        row,
-        system,
-        satellite,
-        signal,
-        shape::value(up >> first, s.v1),
-        shape::value(up >> second, s.v2),
-        ABSENT,
-        ABSENT,
-        ABSENT,
-    );
-}
-
 // A row of five columns: four values are cut from one window, moved so that the last of them is lowest, and the fifth
 // from the window behind them.
 pub fn wide(
@@ -127,7 +97,8 @@ pub fn wide(
     );
 }
 
-// A row of a cell.
+// A row of a cell. Document 01's have at most two columns: those are cut from one window, moved up so that the first of
+// them is highest.
 pub fn cell(
     row: &mut [i32],
     system: i32,
@@ -141,7 +112,20 @@ pub fn cell(
     ensures { λ _. ⌜ now (row .exit) ≡ system ∷ satellite ∷ signal ∷ valuesAt (columnsOf s) (now (bytes .entry)) at ⌝ }
 {
     if paired(s) {
-        pair(row, system, satellite, signal, bytes, at, s);
+        let up = window::eight(bytes, at / 8) << (at % 8);
+        let first = 64 - s.v1.width;
+        let second = first - s.v2.width;
+        store(
+            row,
+            system,
+            satellite,
+            signal,
+            shape::value(up >> first, s.v1),
+            shape::value(up >> second, s.v2),
+            ABSENT,
+            ABSENT,
+            ABSENT,
+        );
     } else {
         wide(row, system, satellite, signal, bytes, at, s);
     }

@@ -1,21 +1,46 @@
 -- `rows::row::cell` meets its contract. Assumes nothing.
-use mathlib.Core.Path.{_∙_}
+use mathlib.Core.Path.{_≡_, ap, _∙_}
+use mathlib.Core.List.{List, _∷_}
+use Prim.Native.Nat.{_≤_}
 use native.Mathlib.Omega.{arith}
 use borrow.Author.Needs.{needs}
+use lib.IntN.{ℤ}
 use mir.Facts.{toZ-ofZ}
+use mir.Syntax.{w32}
+use Rattle.rows.proofs.Cuts.{up-lt, values-pair}
 use Rattle.rows.proofs.row.cell.Statement.{statement}
 use Rattle.rows.proofs.row.cell.Tie as tie
 
-pair-requires : tie.Need-pair-requires
-pair-requires c κs =
-    let p = c .before .before in
-    let s = p .before .before in
-    (s .pre .0, s .pre .2, s .pre .3, p .paired .ensures (c .before .if1 .taken), omega (arith, s .pre .4))
+-- of two columns
+abbrev start : tie.After-eight → tie.Start
+start w = w .before .before .before .before
+
+two : (w : tie.After-eight) → let s = start w .args .s in (1 ≤ s .v1 .width) × (s .v3 .width ≡ 0)
+two w = w .before .before .paired .ensures (w .before .if1 .taken)
+
+value-requires : tie.Need-value-requires
+value-requires c κs =
+    let w = c .before .before .before in
+    let s = start w in
+    (up-lt (s .args .bytes .now) (s .args .at) (w .eight .ensures) _ (omega (arith, s .pre .2 .first .narrow)), s .pre .2 .first)
+
+value-requires-2 : tie.Need-value-requires-2
+value-requires-2 c κs =
+    let w = c .before .before .before .before in
+    let s = start w in
+    (up-lt (s .args .bytes .now) (s .args .at) (w .eight .ensures) _ (omega (arith, s .pre .2 .window)), s .pre .2 .second)
 
 returns : tie.Need-returns
 returns c =
-    let s = c .before .before .before .before .before .before in
-    c .before .pair .ensures ∙ rw (toZ-ofZ (s .fits .system), toZ-ofZ (s .fits .satellite), toZ-ofZ (s .fits .signal))
+    let v2 = c .before .before in
+    let v1 = v2 .before in
+    let w = v1 .before .before .before .before in
+    let s = start w in
+    let x = s .args in
+    c .before .store .ensures
+    ∙ rw (toZ-ofZ (s .fits .system), toZ-ofZ (s .fits .satellite), toZ-ofZ (s .fits .signal), toZ-ofZ {w = w32} (record { sfits = v1 .value .ok }), toZ-ofZ {w = w32} (record { sfits = v2 .value2 .ok }))
+    (ap (λ (l : List ℤ). x .system ∷ x .satellite ∷ x .signal ∷ l)
+    (values-pair (x .bytes .now) (x .at) (x .s) (w .eight .ensures) (s .pre .2) (s .pre .3) (two w .1) (v1 .value .ensures) (v2 .value2 .ensures)))
 
 returns-2 : tie.Need-returns-2
 returns-2 c =
@@ -23,4 +48,8 @@ returns-2 c =
     c .before .wide .ensures ∙ rw (toZ-ofZ (s .fits .system), toZ-ofZ (s .fits .satellite), toZ-ofZ (s .fits .signal))
 
 pub cell-spec : {M : Type 1} → statement M
-cell-spec = tie.close (tie.spec (λ c κs. search needs) pair-requires (λ c κs. search needs) (λ c. search needs) returns (λ c. search needs) returns-2)
+cell-spec =
+    tie.close
+    (tie.spec (λ c κs. search needs) (λ c κs. search needs) (λ c. search needs) (λ c. search needs) (λ c. search needs)
+    (λ c. omega (arith, two (c .before .before .before) .0)) value-requires (λ c. omega (arith, two (c .before .before .before .before) .0)) value-requires-2
+    (λ c κs. search needs) (λ c κs. search needs) (λ c. search needs) returns (λ c. search needs) returns-2)
