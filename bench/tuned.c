@@ -21,6 +21,8 @@ enum { GALILEO = 2, SYSTEMS = 5, LONGEST = 50850, HELD = 16 };
 static const uint64_t reserved_satellites[SYSTEMS] = {0, 0xFFFF, 0x7, 0, 0x3FFFFFFF};
 static const uint32_t reserved_signals[SYSTEMS] = {0x3, 0x7, 0x1, 0x7F, 0x3F};
 
+/* Four numbers joined in a vector register take more instructions than four stores. */
+#pragma GCC optimize("no-tree-slp-vectorize")
 #define ALWAYS static inline __attribute__((always_inline))
 
 static const tuned_half absent = {{HUNDURZEK_ABSENT, HUNDURZEK_ABSENT, HUNDURZEK_ABSENT, HUNDURZEK_ABSENT}};
@@ -55,9 +57,6 @@ ALWAYS uint32_t ones(uint64_t bits) {
   return (uint32_t)(bits * UINT64_C(0x0101010101010101) >> 56);
 }
 
-/* The highest bit's index. */
-ALWAYS uint32_t highest(uint64_t bits) { return 63 ^ (uint32_t)__builtin_clzll(bits); }
-
 /* ---- where the stretch ends: copies with eight bytes after them */
 
 /* The longest message is of sub type 5 and 256 cells, 4,389 bits. */
@@ -68,8 +67,19 @@ typedef struct {
   uint64_t count;
   uint64_t end;
   int32_t *rows;
+  tuned_holding *holding;
+  const tuned_mask *held; /* the holding's current mask */
+  uint64_t answer;        /* where no message was read: why */
   uint8_t copy[COPIED + WINDOW];
 } stretch;
+
+/* What a reading gives where there is no message; with one it gives the place after it, which is never 0. */
+enum { STOPPED = 0 };
+
+ALWAYS uint64_t stop(stretch *s, uint64_t answer) {
+  s->answer = answer;
+  return STOPPED;
+}
 
 typedef struct {
   const uint8_t *bytes;
@@ -119,24 +129,18 @@ ALWAYS void put_half(tuned_half *half, uint64_t low, uint64_t high) {
 /* Two numbers of a row, as they lie in it. */
 ALWAYS uint64_t two(uint32_t first, uint32_t second) { return first | (uint64_t)second << 32; }
 
-static void list_satellites(tuned_mask *mask, uint32_t id, uint64_t places) {
-  tuned_half *key = mask->satellite + mask->satellites;
-  tuned_iode *iode = mask->iode + mask->satellites;
-  const tuned_iode own = id == GALILEO ? (tuned_iode){0, 0x3FF} : (tuned_iode){2, 0xFF};
-  const uint64_t rest = two((uint32_t)HUNDURZEK_ABSENT, (uint32_t)HUNDURZEK_ABSENT);
-  while (places) {
-    uint32_t bit = highest(places);
-    places ^= UINT64_C(1) << bit;
-    put_half(key++, two(id, 40 - bit), rest);
-    *iode++ = own;
-  }
+/* From the last satellite on, which has the lowest bit. */
+ALWAYS void list_satellites(tuned_half *key, uint32_t id, uint64_t places) {
+  const uint64_t number = UINT64_C(1) << 32, low = id + 40 * number;
+  const uint64_t high = two((uint32_t)HUNDURZEK_ABSENT, (uint32_t)HUNDURZEK_ABSENT);
+  for (; places; places &= places - 1) put_half(key++, low - number * (uint64_t)__builtin_ctzll(places), high);
 }
 
+ALWAYS const tuned_half *last_satellite(const tuned_mask *m) { return m->satellite + TUNED_SATELLITES - m->satellites; }
+
 /* The places of the set bits, the last first: the j-th lowest bit is the j-th number. */
-ALWAYS uint32_t list_signals(uint32_t signals, uint64_t *places) {
-  uint32_t count = 0;
-  for (; signals; signals &= signals - 1) places[count++] = two(15 - (uint32_t)__builtin_ctz(signals), 0);
-  return count;
+ALWAYS void list_signals(uint32_t signals, uint64_t *places) {
+  for (; signals; signals &= signals - 1) *places++ = 15 - (uint64_t)__builtin_ctz(signals);
 }
 
 /* Where a cell mask stands: its bits for one satellite after another. */
@@ -148,22 +152,26 @@ static uint32_t count_cells(const mask_source *m, uint32_t bits) {
   return bits == 0 ? count : count + ones(window(m->bytes, place) >> (64 - bits));
 }
 
-/* The cells of the satellites from first on: those of a cell mask, or all. */
-static void list_cells(tuned_mask *mask, const mask_source *m, uint32_t first, uint32_t signals, bool flag) {
+/* A satellite's cells, before those of the satellites after it; answers where the list begins then. */
+ALWAYS tuned_half *list_strip(tuned_half *end, uint64_t cells, const tuned_half *satellite, const uint64_t *places) {
+  uint64_t low;
+  memcpy(&low, satellite, sizeof low);
+  for (; cells; cells &= cells - 1) put_half(--end, low, places[__builtin_ctzll(cells)]);
+  return end;
+}
+
+/* The cells of the count last satellites: those of a cell mask, or all. */
+static void list_cells(tuned_mask *mask, const mask_source *m, uint32_t count, uint32_t signals, bool flag) {
   uint64_t places[16];
-  uint32_t width = list_signals(signals, places);
-  uint64_t place = m->place, cells = (UINT64_C(1) << width) - 1;
-  tuned_half *key = mask->cell + mask->cells;
-  if (width == 0) return;
-  for (uint32_t k = first; k < mask->satellites; k++, place += width) {
-    uint64_t low;
-    memcpy(&low, &mask->satellite[k], sizeof low);
-    if (flag) cells = window(m->bytes, place) >> (64 - width);
-    for (uint64_t left = cells; left;) {
-      uint32_t bit = highest(left);
-      left ^= UINT64_C(1) << bit;
-      put_half(key++, low, places[bit]);
-    }
+  const uint32_t width = ones(signals);
+  tuned_half *end = mask->cell + mask->cells;
+  const tuned_half *satellite = last_satellite(mask), *past = satellite + count;
+  uint64_t place = m->place + width * count;
+  list_signals(signals, places);
+  for (; satellite < past; satellite++) {
+    place -= width;
+    uint64_t cells = flag ? window(m->bytes, place) >> (64 - width) : (UINT64_C(1) << width) - 1;
+    end = list_strip(end, cells, satellite, places);
   }
 }
 
@@ -174,14 +182,14 @@ ALWAYS uint64_t read_cells(mask_source *m, tuned_mask *mask, uint32_t count, uin
     if (m->end - m->place < bits) return SHORT;
     cells = count_cells(m, bits);
   }
-  if (mask->cells + cells > TUNED_CELLS) return SIZE;
-  if (cells > 0) list_cells(mask, m, mask->satellites - count, signals, flag);
   mask->cells += cells;
+  if (mask->cells > TUNED_CELLS) return SIZE;
+  if (cells > 0) list_cells(mask, m, count, signals, flag);
   if (flag) m->place += bits;
   return MESSAGE;
 }
 
-static uint64_t read_system(mask_source *m, tuned_mask *mask) {
+ALWAYS uint64_t read_system(mask_source *m, tuned_mask *mask) {
   uint64_t left = m->end - m->place, bits = window(m->bytes, m->place), satellites = bits << 4 >> 24;
   uint32_t id = (uint32_t)(bits >> 60), count = ones(satellites);
   if (left < 4) return SHORT;
@@ -196,11 +204,13 @@ static uint64_t read_system(mask_source *m, tuned_mask *mask) {
   if (left < 61) return SHORT;
   m->named |= 1u << id;
   m->place += 61;
-  list_satellites(mask, id, satellites);
   mask->satellites += count;
-  mask->galileo <<= count;
-  if (id == GALILEO) mask->galileo = (UINT64_C(1) << count) - 1;
-  mask->orbit_bits += count * (id == GALILEO ? LONG_ORBIT : ORBIT);
+  mask->after_galileo += count;
+  if (id == GALILEO) {
+    mask->galileo = count;
+    mask->after_galileo = 0;
+  }
+  list_satellites(mask->satellite + TUNED_SATELLITES - mask->satellites, id, satellites);
   return read_cells(m, mask, count, signals, bits >> 47 & 1);
 }
 
@@ -208,22 +218,22 @@ static uint64_t read_system(mask_source *m, tuned_mask *mask) {
 enum { MASK_MOST = MASK_HEAD + SYSTEMS * 61 + 15 * TUNED_SATELLITES };
 
 /* "Each good mask message is adopted as the new holding and replaces the old one whole." */
-static uint64_t read_mask(stretch *s, tuned_holding *holding, uint64_t *place, uint64_t first) {
-  uint64_t left = s->end - *place;
-  if (left < MASK_HEAD) return SHORT;
-  source from = source_of(s, *place, left < MASK_MOST ? left : MASK_MOST);
+__attribute__((noinline)) static uint64_t read_mask(stretch *s, uint64_t place, uint64_t first) {
+  uint64_t left = s->end - place;
+  if (left < MASK_HEAD) return stop(s, SHORT);
+  source from = source_of(s, place, left < MASK_MOST ? left : MASK_MOST);
   mask_source m = {from.bytes, from.place + MASK_HEAD, from.place + left, 0};
-  tuned_mask *mask = &holding->masks[holding->current ^ 1];
+  tuned_mask *mask = &s->holding->masks[s->holding->current ^ 1];
   mask->gate = HELD | (uint32_t)cut(first, 41, 4);
-  mask->satellites = mask->cells = mask->orbit_bits = 0;
-  mask->galileo = 0;
+  mask->satellites = mask->cells = mask->galileo = mask->after_galileo = 0;
   for (int32_t systems = cut(first, 45, 4); systems > 0; systems--) {
     uint64_t answer = read_system(&m, mask);
-    if (answer != MESSAGE) return answer;
+    if (answer != MESSAGE) return stop(s, answer);
   }
-  holding->current ^= 1;
-  *place += m.place - from.place;
-  return MESSAGE;
+  mask->orbit_bits = ORBIT * mask->satellites + (LONG_ORBIT - ORBIT) * mask->galileo;
+  s->holding->current ^= 1;
+  s->held = mask;
+  return place + (m.place - from.place);
 }
 
 /* ---- rows */
@@ -234,101 +244,153 @@ ALWAYS void put_row(int32_t *row, const tuned_half *key, int32_t v1) {
   memcpy(row + 4, &absent, sizeof absent);
 }
 
-/* The values of one cell or one satellite, at bit 'from' of a window; discontinuity may be 0 bits. */
-ALWAYS void put_values(int32_t *row, const tuned_half *key, uint64_t bits, unsigned from, unsigned discontinuity,
-                       unsigned width) {
-  put_row(row, key, cut_signed(bits, from, width));
-  if (discontinuity) row[4] = cut(bits, from + width, discontinuity);
+/* What a row has: a value, and a discontinuity or, with 0 bits, none; and where the next row's key is. All of it is
+   known when this is compiled. */
+typedef struct {
+  unsigned value;
+  unsigned discontinuity;
+  int next;
+} shape;
+
+/* A row's values begin with bit 'from' of a window. */
+ALWAYS void put_values(int32_t *row, const tuned_half *key, uint64_t bits, unsigned from, shape has) {
+  put_row(row, key, cut_signed(bits, from, has.value));
+  if (has.discontinuity) row[4] = cut(bits, from + has.value, has.discontinuity);
 }
 
 /* As many rows from one window as have their bits in 57. */
-ALWAYS void put_rows(const tuned_half *key, uint32_t count, source b, unsigned width, unsigned discontinuity,
-                     int32_t *row) {
-  const unsigned step = width + discontinuity, batch = 57 / step;
-  const tuned_half *end = key + count;
-  while ((size_t)(end - key) >= batch) {
+ALWAYS void put_rows(const tuned_half *key, uint32_t count, source b, int32_t *row, shape has) {
+  const unsigned step = has.value + has.discontinuity, batch = 57 / step;
+  for (; count >= batch; count -= batch) {
     uint64_t bits = window(b.bytes, b.place);
 #pragma GCC unroll 5
-    for (unsigned k = 0; k < batch; k++)
-      put_values(row + HUNDURZEK_ROW * k, key + k, bits, k * step, discontinuity, width);
-    key += batch;
+    for (unsigned k = 0; k < batch; k++) put_values(row + HUNDURZEK_ROW * k, key + has.next * (int)k, bits, k * step, has);
+    key += has.next * (int)batch;
     row += HUNDURZEK_ROW * batch;
     b.place += batch * step;
   }
-  for (; key < end; key++, row += HUNDURZEK_ROW, b.place += step)
-    put_values(row, key, window(b.bytes, b.place), 0, discontinuity, width);
+  for (; count > 0; count--, key += has.next, row += HUNDURZEK_ROW, b.place += step)
+    put_values(row, key, window(b.bytes, b.place), 0, has);
 }
 
 __attribute__((noinline)) static void put_clocks(const tuned_mask *m, source b, int32_t *rows) {
-  put_rows(m->satellite, m->satellites, b, CLOCK, 0, rows);
+  put_rows(m->satellite + TUNED_SATELLITES - 1, m->satellites, b, rows, (shape){CLOCK, 0, -1});
 }
 
 __attribute__((noinline)) static void put_code_biases(const tuned_mask *m, source b, int32_t *rows) {
-  put_rows(m->cell, m->cells, b, CODE, 0, rows);
+  put_rows(m->cell, m->cells, b, rows, (shape){CODE, 0, 1});
 }
 
 __attribute__((noinline)) static void put_phase_biases(const tuned_mask *m, source b, int32_t *rows) {
-  put_rows(m->cell, m->cells, b, PHASE, DISCONTINUITY, rows);
+  put_rows(m->cell, m->cells, b, rows, (shape){PHASE, DISCONTINUITY, 1});
 }
 
-/* The orbit and the clock of a satellite, each where it is there; the place after them. A window that begins two bits
-   early where the IODE has eight has the other fields at the same places. */
-ALWAYS uint64_t put_satellite(const tuned_mask *m, uint32_t k, source b, int32_t *row, bool orbit, bool clock) {
-  memcpy(row, &m->satellite[k], sizeof m->satellite[k]);
+/* What a message has for each satellite, as the two flags of sub type 11 say it; the bits of an IODE. */
+enum { KEYS, CLOCKS, ORBITS, ORBITS_CLOCKS };
+enum { IODE = 8, LONG_IODE = 10 };
+
+ALWAYS uint64_t satellite_bits(int parts, unsigned iode) {
+  return (parts & ORBITS ? iode + 41 : 0) + (parts & CLOCKS ? CLOCK : 0);
+}
+
+/* A satellite's row. What it has, parts and iode, is known when this is compiled. */
+ALWAYS void put_satellite(const tuned_half *key, source b, int32_t *row, int parts, unsigned iode) {
+  memcpy(row, key, sizeof *key);
   memcpy(row + 4, &absent, sizeof absent);
-  if (orbit) {
-    b.place -= m->iode[k].less;
+  if (parts & ORBITS) {
     uint64_t bits = window(b.bytes, b.place);
-    row[3] = (int32_t)(bits >> 54 & m->iode[k].mask);
-    row[4] = cut_signed(bits, 10, 15);
-    row[5] = cut_signed(bits, 25, 13);
-    row[6] = cut_signed(bits, 38, 13);
-    b.place += LONG_ORBIT;
+    row[3] = cut(bits, 0, iode);
+    row[4] = cut_signed(bits, iode, 15);
+    row[5] = cut_signed(bits, iode + 15, 13);
+    row[6] = cut_signed(bits, iode + 28, 13);
   }
-  if (clock) {
-    row[7] = cut_signed(window(b.bytes, b.place), 0, CLOCK);
-    b.place += CLOCK;
-  }
-  return b.place;
+  if (parts & CLOCKS) row[7] = cut_signed(window(b.bytes, b.place + satellite_bits(parts & ORBITS, iode)), 0, CLOCK);
 }
 
-ALWAYS void put_all(const tuned_mask *m, source b, int32_t *row, bool orbit, bool clock) {
-#pragma GCC unroll 2
-  for (uint32_t k = 0; k < m->satellites; k++, row += HUNDURZEK_ROW)
-    b.place = put_satellite(m, k, b, row, orbit, clock);
+/* What is left to do, from the last row to the first: where the last row and its bits end. */
+typedef struct {
+  source past;
+  int32_t *row_past;
+} progress;
+
+ALWAYS progress put_run(const tuned_half *key, const tuned_half *end, progress p, int parts, unsigned iode) {
+  for (; key < end; key++) {
+    p.past.place -= satellite_bits(parts, iode);
+    p.row_past -= HUNDURZEK_ROW;
+    put_satellite(key, p.past, p.row_past, parts, iode);
+  }
+  return p;
 }
 
-/* The first satellite's bit is the highest of as many as there are. */
-ALWAYS void put_selected(const tuned_mask *m, uint64_t selected, source b, int32_t *row, bool orbit, bool clock) {
-  for (; selected; row += HUNDURZEK_ROW) {
-    uint32_t bit = highest(selected);
-    selected ^= UINT64_C(1) << bit;
-    b.place = put_satellite(m, m->satellites - 1 - bit, b, row, orbit, clock);
+/* Galileo's satellites have loops of their own. */
+ALWAYS void put_all(const tuned_mask *m, progress p, int parts) {
+  const tuned_half *key = last_satellite(m), *end = m->satellite + TUNED_SATELLITES;
+  if (parts & ORBITS && m->galileo > 0) {
+    const tuned_half *galileo = key + m->after_galileo, *past = galileo + m->galileo;
+    p = put_run(key, galileo, p, parts, IODE);
+    p = put_run(galileo, past, p, parts, LONG_IODE);
+    key = past;
+  }
+  put_run(key, end, p, parts, IODE);
+}
+
+ALWAYS progress put_chosen(const tuned_half *last, uint64_t chosen, progress p, int parts, unsigned iode) {
+  for (; chosen; chosen &= chosen - 1) {
+    p.past.place -= satellite_bits(parts, iode);
+    p.row_past -= HUNDURZEK_ROW;
+    put_satellite(last + __builtin_ctzll(chosen), p.past, p.row_past, parts, iode);
+  }
+  return p;
+}
+
+/* Galileo's satellites as a selection has them. */
+ALWAYS uint64_t galileo_bits(const tuned_mask *m) {
+  return m->galileo == 0 ? 0 : UINT64_MAX >> (64 - m->galileo) << m->after_galileo;
+}
+
+ALWAYS void put_selected(const tuned_mask *m, uint64_t selected, progress p, int parts) {
+  const tuned_half *last = last_satellite(m);
+  uint64_t galileo = parts & ORBITS ? galileo_bits(m) : 0;
+  if (galileo) {
+    uint64_t after = (galileo & -galileo) - 1;
+    p = put_chosen(last, selected & after, p, parts, IODE);
+    p = put_chosen(last, selected & galileo, p, parts, LONG_IODE);
+    selected &= ~(galileo | after);
+  }
+  put_chosen(last, selected, p, parts, IODE);
+}
+
+/* Rows of keys alone, four at a turn. */
+ALWAYS void put_keys(const tuned_mask *m, int32_t *row) {
+  const tuned_half *key = m->satellite + TUNED_SATELLITES, *last = last_satellite(m);
+#pragma GCC unroll 4
+  for (; key > last; row += HUNDURZEK_ROW) {
+    memcpy(row, --key, sizeof *key);
+    memcpy(row + 4, &absent, sizeof absent);
   }
 }
 
 __attribute__((noinline)) static void put_orbits(const tuned_mask *m, source b, int32_t *rows) {
-  put_all(m, b, rows, true, false);
+  source past = {b.bytes, b.place + m->orbit_bits};
+  put_all(m, (progress){past, rows + HUNDURZEK_ROW * m->satellites}, ORBITS);
 }
 
-enum { KEYS, CLOCKS, ORBITS, ORBITS_CLOCKS };
-
-__attribute__((noinline)) static void put_combined(const tuned_mask *m, source b, int32_t *rows, int parts) {
+__attribute__((noinline)) static void put_combined(const tuned_mask *m, source past, int32_t *rows, int parts) {
+  progress p = {past, rows + HUNDURZEK_ROW * m->satellites};
   switch (parts) {
-    case KEYS: put_all(m, b, rows, false, false); break;
-    case CLOCKS: put_all(m, b, rows, false, true); break;
-    case ORBITS: put_orbits(m, b, rows); break;
-    default: put_all(m, b, rows, true, true);
+    case KEYS: put_keys(m, rows); break;
+    case CLOCKS: put_all(m, p, CLOCKS); break;
+    case ORBITS: put_all(m, p, ORBITS); break;
+    default: put_all(m, p, ORBITS_CLOCKS);
   }
 }
 
-__attribute__((noinline)) static void put_network(const tuned_mask *m, uint64_t selected, source b, int32_t *rows,
-                                                  int parts) {
+__attribute__((noinline)) static void put_network(const tuned_mask *m, uint64_t selected, progress p, int parts) {
   switch (parts) {
-    case KEYS: put_selected(m, selected, b, rows, false, false); break;
-    case CLOCKS: put_selected(m, selected, b, rows, false, true); break;
-    case ORBITS: put_selected(m, selected, b, rows, true, false); break;
-    default: put_selected(m, selected, b, rows, true, true);
+    case KEYS: put_selected(m, selected, p, KEYS); break;
+    case CLOCKS: put_selected(m, selected, p, CLOCKS); break;
+    case ORBITS: put_selected(m, selected, p, ORBITS); break;
+    default: put_selected(m, selected, p, ORBITS_CLOCKS);
   }
 }
 
@@ -336,12 +398,11 @@ __attribute__((noinline)) static void put_network(const tuned_mask *m, uint64_t 
 
 typedef void body(const tuned_mask *m, source b, int32_t *rows);
 
-ALWAYS uint64_t read_body(stretch *s, const tuned_mask *m, uint64_t *place, uint64_t bits, body *put) {
-  uint64_t start = *place + HEAD;
-  if (s->end - start < bits) return SHORT;
-  put(m, source_of(s, start, bits), s->rows);
-  *place = start + bits;
-  return MESSAGE;
+ALWAYS uint64_t read_body(stretch *s, uint64_t place, uint64_t bits, body *put) {
+  place += HEAD;
+  if (s->end - place < bits) return stop(s, SHORT);
+  put(s->held, source_of(s, place, bits), s->rows);
+  return place + bits;
 }
 
 ALWAYS uint64_t selection(source b, uint32_t count) {
@@ -350,62 +411,55 @@ ALWAYS uint64_t selection(source b, uint32_t count) {
   return window(b.bytes, b.place) >> 32 << (count - 32) | window(b.bytes, b.place + 32) >> (96 - count);
 }
 
-ALWAYS uint64_t read_network(stretch *s, const tuned_mask *m, uint64_t *place, int parts, uint64_t *rows) {
-  uint64_t start = *place + NETWORK_END;
-  if (s->end - start < m->satellites) return SHORT;
-  uint64_t selected = selection(source_of(s, start, m->satellites), m->satellites);
-  start += m->satellites;
-  *rows = ones(selected);
-  uint64_t bits = *rows * ((parts & CLOCKS ? CLOCK : 0) + (parts & ORBITS ? ORBIT : 0));
-  if (parts & ORBITS) bits += (LONG_ORBIT - ORBIT) * ones(selected & m->galileo);
-  if (s->end - start < bits) return SHORT;
-  put_network(m, selected, source_of(s, start, bits), s->rows, parts);
-  *place = start + bits;
-  return MESSAGE;
+/* The bits at a place, and the place after them. */
+ALWAYS source past_of(stretch *s, uint64_t place, uint64_t bits) {
+  source b = source_of(s, place, bits);
+  return (source){b.bytes, b.place + bits};
 }
 
-ALWAYS uint64_t read_combined(stretch *s, const tuned_mask *m, uint64_t *place, uint64_t first, hundurzek_head *head,
-                              uint64_t *rows) {
-  uint64_t left = s->end - *place;
-  if (left < FLAGS) return SHORT;
+ALWAYS uint64_t read_network(stretch *s, uint64_t place, int parts, uint64_t *rows) {
+  const tuned_mask *m = s->held;
+  place += NETWORK_END;
+  if (s->end - place < m->satellites) return stop(s, SHORT);
+  uint64_t selected = selection(source_of(s, place, m->satellites), m->satellites);
+  place += m->satellites;
+  *rows = ones(selected);
+  uint64_t bits = *rows * satellite_bits(parts, IODE);
+  if (parts & ORBITS) bits += (LONG_IODE - IODE) * ones(selected & galileo_bits(m));
+  if (s->end - place < bits) return stop(s, SHORT);
+  put_network(m, selected, (progress){past_of(s, place, bits), s->rows + HUNDURZEK_ROW * *rows}, parts);
+  return place + bits;
+}
+
+ALWAYS uint64_t read_combined(stretch *s, uint64_t place, uint64_t first, hundurzek_head *head, uint64_t *rows) {
+  const tuned_mask *m = s->held;
+  uint64_t left = s->end - place;
+  if (left < FLAGS) return stop(s, SHORT);
   int parts = cut(first, 37, 2);
   head->a = parts >> 1;
   head->b = parts & 1;
   if (cut(first, 39, 1)) {
-    if (left < NETWORK_END) return SHORT;
+    if (left < NETWORK_END) return stop(s, SHORT);
     head->c = cut(first, 40, 5);
-    return head->c == 0 ? NETWORK : read_network(s, m, place, parts, rows);
+    return head->c == 0 ? stop(s, NETWORK) : read_network(s, place, parts, rows);
   }
   uint64_t bits = (parts & CLOCKS ? CLOCK * m->satellites : 0) + (parts & ORBITS ? m->orbit_bits : 0);
-  if (left - FLAGS < bits) return SHORT;
-  put_combined(m, source_of(s, *place + FLAGS, bits), s->rows, parts);
-  *place += FLAGS + bits;
+  if (left - FLAGS < bits) return stop(s, SHORT);
   *rows = m->satellites;
-  return MESSAGE;
+  put_combined(m, past_of(s, place + FLAGS, bits), s->rows, parts);
+  return place + FLAGS + bits;
 }
 
-ALWAYS uint64_t read_under_mask(stretch *s, const tuned_mask *m, uint64_t *place, uint64_t first, hundurzek_head *head,
-                                uint64_t *rows) {
+/* The head of 37 bits: whether the held mask is the message's. */
+ALWAYS bool pass_head(stretch *s, uint64_t first, hundurzek_head *head) {
+  const uint32_t iod = (uint32_t)cut(first, 33, 4), gate = s->held->gate;
   head->epoch = cut(first, 16, 12);
   head->interval = cut(first, 28, 4);
   head->indicator = cut(first, 32, 1);
-  head->iod = cut(first, 33, 4);
-  if ((HELD | (uint32_t)head->iod) != m->gate) return m->gate ? OTHER_ISSUE : NO_MASK;
-  switch (head->subtype) {
-    case 2:
-      *rows = m->satellites;
-      return read_body(s, m, place, m->orbit_bits, put_orbits);
-    case 3:
-      *rows = m->satellites;
-      return read_body(s, m, place, CLOCK * m->satellites, put_clocks);
-    case 4:
-      *rows = m->cells;
-      return read_body(s, m, place, CODE * m->cells, put_code_biases);
-    case 5:
-      *rows = m->cells;
-      return read_body(s, m, place, (PHASE + DISCONTINUITY) * m->cells, put_phase_biases);
-    default: return read_combined(s, m, place, first, head, rows);
-  }
+  head->iod = (int32_t)iod;
+  if ((HELD | iod) == gate) return true;
+  stop(s, gate ? OTHER_ISSUE : NO_MASK);
+  return false;
 }
 
 /* ---- sub type 10 */
@@ -417,18 +471,20 @@ ALWAYS void put_service(int32_t *row, int32_t k, uint64_t bits) {
   for (unsigned j = 0; j < 5; j++) row[3 + j] = cut(bits, 8 * j, 8);
 }
 
-ALWAYS uint64_t read_service(stretch *s, uint64_t *place, uint64_t first, hundurzek_head *head, uint64_t *rows) {
+ALWAYS uint64_t read_service(stretch *s, uint64_t place, uint64_t first, hundurzek_head *head, uint64_t *rows) {
+  const int32_t size = cut(first, 20, 2);
   head->indicator = cut(first, 16, 1);
   head->a = cut(first, 17, 3);
-  head->b = cut(first, 20, 2);
-  *rows = (uint64_t)head->b + 1;
-  uint64_t start = *place + SERVICE_HEAD, bits = SERVICE * *rows;
-  if (s->end - start < bits) return SHORT;
-  source b = source_of(s, start, bits);
-  for (int32_t k = 0; k <= head->b; k++, b.place += SERVICE)
-    put_service(s->rows + HUNDURZEK_ROW * k, k, window(b.bytes, b.place));
-  *place = start + bits;
-  return MESSAGE;
+  head->b = size;
+  *rows = (uint64_t)size + 1;
+  uint64_t bits = SERVICE * *rows;
+  place += SERVICE_HEAD;
+  if (s->end - place < bits) return stop(s, SHORT);
+  source b = source_of(s, place, bits);
+  int32_t *row = s->rows;
+  for (int32_t k = 0; k <= size; k++, b.place += SERVICE, row += HUNDURZEK_ROW)
+    put_service(row, k, window(b.bytes, b.place));
+  return place + bits;
 }
 
 /* ---- one message */
@@ -446,7 +502,7 @@ static bool all_zero(const uint8_t *bytes, uint64_t place, uint64_t end) {
 }
 
 /* Where there is no opening of a message, or not 37 bits: the shortest message has these. */
-__attribute__((noinline)) static uint64_t refuse(const stretch *s, uint64_t place, uint64_t first) {
+static uint64_t refusal(const stretch *s, uint64_t place, uint64_t first) {
   uint64_t left = s->end - place;
   static const uint32_t subtypes = 1u << 1 | 1u << 2 | 1u << 3 | 1u << 4 | 1u << 5 | 1u << 10 | 1u << 11;
   if (all_zero(s->bytes, place, s->end)) return IDLE;
@@ -456,27 +512,48 @@ __attribute__((noinline)) static uint64_t refuse(const stretch *s, uint64_t plac
   return subtypes >> cut(first, 12, 4) & 1 ? SHORT : SUBTYPE;
 }
 
-/* Moves the place after the message, and says how many rows it has; after another answer neither counts. */
-ALWAYS uint64_t read_next(stretch *s, tuned_holding *holding, uint64_t *place, hundurzek_head *head, uint64_t *rows) {
-  uint64_t first = first_window(s, *place);
-  if (s->end - *place < HEAD || first >> 52 != 4073) return refuse(s, *place, first);
+__attribute__((noinline)) static uint64_t refuse(stretch *s, uint64_t place, uint64_t first) {
+  return stop(s, refusal(s, place, first));
+}
+
+ALWAYS uint64_t read_adopting(stretch *s, uint64_t place, uint64_t first, hundurzek_head *head) {
+  head->epoch = cut(first, 16, 20);
+  head->interval = cut(first, 36, 4);
+  head->indicator = cut(first, 40, 1);
+  head->iod = cut(first, 41, 4);
+  head->a = cut(first, 45, 4);
+  return read_mask(s, place, first);
+}
+
+/* Answers the place after the message, and how many rows it has. One switch, which is one jump. */
+ALWAYS uint64_t read_next(stretch *s, uint64_t place, hundurzek_head *head, uint64_t *rows) {
+  uint64_t first = first_window(s, place);
+  if (s->end - place < HEAD || first >> 52 != 4073) return refuse(s, place, first);
   head->subtype = cut(first, 12, 4);
+  *rows = 0;
   switch (head->subtype) {
-    case 1:
-      head->epoch = cut(first, 16, 20);
-      head->interval = cut(first, 36, 4);
-      head->indicator = cut(first, 40, 1);
-      head->iod = cut(first, 41, 4);
-      head->a = cut(first, 45, 4);
-      *rows = 0;
-      return read_mask(s, holding, place, first);
+    case 1: return read_adopting(s, place, first, head);
     case 2:
+      if (!pass_head(s, first, head)) return STOPPED;
+      *rows = s->held->satellites;
+      return read_body(s, place, s->held->orbit_bits, put_orbits);
     case 3:
+      if (!pass_head(s, first, head)) return STOPPED;
+      *rows = s->held->satellites;
+      return read_body(s, place, CLOCK * *rows, put_clocks);
     case 4:
+      if (!pass_head(s, first, head)) return STOPPED;
+      *rows = s->held->cells;
+      return read_body(s, place, CODE * *rows, put_code_biases);
     case 5:
-    case 11: return read_under_mask(s, &holding->masks[holding->current], place, first, head, rows);
+      if (!pass_head(s, first, head)) return STOPPED;
+      *rows = s->held->cells;
+      return read_body(s, place, (PHASE + DISCONTINUITY) * *rows, put_phase_biases);
     case 10: return read_service(s, place, first, head, rows);
-    default: return SUBTYPE;
+    case 11:
+      if (!pass_head(s, first, head)) return STOPPED;
+      return read_combined(s, place, first, head, rows);
+    default: return stop(s, SUBTYPE);
   }
 }
 
@@ -488,25 +565,38 @@ ALWAYS uint64_t test_lent(uint64_t holding_count, uint64_t count, uint64_t end, 
   return MESSAGE;
 }
 
+ALWAYS void lend(stretch *s, const uint8_t *bytes, uint64_t count, uint64_t end, int32_t *rows) {
+  s->bytes = bytes;
+  s->count = count;
+  s->end = end;
+  s->rows = rows;
+}
+
+ALWAYS void hold(stretch *s, uint8_t *holding) {
+  s->holding = (tuned_holding *)(void *)holding;
+  s->held = &s->holding->masks[s->holding->current];
+}
+
 hundurzek_reading *tuned_read(hundurzek_reading *out, uint8_t *holding, uint64_t holding_count, const uint8_t *bytes,
                               uint64_t count, uint64_t end, uint64_t start, int32_t *rows, uint64_t row_count) {
   stretch s;
-  uint64_t place = start, made = 0, answer = test_lent(holding_count, count, end, start, row_count);
-  s.bytes = bytes;
-  s.count = count;
-  s.end = end;
-  s.rows = rows;
+  uint64_t place = STOPPED, made = 0;
   out->head = nothing;
-  if (answer == MESSAGE) answer = read_next(&s, (tuned_holding *)(void *)holding, &place, &out->head, &made);
-  out->answer = answer;
-  if (answer == MESSAGE) {
-    out->place = place;
-    out->rows = made;
-    out->raw_offset = start / 8;
-    out->raw_count = (place + 7) / 8 - start / 8;
-  } else {
-    *out = (hundurzek_reading){.answer = answer, .place = start, .head = nothing};
+  s.answer = test_lent(holding_count, count, end, start, row_count);
+  if (s.answer == MESSAGE) {
+    lend(&s, bytes, count, end, rows);
+    hold(&s, holding);
+    place = read_next(&s, start, &out->head, &made);
   }
+  if (place == STOPPED) {
+    *out = (hundurzek_reading){.answer = s.answer, .place = start, .head = nothing};
+    return out;
+  }
+  out->answer = MESSAGE;
+  out->place = place;
+  out->rows = made;
+  out->raw_offset = start / 8;
+  out->raw_count = (place + 7) / 8 - start / 8;
   return out;
 }
 
@@ -514,17 +604,17 @@ hundurzek_walked *tuned_walk(hundurzek_walked *out, uint8_t *holding, uint64_t h
                              uint64_t count, uint64_t end, int32_t *rows, uint64_t row_count) {
   stretch s;
   hundurzek_head head; /* not handed out */
-  uint64_t place = 0, messages = 0, all = 0, made = 0, answer = test_lent(holding_count, count, end, 0, row_count);
-  s.bytes = bytes;
-  s.count = count;
-  s.end = end;
-  s.rows = rows;
-  while (answer == MESSAGE) {
-    answer = read_next(&s, (tuned_holding *)(void *)holding, &place, &head, &made);
-    if (answer != MESSAGE) break;
-    messages++;
-    all += made;
+  uint64_t place = 0, messages = 0, all = 0, made = 0, next;
+  s.answer = test_lent(holding_count, count, end, 0, row_count);
+  if (s.answer == MESSAGE) {
+    lend(&s, bytes, count, end, rows);
+    hold(&s, holding);
+    while ((next = read_next(&s, place, &head, &made)) != STOPPED) {
+      place = next;
+      messages++;
+      all += made;
+    }
   }
-  *out = (hundurzek_walked){answer, place, messages, all};
+  *out = (hundurzek_walked){s.answer, place, messages, all};
   return out;
 }

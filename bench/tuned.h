@@ -14,20 +14,16 @@ typedef struct {
   int32_t number[HUNDURZEK_ROW / 2];
 } tuned_half;
 
-/* For a satellite's IODE: how many bits less than ten it has, and a mask of its bits. */
-typedef struct {
-  uint32_t less;
-  uint32_t mask;
-} tuned_iode;
-
+/* The satellites' keys end where their list ends, the last satellite first: so a satellite's index in them is that of
+   its bit in a selection. Galileo's, if any, stand together, with so many after them. Cells stand from the first on. */
 typedef struct {
   uint32_t gate; /* the IOD SSR, and 16 where the mask is held: 0 holds nothing */
   uint32_t satellites;
   uint32_t cells;
   uint32_t orbit_bits; /* of all satellites */
-  uint64_t galileo;    /* its satellites as a selection of sub type 11 has them */
+  uint32_t galileo;
+  uint32_t after_galileo;
   tuned_half satellite[TUNED_SATELLITES];
-  tuned_iode iode[TUNED_SATELLITES];
   tuned_half cell[TUNED_CELLS];
 } tuned_mask;
 
