@@ -56,19 +56,21 @@ static const decoder decoders[] = {{"host", hundurzek_read, hundurzek_walk, hund
 
 /* ---- receivers: what is lent to a decoder */
 
-/* Each decoder's holding, empty where all of it is zero; bytes after the host's are left alone. */
+/* Each decoder's holding, empty where all of it is zero; bytes after the host's are left alone. Where things lie is
+   fixed, to a line of the cache: how many instructions a copy takes depends on it. */
+enum { LINE = 64 };
 typedef struct {
-  union {
+  _Alignas(LINE) union {
     uint8_t host[HUNDURZEK_HOLDING];
     tuned_holding tuned;
     bitwise_holding bitwise;
   } holding;
-  int32_t rows[HUNDURZEK_ROOM];
+  _Alignas(LINE) int32_t rows[HUNDURZEK_ROOM];
 } receiver;
 
 static const decoder *decoding;
 static receiver by_message, by_walk;
-static stretch stretches[HOUR];
+static _Alignas(LINE) stretch stretches[HOUR];
 static size_t stretch_count;
 
 /* Reads on, from the place where a reading of the stretch ended; whether there was a message. */

@@ -385,7 +385,9 @@ __attribute__((noinline)) static void put_combined(const tuned_mask *m, source p
   }
 }
 
-__attribute__((noinline)) static void put_network(const tuned_mask *m, uint64_t selected, progress p, int parts) {
+__attribute__((noinline)) static void put_network(const tuned_mask *m, uint64_t selected, source past,
+                                                  int32_t *row_past, int parts) {
+  progress p = {past, row_past};
   switch (parts) {
     case KEYS: put_selected(m, selected, p, KEYS); break;
     case CLOCKS: put_selected(m, selected, p, CLOCKS); break;
@@ -427,7 +429,7 @@ ALWAYS uint64_t read_network(stretch *s, uint64_t place, int parts, uint64_t *ro
   uint64_t bits = *rows * satellite_bits(parts, IODE);
   if (parts & ORBITS) bits += (LONG_IODE - IODE) * ones(selected & galileo_bits(m));
   if (s->end - place < bits) return stop(s, SHORT);
-  put_network(m, selected, (progress){past_of(s, place, bits), s->rows + HUNDURZEK_ROW * *rows}, parts);
+  put_network(m, selected, past_of(s, place, bits), s->rows + HUNDURZEK_ROW * *rows, parts);
   return place + bits;
 }
 
