@@ -17,7 +17,12 @@ measures() {
                 print of, "per-row", $3
                 print of, "per-message", $4
                 print of, "to-bitwise", $5
+                print of, "to-tuned", $6
             }'
+        ;;
+    stack)
+        bytes=$(stack host "$2")
+        echo "$1 $2 bytes $bytes"
         ;;
     fields)
         read_field=$(per_call read "$2")
@@ -42,7 +47,7 @@ awk '
         held = got > 0 && got <= $4 + 0
         passed += held
         failed += !held
-        printf "%-8s %2s %-12s %9.3f, at most %s%s\n", $1, $2, $3, got, $4, held ? "" : ": NOT HELD"
+        printf "%-8s %5s %-12s %9.3f, at most %s%s\n", $1, $2, $3, got, $4, held ? "" : ": NOT HELD"
     }
     END {
         printf "%d passed, %d failed\n", passed, failed
