@@ -85,6 +85,9 @@ static void walk(hundurzek_walked *walked, const stretch *s) {
                  by_walk.rows, HUNDURZEK_ROOM);
 }
 
+/* Reads, or else calls for, all stretches. */
+typedef void reader(void);
+
 static void read_messages(void) {
   for (size_t k = 0; k < stretch_count; k++) {
     hundurzek_reading reading = {.place = 0};
@@ -171,7 +174,7 @@ static void check(bool damaged) {
 enum { STACK = 1 << 17, PAINT = 0xA5 };
 
 /* Reads all on a stack of its own that was painted before; answers how many bytes at its deep end are still painted. */
-static size_t painted_after(void (*read_all)(void), const decoder *d) {
+static size_t painted_after(reader *read_all, const decoder *d) {
   static uint8_t stack[STACK];
   ucontext_t here, there;
   decoding = d;
@@ -188,14 +191,14 @@ static size_t painted_after(void (*read_all)(void), const decoder *d) {
 }
 
 /* The return address and all below it. */
-static size_t deepest(void (*read_all)(void), const decoder *d) {
+static size_t deepest(reader *read_all, const decoder *d) {
   size_t returning = painted_after(read_all, &decoders[NONE]) + sizeof(void *);
   return returning - painted_after(read_all, d);
 }
 
 /* ---- the command line */
 
-static void (*reading_all(const char *way))(void) {
+static reader *reader_of(const char *way) {
   return !strcmp(way, "walks") ? read_walks : !strcmp(way, "messages") ? read_messages : make_empty;
 }
 
@@ -207,7 +210,7 @@ int main(int argc, char **argv) {
   if (decoding == decoders + DECODERS) return 2;
   stretch_count = make_input(stretches, argv[2]);
   if (stretch_count == 0) return 2;
-  void (*read_all)(void) = reading_all(argv[3]);
+  reader *read_all = reader_of(argv[3]);
   if (checking) check(!strcmp(argv[2], DAMAGED));
   else if (!strcmp(argv[4], "stack")) printf("%zu\n", deepest(read_all, decoding));
   else for (int rounds = atoi(argv[4]); rounds > 0; rounds--) read_all();

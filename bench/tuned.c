@@ -264,7 +264,8 @@ ALWAYS void put_rows(const tuned_half *key, uint32_t count, source b, int32_t *r
   for (; count >= batch; count -= batch) {
     uint64_t bits = window(b.bytes, b.place);
 #pragma GCC unroll 5
-    for (unsigned k = 0; k < batch; k++) put_values(row + HUNDURZEK_ROW * k, key + has.next * (int)k, bits, k * step, has);
+    for (unsigned k = 0; k < batch; k++)
+      put_values(row + HUNDURZEK_ROW * k, key + has.next * (int)k, bits, k * step, has);
     key += has.next * (int)batch;
     row += HUNDURZEK_ROW * batch;
     b.place += batch * step;

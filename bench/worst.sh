@@ -2,7 +2,7 @@
 # bench/worst.sh: which stretch takes the most instructions a bit through the host interface, by walks and message by
 # message; as the tables of docs/PERFORMANCE.md. Searches in three steps: one message again and again, of each sub type
 # and with various selections and sizes, under masks of various numbers of systems, satellites, signals and cells; what
-# is near the worst of each kind; then mixes of these. Takes about a minute; finds the same at every run.
+# is near the worst of each kind; then mixes of these. Takes a few minutes; finds the same at every run.
 set -eu
 cd "$(dirname "$0")/.."
 . bench/lib/count.sh
@@ -115,7 +115,7 @@ for way in walks messages; do
     sort -k 1,1 -rn -s $work/first $work/near | kinds >$work/worst
     head -n 12 $work/worst | mixes >$work/lines
     measured $way >$work/mixes
-    echo "| by $way | per bit | per message | mask | messages | bits | messages |"
+    echo "| by $way | per bit | per message | mask | back to back | bits | messages |"
     echo '|---|---|---|---|---|---|---|'
     head -n 6 $work/worst | while read -r line; do
         echo "$line" | table_row 'one message'

@@ -1,7 +1,7 @@
 /* A plugin for qemu's user emulator: how many instructions a program executes, as a number in the emulator's log when
-   it ends, and before that, as a mark, whenever it asks for its parent's process id, which no program here does for any
-   other reason. The numbers are the same at every run and on every machine. Debian has no header for plugins: the prototypes
-   are those of plugin interface 1. */
+   it ends, and before that, as a mark, whenever it asks for its parent's process id, which no program here does for
+   any other reason. The numbers are the same at every run and on every machine. Debian has no header for plugins: the
+   prototypes are those of plugin interface 1. */
 #include <inttypes.h>
 #include <stddef.h>
 #include <stdint.h>
@@ -26,8 +26,8 @@ int qemu_plugin_version = 1;
 
 static uint64_t executed;
 
-/* Each instruction by itself: a block that ends where the next instruction crosses a page says that it has that one too,
-   so counts by blocks depend on where the code lies. */
+/* Each instruction by itself: a block that ends where the next instruction crosses a page says that it has that one
+   too, so counts by blocks depend on where the code lies. */
 static void count_block(plugin_id id, block *b) {
   (void)id;
   for (size_t k = 0; k < qemu_plugin_tb_n_insns(b); k++)
