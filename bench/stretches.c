@@ -112,10 +112,18 @@ static size_t make_keys(stretch *stretches) {
 }
 
 /* (e) is nothing but masks. */
-static size_t make_masks(stretch *stretches, const char *variant) {
-  mask m = full_mask(*variant == '1' ? FOUR_SIGNALS : NO_SIGNALS);
-  if (*variant == '2') m.systems = 0;
-  return repeat(stretches, FEW, &m, put_mask);
+static size_t repeat_mask(stretch *stretches, const mask *m) { return repeat(stretches, FEW, m, put_mask); }
+
+static size_t make_masks(stretch *stretches) {
+  mask m = full_mask(FOUR_SIGNALS);
+  return repeat_mask(stretches, &m);
+}
+
+static size_t make_no_systems(stretch *stretches) { return repeat_mask(stretches, &(mask){.iod = 7}); }
+
+static size_t make_no_signals(stretch *stretches) {
+  mask m = full_mask(NO_SIGNALS);
+  return repeat_mask(stretches, &m);
 }
 
 /* (f) has no mask. */
@@ -131,13 +139,17 @@ static void put_one_combined(stretch *s, const mask *m, unsigned epoch) {
 }
 
 /* (g) has messages of one satellite, with one signal; sub type 11 has all that it can have, and a network. */
-static size_t make_singles(stretch *stretches, const char *variant) {
-  static putter *const putters[] = {NULL, NULL, put_orbits, put_clocks, put_code_biases, put_phase_biases,
-                                    [11] = put_one_combined};
+static size_t repeat_single(stretch *stretches, putter *put_one) {
   mask m = {.iod = 7, .systems = 1, .selections = {1}};
   m.system[0] = (constellation){.id = GPS, .satellites = choose(1, 40), .signals = 0x8000, .flag = 1, .cells = {1}};
-  return repeat(stretches, FEW, &m, putters[atoi(variant)]);
+  return repeat(stretches, FEW, &m, put_one);
 }
+
+static size_t make_an_orbit(stretch *stretches) { return repeat_single(stretches, put_orbits); }
+static size_t make_a_clock(stretch *stretches) { return repeat_single(stretches, put_clocks); }
+static size_t make_a_code_bias(stretch *stretches) { return repeat_single(stretches, put_code_biases); }
+static size_t make_a_phase_bias(stretch *stretches) { return repeat_single(stretches, put_phase_biases); }
+static size_t make_a_combination(stretch *stretches) { return repeat_single(stretches, put_one_combined); }
 
 /* ---- growth */
 
@@ -204,17 +216,20 @@ static size_t make_damaged(stretch *stretches) {
 
 /* ---- inputs by name */
 
+static const struct {
+  const char *name;
+  size_t (*make)(stretch *stretches);
+} inputs[] = {
+    {"a", make_hour},           {"b", make_biases},      {"c", make_heads},
+    {"d", make_keys},           {"e1", make_masks},      {"e2", make_no_systems},
+    {"e3", make_no_signals},    {"f", make_services},    {"g2", make_an_orbit},
+    {"g3", make_a_clock},       {"g4", make_a_code_bias}, {"g5", make_a_phase_bias},
+    {"g11", make_a_combination}, {DAMAGED, make_damaged},
+};
+
 size_t make_input(stretch *stretches, const char *name) {
   int parts = atoi(name);
-  if (!strcmp(name, DAMAGED)) return make_damaged(stretches);
-  switch (*name) {
-    case 'a': return make_hour(stretches);
-    case 'b': return make_biases(stretches);
-    case 'c': return make_heads(stretches);
-    case 'd': return make_keys(stretches);
-    case 'e': return make_masks(stretches, name + 1);
-    case 'f': return make_services(stretches);
-    case 'g': return make_singles(stretches, name + 1);
-    default: return parts > 0 && HOUR % parts == 0 ? make_parts(stretches, (unsigned)parts) : 0;
-  }
+  for (size_t k = 0; k < sizeof inputs / sizeof *inputs; k++)
+    if (!strcmp(inputs[k].name, name)) return inputs[k].make(stretches);
+  return parts > 0 && HOUR % parts == 0 ? make_parts(stretches, (unsigned)parts) : 0;
 }
