@@ -2,7 +2,7 @@
 
      read DECODER INPUT check        by walks and message by message: all that was handed out, as a checksum; totals
      read DECODER INPUT WAY stack    the deepest stack of a call, in bytes
-     read DECODER INPUT WAY ROUNDS   that many times, for an instruction counter: a round more reads the input once more
+     read DECODER INPUT WAY marked   once, then again, for an instruction counter: two marks, the second time, a mark
 
    DECODER is host, tuned or bitwise. INPUT is one of stretches.h. WAY is walks, a call for each stretch, messages, a
    call for each message, or empty, a call of hundurzek_empty for each stretch. */
@@ -15,6 +15,7 @@
 
 #include "bitwise.h"
 #include "hundurzek.h"
+#include "mark.h"
 #include "stretches.h"
 #include "tuned.h"
 
@@ -196,6 +197,17 @@ static size_t deepest(reader *read_all, const decoder *d) {
   return returning - painted_after(read_all, d);
 }
 
+/* ---- instructions */
+
+/* The second time the holding is the one that the last stretch left. Between the first two marks is nothing. */
+static void read_marked(reader *read_all) {
+  read_all();
+  mark();
+  mark();
+  read_all();
+  mark();
+}
+
 /* ---- the command line */
 
 static reader *reader_of(const char *way) {
@@ -213,6 +225,7 @@ int main(int argc, char **argv) {
   reader *read_all = reader_of(argv[3]);
   if (checking) check(!strcmp(argv[2], DAMAGED));
   else if (!strcmp(argv[4], "stack")) printf("%zu\n", deepest(read_all, decoding));
-  else for (int rounds = atoi(argv[4]); rounds > 0; rounds--) read_all();
+  else if (!strcmp(argv[4], "marked")) read_marked(read_all);
+  else return 2;
   return 0;
 }

@@ -51,7 +51,7 @@ stack_row() {
 
 # growth_row PARTS CHECKSUM STRETCHES BITS PADDING ROWS MESSAGES ..
 growth_row() {
-    n=$(round read host "$1" walks)
+    n=$(marked read host "$1" walks marked)
     per_bit=$(awk -v n="$n" -v bits="$4" 'BEGIN { printf "%.3f", n / bits }')
     echo "| $(columns "$1" "$3" "$4" "$6" "$7" "$n" $((n / $3)) "$per_bit") |"
 }

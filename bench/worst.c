@@ -18,10 +18,10 @@
 #include <stdio.h>
 #include <stdlib.h>
 #include <string.h>
-#include <unistd.h>
 
 #include "encode.h"
 #include "hundurzek.h"
+#include "mark.h"
 
 /* ---- masks */
 
@@ -130,8 +130,6 @@ static uint64_t read_messages(void) {
     if (reading.answer != HUNDURZEK_MESSAGE) return messages;
   }
 }
-
-static void mark(void) { getppid(); }
 
 static bool read_line(const char *line, uint64_t (*read_all)(void), FILE *out) {
   char setup[64], loop[256];

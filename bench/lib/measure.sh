@@ -32,9 +32,9 @@ handed_out() {
 
 # reading WAY INPUT CHECKSUM STRETCHES BITS PADDING ROWS MESSAGES ..
 reading() {
-    host=$(round read host "$2" "$1")
-    tuned=$(round read tuned "$2" "$1")
-    bitwise=$(round read bitwise "$2" "$1")
+    host=$(marked read host "$2" "$1" marked)
+    tuned=$(marked read tuned "$2" "$1" marked)
+    bitwise=$(marked read bitwise "$2" "$1" marked)
     awk -v host="$host" -v tuned="$tuned" -v bitwise="$bitwise" -v bits="$5" -v rows="$7" -v messages="$8" \
         -v OFMT=%.6f '
         function line(decoder, n) {
