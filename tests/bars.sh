@@ -6,11 +6,21 @@ cd "$(dirname "$0")/.."
 build_read
 build_fields
 
+# once INPUT: what handed_out says of it; the decoders are compared once for all ways
+rm -f target/bench/handed.*
+once() {
+    if [ ! -f "target/bench/handed.$1" ]; then
+        handed_out "$1" >target/bench/handing
+        mv target/bench/handing "target/bench/handed.$1"
+    fi
+    cat "target/bench/handed.$1"
+}
+
 # measures WAY INPUT: a line WAY INPUT MEASURE NUMBER for each measure that a bar can name
 measures() {
     case $1 in
     walks | messages)
-        totals=$(handed_out "$2")
+        totals=$(once "$2")
         reading "$1" "$2" $totals | awk -v of="$1 $2" '
             $1 == "host" {
                 print of, "per-bit", $2
