@@ -2,10 +2,10 @@
 
      read DECODER INPUT check        by walks and message by message: all that was handed out, as a checksum; totals
      read DECODER INPUT WAY stack    the deepest stack of a call, in bytes
-     read DECODER INPUT WAY ROUNDS   that many times, for an instruction counter: a round more reads the input once more
+     read DECODER INPUT WAY marked   once, then again, for an instruction counter: two marks, the second time, a mark
 
-   DECODER is host or bitwise. INPUT is a, b, c, or the data parts of a stretch (stretches.h). WAY is walks, a call for
-   each stretch, or messages, a call for each message. */
+   DECODER is host, tuned or bitwise. INPUT is one of stretches.h. WAY is walks, a call for each stretch, messages, a
+   call for each message, or empty, a call of hundurzek_empty for each stretch. */
 #include <inttypes.h>
 #include <stdbool.h>
 #include <stdio.h>
@@ -15,7 +15,9 @@
 
 #include "bitwise.h"
 #include "hundurzek.h"
+#include "mark.h"
 #include "stretches.h"
+#include "tuned.h"
 
 /* ---- decoders */
 
@@ -23,6 +25,7 @@ typedef struct {
   const char *name;
   __typeof__(hundurzek_read) *read;
   __typeof__(hundurzek_walk) *walk;
+  __typeof__(hundurzek_empty) *empty;
 } decoder;
 
 static hundurzek_reading *no_read(hundurzek_reading *out, uint8_t *holding, uint64_t holding_count,
@@ -40,26 +43,35 @@ static hundurzek_walked *no_walk(hundurzek_walked *out, uint8_t *holding, uint64
   return out;
 }
 
+static uint64_t no_empty(uint8_t *holding, uint64_t holding_count) {
+  (void)holding, (void)holding_count;
+  return 0;
+}
+
 /* The last is always idle; its stack is its return address. */
-enum { DECODERS = 2, NONE = DECODERS };
-static const decoder decoders[] = {{"host", hundurzek_read, hundurzek_walk},
-                                   {"bitwise", bitwise_read, bitwise_walk},
-                                   [NONE] = {"", no_read, no_walk}};
+enum { DECODERS = 3, NONE = DECODERS };
+static const decoder decoders[] = {{"host", hundurzek_read, hundurzek_walk, hundurzek_empty},
+                                   {"tuned", tuned_read, tuned_walk, no_empty},
+                                   {"bitwise", bitwise_read, bitwise_walk, no_empty},
+                                   [NONE] = {"", no_read, no_walk, no_empty}};
 
 /* ---- receivers: what is lent to a decoder */
 
-/* Either decoder's holding, empty where all of it is zero; bytes after the host's are left alone. */
+/* Each decoder's holding, empty where all of it is zero; bytes after the host's are left alone. Where things lie is
+   fixed, to a line of the cache: how many instructions a copy takes depends on it. */
+enum { LINE = 64 };
 typedef struct {
-  union {
+  _Alignas(LINE) union {
     uint8_t host[HUNDURZEK_HOLDING];
+    tuned_holding tuned;
     bitwise_holding bitwise;
   } holding;
-  int32_t rows[HUNDURZEK_ROOM];
+  _Alignas(LINE) int32_t rows[HUNDURZEK_ROOM];
 } receiver;
 
 static const decoder *decoding;
 static receiver by_message, by_walk;
-static stretch stretches[HOUR];
+static _Alignas(LINE) stretch stretches[HOUR];
 static size_t stretch_count;
 
 /* Reads on, from the place where a reading of the stretch ended; whether there was a message. */
@@ -74,6 +86,9 @@ static void walk(hundurzek_walked *walked, const stretch *s) {
                  by_walk.rows, HUNDURZEK_ROOM);
 }
 
+/* Reads, or else calls for, all stretches. */
+typedef void reader(void);
+
 static void read_messages(void) {
   for (size_t k = 0; k < stretch_count; k++) {
     hundurzek_reading reading = {.place = 0};
@@ -86,12 +101,17 @@ static void read_walks(void) {
   for (size_t k = 0; k < stretch_count; k++) walk(&walked, &stretches[k]);
 }
 
+static void make_empty(void) {
+  for (size_t k = 0; k < stretch_count; k++) decoding->empty((uint8_t *)&by_walk.holding, sizeof by_walk.holding);
+}
+
 /* ---- what was handed out */
 
 static struct {
   uint64_t checksum;
   uint64_t bits, padding, rows, messages;
   uint64_t subtypes[16];
+  uint64_t stops[13];
 } totals;
 
 static void fold(uint64_t number) { totals.checksum = (totals.checksum ^ number) * UINT64_C(1099511628211); }
@@ -120,12 +140,13 @@ static hundurzek_walked check_messages(const stretch *s) {
   }
 }
 
-static void check_stretch(const stretch *s) {
+/* Only damaged stretches may end with a refusal. */
+static void check_stretch(const stretch *s, bool damaged) {
   hundurzek_walked made = check_messages(s), walked;
   walk(&walked, s);
   tell(&walked, sizeof walked, by_walk.rows);
   bool same = !memcmp(&made, &walked, sizeof made) && !memcmp(&by_message, &by_walk, sizeof by_walk);
-  if (!same || walked.answer != 0) {
+  if (!same || (walked.answer != 0 && !damaged)) {
     fprintf(stderr, "stop %" PRIu64 " at %" PRIu64 ": %s\n", walked.answer, walked.place,
             same ? "the inputs have no such message" : "the readings, one after another, leave something else");
     exit(1);
@@ -134,15 +155,18 @@ static void check_stretch(const stretch *s) {
   totals.rows += walked.rows;
   totals.bits += s->end;
   totals.padding += s->end - walked.place;
+  totals.stops[walked.answer]++;
 }
 
-static void check(void) {
+/* Prints the checksum, the stretches and totals; of damaged ones, how often each stop from 0 on was. */
+static void check(bool damaged) {
   static const int subtypes[] = {1, 2, 3, 4, 5, 10, 11};
   for (size_t k = 0; k < HUNDURZEK_ROOM; k++) by_message.rows[k] = by_walk.rows[k] = (int32_t)(3 * k + 1);
-  for (size_t k = 0; k < stretch_count; k++) check_stretch(&stretches[k]);
+  for (size_t k = 0; k < stretch_count; k++) check_stretch(&stretches[k], damaged);
   printf("%016" PRIx64 " %zu %" PRIu64 " %" PRIu64, totals.checksum, stretch_count, totals.bits, totals.padding);
   printf(" %" PRIu64 " %" PRIu64, totals.rows, totals.messages);
   for (size_t k = 0; k < 7; k++) printf(" %" PRIu64, totals.subtypes[subtypes[k]]);
+  for (size_t k = 0; damaged && k < 13; k++) printf(" %" PRIu64, totals.stops[k]);
   printf("\n");
 }
 
@@ -151,7 +175,7 @@ static void check(void) {
 enum { STACK = 1 << 17, PAINT = 0xA5 };
 
 /* Reads all on a stack of its own that was painted before; answers how many bytes at its deep end are still painted. */
-static size_t painted_after(void (*read_all)(void), const decoder *d) {
+static size_t painted_after(reader *read_all, const decoder *d) {
   static uint8_t stack[STACK];
   ucontext_t here, there;
   decoding = d;
@@ -168,20 +192,26 @@ static size_t painted_after(void (*read_all)(void), const decoder *d) {
 }
 
 /* The return address and all below it. */
-static size_t deepest(void (*read_all)(void), const decoder *d) {
+static size_t deepest(reader *read_all, const decoder *d) {
   size_t returning = painted_after(read_all, &decoders[NONE]) + sizeof(void *);
   return returning - painted_after(read_all, d);
 }
 
+/* ---- instructions */
+
+/* The second time the holding is the one that the last stretch left. Between the first two marks is nothing. */
+static void read_marked(reader *read_all) {
+  read_all();
+  mark();
+  mark();
+  read_all();
+  mark();
+}
+
 /* ---- the command line */
 
-static size_t make_input(const char *name) {
-  switch (*name) {
-    case 'a': return make_hour(stretches);
-    case 'b': return make_biases(stretches);
-    case 'c': return make_heads(stretches);
-    default: return make_parts(stretches, (unsigned)atoi(name));
-  }
+static reader *reader_of(const char *way) {
+  return !strcmp(way, "walks") ? read_walks : !strcmp(way, "messages") ? read_messages : make_empty;
 }
 
 int main(int argc, char **argv) {
@@ -190,10 +220,12 @@ int main(int argc, char **argv) {
   decoding = decoders;
   while (decoding < decoders + DECODERS && strcmp(decoding->name, argv[1])) decoding++;
   if (decoding == decoders + DECODERS) return 2;
-  stretch_count = make_input(argv[2]);
-  void (*read_all)(void) = strcmp(argv[3], "walks") ? read_messages : read_walks;
-  if (checking) check();
+  stretch_count = make_input(stretches, argv[2]);
+  if (stretch_count == 0) return 2;
+  reader *read_all = reader_of(argv[3]);
+  if (checking) check(!strcmp(argv[2], DAMAGED));
   else if (!strcmp(argv[4], "stack")) printf("%zu\n", deepest(read_all, decoding));
-  else for (int rounds = atoi(argv[4]); rounds > 0; rounds--) read_all();
+  else if (!strcmp(argv[4], "marked")) read_marked(read_all);
+  else return 2;
   return 0;
 }

@@ -1,7 +1,8 @@
 #!/bin/sh
-# bench/read.sh: instructions of reading whole stretches, the holding kept, through the host interface ('host') and
-# with a decoder in C that gets its fields bit by bit ('bitwise'), by walks and message by message; as the tables of
-# docs/PERFORMANCE.md. Fails where the two do not hand out the same, or a walk is not its readings one after another.
+# bench/read.sh: instructions of reading whole stretches, the holding kept, through the host interface ('host'), with a
+# decoder in C that is tuned ('tuned') and with one that gets its fields bit by bit ('bitwise'), by walks and message by
+# message; as the tables of docs/PERFORMANCE.md. Fails where they do not hand out the same, also for damaged stretches,
+# or a walk is not its readings one after another.
 set -eu
 cd "$(dirname "$0")/.."
 . bench/lib/measure.sh
@@ -19,43 +20,62 @@ input_row() {
     echo "| ($input) | $(columns "$@") |"
 }
 
-# decoder_rows WAY INPUT CHECKSUM TOTAL..
-decoder_rows() {
+# reading_row WAY INPUT CHECKSUM TOTAL..: what ours takes, and the others for a message
+reading_row() {
     read_so=$(reading "$@")
-    echo "$read_so" | while read -r decoder per_bit per_row per_message to_bitwise; do
-        [ "$per_row" = - ] || per_row=$(printf %.1f "$per_row")
-        stack=$($RUN target/bench/read "$decoder" "$2" "$1" stack)
-        printf '| (%s) | %s | %.2f | %s' "$2" "$decoder" "$per_bit" "$per_row"
-        printf ' | %.0f | %.3f | %s |\n' "$per_message" "$to_bitwise" "$stack"
-    done
+    echo "$read_so" | awk -v input="$2" '
+        $1 == "host" { per_bit = $2; per_row = $3; to_bitwise = $5; to_tuned = $6 }
+        { per_message[$1] = $4 }
+        END {
+            printf "| (%s) | %.2f | %s", input, per_bit, (per_row == "-" ? "-" : sprintf("%.1f", per_row))
+            printf " | %.0f | %.0f", per_message["host"], per_message["tuned"]
+            printf " | %.0f | %.3f | %.2f |\n", per_message["bitwise"], to_bitwise, to_tuned
+        }'
 }
 
-# decoder_table WAY: the inputs (a), (b), (c), read in this way
-decoder_table() {
+# reading_table WAY: the inputs read in this way
+reading_table() {
     echo
-    echo "| by $1 | decoder | instructions per bit | per row | per message | to bitwise | deepest stack, bytes |"
-    echo '|---|---|---|---|---|---|---|'
-    decoder_rows "$1" a $a
-    decoder_rows "$1" b $b
-    decoder_rows "$1" c $c
+    echo "| by $1 | per bit | per row | per message | tuned | bitwise | to bitwise | to tuned |"
+    echo '|---|---|---|---|---|---|---|---|'
+    while read -r input totals; do
+        reading_row "$1" "$input" $totals
+    done <$handed
+}
+
+# stack_row FUNCTION
+stack_row() {
+    bytes=$(stack host "$1")
+    echo "| hundurzek_$1 | $bytes |"
 }
 
 # growth_row PARTS CHECKSUM STRETCHES BITS PADDING ROWS MESSAGES ..
 growth_row() {
-    n=$(round read host "$1" walks)
+    n=$(marked read host "$1" walks marked)
     per_bit=$(awk -v n="$n" -v bits="$4" 'BEGIN { printf "%.3f", n / bits }')
     echo "| $(columns "$1" "$3" "$4" "$6" "$7" "$n" $((n / $3)) "$per_bit") |"
 }
 
-a=$(handed_out a)
-b=$(handed_out b)
-c=$(handed_out c)
+# stops_row CHECKSUM STRETCHES BITS PADDING ROWS MESSAGES SUBTYPE.. STOP..: of damaged stretches
+stops_row() {
+    stretches=$2
+    messages=$6
+    shift 13
+    echo "| $(columns "$stretches" "$messages" "$@") |"
+}
+
+handed=target/bench/handed
+for input in $INPUTS; do
+    totals=$(handed_out "$input")
+    echo "$input $totals"
+done >$handed
+
 echo '| input | stretches | bits | padding | rows | messages | sub type 1 | 2 | 3 | 4 | 5 | 10 | 11 |'
 echo '|---|---|---|---|---|---|---|---|---|---|---|---|---|'
-input_row a $a
-input_row b $b
-input_row c $c
-decoder_table walks
+while read -r input totals; do
+    input_row "$input" $totals
+done <$handed
+reading_table walks
 echo
 echo '| data parts | stretches | bits | rows | messages | instructions, host | per stretch | per bit |'
 echo '|---|---|---|---|---|---|---|---|'
@@ -63,4 +83,15 @@ for parts in 1 5 30; do
     totals=$(handed_out $parts)
     growth_row $parts $totals
 done
-decoder_table messages
+reading_table messages
+echo
+echo '| damaged stretches | messages | stop 0 | 1 | 2 | 3 | 4 | 5 | 6 | 7 | 8 | 9 | 10 | 11 | 12 |'
+echo '|---|---|---|---|---|---|---|---|---|---|---|---|---|---|---|'
+totals=$(handed_out damaged)
+stops_row $totals
+echo
+echo '| function | deepest stack, bytes |'
+echo '|---|---|'
+for function in empty read walk; do
+    stack_row $function
+done

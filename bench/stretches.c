@@ -1,163 +1,9 @@
-/* An encoder of messages (document 01, "Message layouts") and the inputs made with it. Bodies are random bits:
-   each combination of them is a body. */
+/* The inputs, made with the encoder. */
 #include "stretches.h"
 
 #include <assert.h>
-
-/* ---- random numbers, from a fixed seed */
-
-static uint64_t seed = 1;
-
-static unsigned below(unsigned n) {
-  seed = seed * UINT64_C(6364136223846793005) + UINT64_C(1442695040888963407);
-  return (unsigned)((seed >> 33) % n);
-}
-
-/* A number of so many bits, wanted of which are set. */
-static uint64_t choose(unsigned wanted, unsigned bits) {
-  uint64_t chosen = 0;
-  for (unsigned k = 0; k < bits; k++)
-    if (below(bits - k) < wanted) {
-      chosen |= UINT64_C(1) << k;
-      wanted--;
-    }
-  return chosen;
-}
-
-/* ---- putting bits at a stretch's end */
-
-static void put(stretch *s, unsigned width, uint64_t value) {
-  assert(s->end + width <= LONGEST);
-  while (width-- > 0) {
-    s->bytes[s->end / 8] |= (uint8_t)((value >> width & 1) << (7 - s->end % 8));
-    s->end++;
-  }
-}
-
-static void put_random(stretch *s, unsigned width) {
-  while (width-- > 0) put(s, 1, below(2));
-}
-
-/* ---- masks */
-
-enum { GPS = 0, GALILEO = 2, BEIDOU = 3, QZSS = 4, NETWORKS = 12 };
-
-/* One system as it is sent. Place 0 is the highest bit of a mask; cells has a row of bits for each satellite. */
-typedef struct {
-  unsigned id;
-  uint64_t satellites;
-  unsigned signals;
-  unsigned flag;
-  unsigned cells[40];
-} constellation;
-
-typedef struct {
-  unsigned iod;
-  unsigned systems;
-  constellation system[3];
-  uint64_t selections[NETWORKS]; /* the satellites of each network, for sub type 11 */
-} mask;
-
-static unsigned ones(uint64_t bits) { return (unsigned)__builtin_popcountll(bits); }
-
-static unsigned satellite_count(const mask *m) {
-  unsigned count = 0;
-  for (unsigned k = 0; k < m->systems; k++) count += ones(m->system[k].satellites);
-  return count;
-}
-
-static unsigned cell_count(const mask *m) {
-  unsigned count = 0;
-  for (unsigned k = 0; k < m->systems; k++)
-    for (unsigned j = 0; j < ones(m->system[k].satellites); j++) count += ones(m->system[k].cells[j]);
-  return count;
-}
-
-/* How many of the selected satellites are Galileo's, whose IODE has two bits more; all are selected by all ones. */
-static unsigned galileo_count(const mask *m, uint64_t selected) {
-  unsigned after = satellite_count(m);
-  for (unsigned k = 0; k < m->systems; k++) {
-    unsigned own = ones(m->system[k].satellites);
-    after -= own;
-    if (m->system[k].id == GALILEO) return ones(selected >> after & ((UINT64_C(1) << own) - 1));
-  }
-  return 0;
-}
-
-/* ---- messages */
-
-static void put_opening(stretch *s, unsigned subtype) {
-  put(s, 12, 4073);
-  put(s, 4, subtype);
-}
-
-static void put_mask(stretch *s, const mask *m, unsigned epoch) {
-  put_opening(s, 1);
-  put(s, 20, epoch);
-  put(s, 4, 5); /* update interval: 30 s */
-  put(s, 1, 0);
-  put(s, 4, m->iod);
-  put(s, 4, m->systems);
-  for (unsigned k = 0; k < m->systems; k++) {
-    const constellation *system = &m->system[k];
-    put(s, 4, system->id);
-    put(s, 40, system->satellites);
-    put(s, 16, system->signals);
-    put(s, 1, system->flag);
-    if (!system->flag) continue;
-    for (unsigned j = 0; j < ones(system->satellites); j++) put(s, ones(system->signals), system->cells[j]);
-  }
-}
-
-static void put_head(stretch *s, unsigned subtype, unsigned epoch, unsigned interval, unsigned iod) {
-  put_opening(s, subtype);
-  put(s, 12, epoch % 3600);
-  put(s, 4, interval);
-  put(s, 1, 0);
-  put(s, 4, iod);
-}
-
-static void put_orbits(stretch *s, const mask *m, unsigned epoch) {
-  put_head(s, 2, epoch, 5, m->iod);
-  put_random(s, 49 * satellite_count(m) + 2 * galileo_count(m, UINT64_MAX));
-}
-
-static void put_clocks(stretch *s, const mask *m, unsigned epoch) {
-  put_head(s, 3, epoch, 2, m->iod); /* 5 s */
-  put_random(s, 15 * satellite_count(m));
-}
-
-static void put_code_biases(stretch *s, const mask *m, unsigned epoch) {
-  put_head(s, 4, epoch, 5, m->iod);
-  put_random(s, 11 * cell_count(m));
-}
-
-static void put_phase_biases(stretch *s, const mask *m, unsigned epoch) {
-  put_head(s, 5, epoch, 5, m->iod);
-  put_random(s, 17 * cell_count(m));
-}
-
-static void put_service(stretch *s, unsigned counter) {
-  unsigned size = below(4);
-  put_opening(s, 10);
-  put(s, 1, counter < 7);
-  put(s, 3, counter);
-  put(s, 2, size);
-  put_random(s, 40 * (size + 1));
-}
-
-/* Clocks of one network, with its orbits (every 15 s) or without (5 s). */
-static void put_combined(stretch *s, const mask *m, unsigned epoch, unsigned network, unsigned orbit) {
-  uint64_t selected = m->selections[network];
-  put_head(s, 11, epoch, orbit ? 4 : 2, m->iod);
-  put(s, 1, orbit);
-  put(s, 1, 1);
-  put(s, 1, 1);
-  put(s, 5, network + 1);
-  put(s, satellite_count(m), selected);
-  put_random(s, 15 * ones(selected));
-  if (orbit) put_random(s, 49 * ones(selected) + 2 * galileo_count(m, selected));
-}
+#include <stdlib.h>
+#include <string.h>
 
 /* ---- (a) */
 
@@ -186,16 +32,17 @@ static void make_subframe(stretch *s, const mask *m, unsigned k) {
   if (part % 3 == 0) put_mask(s, m, epoch);
   if (part == 0) put_orbits(s, m, epoch);
   put_clocks(s, m, epoch);
-  for (unsigned network = 0; network < NETWORKS; network++) put_combined(s, m, epoch, network, network % 3 == part % 3);
+  for (unsigned network = 0; network < NETWORKS; network++)
+    put_combined(s, m, epoch, &(combination){network % 3 == part % 3, 1, network});
   if (part == 1) put_code_biases(s, m, epoch);
   if (part == 2) put_phase_biases(s, m, epoch);
-  if (part > 3) put_service(s, k / 6 * 2 % 8 + part - 4);
+  if (part > 3) put_service(s, k / 6 * 2 % 8 + part - 4, below(4));
   assert(s->end <= SUBFRAME);
   s->end = SUBFRAME;
 }
 
 /* Satellites rise and set: another mask, under another IOD SSR, every ten minutes. */
-size_t make_hour(stretch *stretches) {
+static size_t make_hour(stretch *stretches) {
   mask m = {0};
   for (unsigned k = 0; k < HOUR; k++) {
     if (k % 120 == 0) m = draw_mask(k / 120);
@@ -204,43 +51,105 @@ size_t make_hour(stretch *stretches) {
   return HOUR;
 }
 
-/* ---- (b) */
+/* ---- one message again and again: (b) to (g) */
 
-/* 40 of GPS and 24 of BeiDou, each with four signals and no cell mask. */
-static mask full_mask(void) {
+typedef void putter(stretch *s, const mask *m, unsigned epoch);
+
+/* Each stretch has the mask, unless there is none, then as many of the one message as the longest stretch has room for;
+   it ends with the last of them. */
+static size_t repeat(stretch *stretches, unsigned count, const mask *m, putter *put_one) {
+  for (unsigned k = 0; k < count; k++) {
+    stretch *s = &stretches[k];
+    *s = (stretch){0};
+    if (m) put_mask(s, m, 5 * k);
+    uint64_t first = s->end, length;
+    do {
+      put_one(s, m, 5 * k);
+      length = s->end - first;
+      first = s->end;
+    } while (s->end + length <= LONGEST);
+  }
+  return count;
+}
+
+/* Stretches of (b) and (c); the later inputs do with fewer. */
+enum { COUNT = 20, FEW = 4 };
+
+/* (b) has 40 satellites of GPS and 24 of BeiDou, each with four signals and no cell mask. */
+static size_t make_biases(stretch *stretches) {
   mask m = {.systems = 2};
   m.system[0] = (constellation){.id = GPS, .satellites = choose(40, 40), .signals = 0x80A4};
   m.system[1] = (constellation){.id = BEIDOU, .satellites = choose(24, 40), .signals = 0xA480};
   for (unsigned k = 0; k < 40; k++) m.system[0].cells[k] = m.system[1].cells[k] = 0xF;
+  return repeat(stretches, COUNT, &m, put_phase_biases);
+}
+
+/* (c) has a mask of no systems. */
+static size_t make_heads(stretch *stretches) { return repeat(stretches, COUNT, &(mask){.iod = 7}, put_clocks); }
+
+/* 64 satellites of five systems, on assigned places. With four signals all cells count: 256, the most there may be. */
+static mask full_mask(unsigned signals) {
+  static const unsigned places[SYSTEMS] = {40, 24, 37, 40, 10}, satellites[SYSTEMS] = {20, 14, 14, 10, 6};
+  mask m = {.iod = 7, .systems = SYSTEMS};
+  for (unsigned k = 0; k < SYSTEMS; k++) {
+    uint64_t chosen = choose(satellites[k], places[k]) << (PLACES - places[k]);
+    m.system[k] = (constellation){.id = k, .satellites = chosen, .signals = signals, .flag = 1};
+    for (unsigned j = 0; j < satellites[k]; j++) m.system[k].cells[j] = (1u << ones(signals)) - 1;
+  }
   return m;
 }
 
-enum { COUNT = 20 };
+enum { FOUR_SIGNALS = 0xA480, NO_SIGNALS = 0 };
 
-/* The mask, then as many phase biases as the longest stretch has room for; it ends with the last of them. */
-size_t make_biases(stretch *stretches) {
-  mask m = full_mask();
-  for (unsigned k = 0; k < COUNT; k++) {
-    stretch *s = &stretches[k];
-    *s = (stretch){0};
-    put_mask(s, &m, 5 * k);
-    while (s->end + 37 + 17 * cell_count(&m) <= LONGEST) put_phase_biases(s, &m, 5 * k);
-  }
-  return COUNT;
+static void put_keys(stretch *s, const mask *m, unsigned epoch) {
+  put_combined(s, m, epoch, &(combination){0, 0, NO_NETWORK});
 }
 
-/* ---- (c) */
-
-size_t make_heads(stretch *stretches) {
-  mask m = {.iod = 7};
-  for (unsigned k = 0; k < COUNT; k++) {
-    stretch *s = &stretches[k];
-    *s = (stretch){0};
-    put_mask(s, &m, 5 * k);
-    while (s->end + 37 <= LONGEST) put_clocks(s, &m, 5 * k);
-  }
-  return COUNT;
+/* (d) has rows with keys and no values. */
+static size_t make_keys(stretch *stretches) {
+  mask m = full_mask(FOUR_SIGNALS);
+  return repeat(stretches, FEW, &m, put_keys);
 }
+
+/* (e) is nothing but masks. */
+static size_t repeat_mask(stretch *stretches, const mask *m) { return repeat(stretches, FEW, m, put_mask); }
+
+static size_t make_masks(stretch *stretches) {
+  mask m = full_mask(FOUR_SIGNALS);
+  return repeat_mask(stretches, &m);
+}
+
+static size_t make_no_systems(stretch *stretches) { return repeat_mask(stretches, &(mask){.iod = 7}); }
+
+static size_t make_no_signals(stretch *stretches) {
+  mask m = full_mask(NO_SIGNALS);
+  return repeat_mask(stretches, &m);
+}
+
+/* (f) has no mask. */
+static void put_one_service(stretch *s, const mask *m, unsigned epoch) {
+  (void)m;
+  put_service(s, epoch % 8, 0);
+}
+
+static size_t make_services(stretch *stretches) { return repeat(stretches, FEW, NULL, put_one_service); }
+
+static void put_one_combined(stretch *s, const mask *m, unsigned epoch) {
+  put_combined(s, m, epoch, &(combination){1, 1, 0});
+}
+
+/* (g) has messages of one satellite, with one signal; sub type 11 has all that it can have, and a network. */
+static size_t repeat_single(stretch *stretches, putter *put_one) {
+  mask m = {.iod = 7, .systems = 1, .selections = {1}};
+  m.system[0] = (constellation){.id = GPS, .satellites = choose(1, 40), .signals = 0x8000, .flag = 1, .cells = {1}};
+  return repeat(stretches, FEW, &m, put_one);
+}
+
+static size_t make_an_orbit(stretch *stretches) { return repeat_single(stretches, put_orbits); }
+static size_t make_a_clock(stretch *stretches) { return repeat_single(stretches, put_clocks); }
+static size_t make_a_code_bias(stretch *stretches) { return repeat_single(stretches, put_code_biases); }
+static size_t make_a_phase_bias(stretch *stretches) { return repeat_single(stretches, put_phase_biases); }
+static size_t make_a_combination(stretch *stretches) { return repeat_single(stretches, put_one_combined); }
 
 /* ---- growth */
 
@@ -255,11 +164,10 @@ static mask draw_even_mask(unsigned iod) {
 static void put_part(stretch *s, const mask *m, unsigned k) {
   put_mask(s, m, 5 * k);
   put_clocks(s, m, 5 * k);
-  put_combined(s, m, 5 * k, k % NETWORKS, 1);
+  put_combined(s, m, 5 * k, &(combination){1, 1, k % NETWORKS});
 }
 
-size_t make_parts(stretch *stretches, unsigned parts) {
-  assert(parts > 0 && HOUR % parts == 0);
+static size_t make_parts(stretch *stretches, unsigned parts) {
   mask m = {0};
   for (unsigned k = 0; k < HOUR; k++) {
     stretch *s = &stretches[k / parts];
@@ -271,4 +179,57 @@ size_t make_parts(stretch *stretches, unsigned parts) {
     s->end = parts * PART;
   }
   return HOUR / parts;
+}
+
+/* ---- damaged stretches */
+
+/* Turns up to three bits around, half of them near the beginning, where a mask and heads stand, and cuts half of the
+   stretches. What is cut off stays in the last byte: its bits are not the stretch's. */
+static void damage(stretch *s) {
+  enum { BEGINNING = 800 };
+  for (unsigned flips = below(4); flips > 0; flips--) {
+    unsigned place = below(below(2) && s->end > BEGINNING ? BEGINNING : (unsigned)s->end);
+    s->bytes[place / 8] ^= (uint8_t)(0x80 >> place % 8);
+  }
+  if (below(2)) s->end = below((unsigned)s->end + 1);
+}
+
+/* Begins with (a), and there with a stretch without a mask. */
+static size_t make_damaged(stretch *stretches) {
+  static const struct {
+    const char *input;
+    unsigned share;
+  } sources[] = {{"a", 330}, {"e1", 90}, {"e2", 30}, {"e3", 90}, {"d", 30}, {"f", 30},
+                 {"g2", 30}, {"g3", 15}, {"g4", 15}, {"g5", 30}, {"g11", 30}};
+  static stretch whole[HOUR];
+  size_t made = 0;
+  for (size_t k = 0; k < sizeof sources / sizeof *sources; k++) {
+    size_t count = make_input(whole, sources[k].input);
+    for (unsigned j = 1; j <= sources[k].share; j++) {
+      stretches[made] = whole[j % count];
+      damage(&stretches[made++]);
+    }
+  }
+  assert(made == HOUR);
+  return made;
+}
+
+/* ---- inputs by name */
+
+static const struct {
+  const char *name;
+  size_t (*make)(stretch *stretches);
+} inputs[] = {
+    {"a", make_hour},           {"b", make_biases},      {"c", make_heads},
+    {"d", make_keys},           {"e1", make_masks},      {"e2", make_no_systems},
+    {"e3", make_no_signals},    {"f", make_services},    {"g2", make_an_orbit},
+    {"g3", make_a_clock},       {"g4", make_a_code_bias}, {"g5", make_a_phase_bias},
+    {"g11", make_a_combination}, {DAMAGED, make_damaged},
+};
+
+size_t make_input(stretch *stretches, const char *name) {
+  int parts = atoi(name);
+  for (size_t k = 0; k < sizeof inputs / sizeof *inputs; k++)
+    if (!strcmp(inputs[k].name, name)) return inputs[k].make(stretches);
+  return parts > 0 && HOUR % parts == 0 ? make_parts(stretches, (unsigned)parts) : 0;
 }

@@ -2,30 +2,26 @@
 #ifndef BENCH_STRETCHES_H
 #define BENCH_STRETCHES_H
 
-#include <stddef.h>
-#include <stdint.h>
+#include "encode.h"
 
-/* Document 01, "What is built": a data part; the longest stretch; five data parts, as one subframe of CLAS has; an
-   hour of them. */
-enum { PART = 1695, LONGEST = 30 * PART, SUBFRAME = 5 * PART, HOUR = 720 };
+/* Five data parts, as one subframe of CLAS has; an hour of them. */
+enum { SUBFRAME = 5 * PART, HOUR = 720 };
 
-typedef struct {
-  uint64_t end; /* length in bits */
-  uint8_t bytes[(LONGEST + 7) / 8];
-} stretch;
+/* Makes at most HOUR stretches of the input with this name, and answers how many: 0 where there is none.
 
-/* Input (a): an hour as a CLAS receiver sees it. Makes HOUR stretches, and answers how many. */
-size_t make_hour(stretch *stretches);
-
-/* Input (b): 64 satellites, 256 cells, sub type 5 back to back. Makes at most HOUR stretches, and answers how many. */
-size_t make_biases(stretch *stretches);
-
-/* Input (c): clocks of 37 bits under a mask of no systems, back to back. Makes at most HOUR stretches, and answers how
-   many. */
-size_t make_heads(stretch *stretches);
-
-/* For growth: HOUR data parts of (a)'s messages, a mask in each, always the same ones, back to back in stretches of so
-   many parts, which divides HOUR. Answers how many stretches. */
-size_t make_parts(stretch *stretches, unsigned parts);
+     a        an hour as a CLAS receiver sees it
+     b        64 satellites, 256 cells, sub type 5 back to back
+     c        clocks of 37 bits under a mask of no systems, back to back
+     d        sub type 11 with flags 000 under 64 satellites of five systems, back to back: rows of keys alone
+     e1       masks back to back, of 64 satellites of five systems, four signals, 256 cells in cell masks
+     e2       masks back to back, of no systems
+     e3       masks back to back, of 64 satellites of five systems, with cell flags and no signals
+     f        sub type 10 of size 0 back to back
+     g2 .. g5, g11    that sub type back to back under a mask of one satellite with one signal
+     N        for growth: HOUR data parts of (a)'s messages, a mask in each, always the same ones, back to back in
+              stretches of N parts, which divides HOUR
+     damaged  stretches of (a), (d), (e), (f) and (g) with bits turned around, and cut */
+#define DAMAGED "damaged"
+size_t make_input(stretch *stretches, const char *name);
 
 #endif

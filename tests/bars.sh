@@ -6,18 +6,33 @@ cd "$(dirname "$0")/.."
 build_read
 build_fields
 
+# once INPUT: what handed_out says of it; the decoders are compared once for all ways
+rm -f target/bench/handed.*
+once() {
+    if [ ! -f "target/bench/handed.$1" ]; then
+        handed_out "$1" >target/bench/handing
+        mv target/bench/handing "target/bench/handed.$1"
+    fi
+    cat "target/bench/handed.$1"
+}
+
 # measures WAY INPUT: a line WAY INPUT MEASURE NUMBER for each measure that a bar can name
 measures() {
     case $1 in
     walks | messages)
-        totals=$(handed_out "$2")
+        totals=$(once "$2")
         reading "$1" "$2" $totals | awk -v of="$1 $2" '
             $1 == "host" {
                 print of, "per-bit", $2
                 print of, "per-row", $3
                 print of, "per-message", $4
                 print of, "to-bitwise", $5
+                print of, "to-tuned", $6
             }'
+        ;;
+    stack)
+        bytes=$(stack host "$2")
+        echo "$1 $2 bytes $bytes"
         ;;
     fields)
         read_field=$(per_call read "$2")
@@ -42,7 +57,7 @@ awk '
         held = got > 0 && got <= $4 + 0
         passed += held
         failed += !held
-        printf "%-8s %2s %-12s %9.3f, at most %s%s\n", $1, $2, $3, got, $4, held ? "" : ": NOT HELD"
+        printf "%-8s %5s %-12s %9.3f, at most %s%s\n", $1, $2, $3, got, $4, held ? "" : ": NOT HELD"
     }
     END {
         printf "%d passed, %d failed\n", passed, failed

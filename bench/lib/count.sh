@@ -1,6 +1,7 @@
 # Sourced in the repository's root by what counts instructions.
 #   build NAME CRATE WORD..    makes target/bench/NAME of C sources (flags too) and a crate's static library
-#   count NAME WORD..          runs it with these words: how many instructions it executes
+#   count NAME WORD..          runs it with these words: how many instructions it executes up to each mark, and in all
+#   marked NAME WORD..         of a program that marks twice, does something, and marks again: how many that takes
 #   round NAME WORD..          of a program whose last word is a number of rounds: how many a round takes
 . tests/lib/tools.sh
 
@@ -25,6 +26,11 @@ count() {
     shift
     qemu-x86_64 -plugin target/bench/icount.so -d plugin -D target/bench/counted "target/bench/$program" "$@"
     grep -x '[0-9][0-9]*' target/bench/counted
+}
+
+marked() {
+    count "$@" >target/bench/marks
+    awk '{ mark[NR] = $1 } END { print mark[3] - mark[2] - (mark[2] - mark[1]) }' target/bench/marks
 }
 
 # what comes before and after the rounds falls out of the difference

@@ -1,13 +1,17 @@
 # Sourced in the repository's root by the bench scripts and tests/bars.sh: what is measured, in instructions.
+#   INPUTS                        the inputs that every table has (bench/stretches.h)
 #   build_read, build_fields      make the programs that are measured
-#   handed_out INPUT              what both decoders hand out for it: a checksum and totals; fails where they differ
-#   reading WAY INPUT TOTAL..     with what handed_out says: a line DECODER PER-BIT PER-ROW PER-MESSAGE TO-BITWISE for
-#                                 each decoder; '-' where there are no rows
+#   handed_out INPUT              what each decoder hands out for it: a checksum and totals; fails where they differ
+#   reading WAY INPUT TOTAL..     with what handed_out says: a line DECODER PER-BIT PER-ROW PER-MESSAGE TO-BITWISE
+#                                 TO-TUNED for each decoder; '-' where there are no rows
+#   stack DECODER FUNCTION        the deepest stack of read, walk or empty over all inputs, damaged ones too, in bytes
 #   per_call KIND WIDTH           of a call (bench/fields.c) and its return: the mean over the eight alignments
 . bench/lib/count.sh
 
+INPUTS='a b c d e1 e2 e3 f g2 g3 g4 g5 g11'
+
 build_read() {
-    build read host bench/read.c bench/stretches.c bench/bitwise.c bench/getbit.c
+    build read host bench/read.c bench/stretches.c bench/encode.c bench/bitwise.c bench/getbit.c bench/tuned.c
 }
 
 build_fields() {
@@ -16,26 +20,42 @@ build_fields() {
 
 handed_out() {
     host=$($RUN target/bench/read host "$1" check)
-    bitwise=$($RUN target/bench/read bitwise "$1" check)
-    if [ "$host" != "$bitwise" ]; then
-        echo "input $1: the decoders differ" >&2
-        exit 1
-    fi
+    for decoder in tuned bitwise; do
+        other=$($RUN target/bench/read $decoder "$1" check)
+        if [ "$host" != "$other" ]; then
+            echo "input $1: host and $decoder differ" >&2
+            exit 1
+        fi
+    done
     echo "$host"
 }
 
 # reading WAY INPUT CHECKSUM STRETCHES BITS PADDING ROWS MESSAGES ..
 reading() {
-    host=$(round read host "$2" "$1")
-    bitwise=$(round read bitwise "$2" "$1")
-    awk -v host="$host" -v bitwise="$bitwise" -v bits="$5" -v rows="$7" -v messages="$8" -v OFMT=%.6f '
+    host=$(marked read host "$2" "$1" marked)
+    tuned=$(marked read tuned "$2" "$1" marked)
+    bitwise=$(marked read bitwise "$2" "$1" marked)
+    awk -v host="$host" -v tuned="$tuned" -v bitwise="$bitwise" -v bits="$5" -v rows="$7" -v messages="$8" \
+        -v OFMT=%.6f '
         function line(decoder, n) {
-            print decoder, n / bits, (rows > 0 ? n / rows : "-"), n / messages, n / bitwise
+            print decoder, n / bits, (rows > 0 ? n / rows : "-"), n / messages, n / bitwise, n / tuned
         }
         BEGIN {
             line("host", host)
+            line("tuned", tuned)
             line("bitwise", bitwise)
         }'
+}
+
+stack() {
+    case $2 in
+    read) way=messages ;;
+    walk) way=walks ;;
+    *) way=empty ;;
+    esac
+    for input in $INPUTS damaged; do
+        $RUN target/bench/read "$1" $input $way stack
+    done | sort -n | tail -n 1
 }
 
 # against calling a function of one instruction, its return: that and the call are added again

@@ -1,0 +1,623 @@
+/* Document 01's reader, tuned. Titles in comments are that document's. */
+#include "tuned.h"
+
+#include <stdbool.h>
+#include <string.h>
+
+/* "Answer numbers", and the one of docs/HOST.md for a message. */
+enum {
+  IDLE, ROOM, PLACE, SHORT, NUMBER, SUBTYPE, NO_MASK, OTHER_ISSUE, SYSTEM, RESERVED, SIZE, NETWORK, VALUE,
+  MESSAGE = HUNDURZEK_MESSAGE
+};
+
+/* "Message layouts": bits before a body or a mask's systems, and of one element after them. */
+enum {
+  HEAD = 37, MASK_HEAD = 49, SERVICE_HEAD = 22, FLAGS = 40, NETWORK_END = 45,
+  ORBIT = 49, LONG_ORBIT = 51, CLOCK = 15, CODE = 11, PHASE = 15, DISCONTINUITY = 2, SERVICE = 40
+};
+
+/* "Held mask and assigned places": places without assignment, the first place highest; the longest stretch. */
+enum { GALILEO = 2, SYSTEMS = 5, LONGEST = 50850, HELD = 16 };
+static const uint64_t reserved_satellites[SYSTEMS] = {0, 0xFFFF, 0x7, 0, 0x3FFFFFFF};
+static const uint32_t reserved_signals[SYSTEMS] = {0x3, 0x7, 0x1, 0x7F, 0x3F};
+
+/* Four numbers joined in a vector register take more instructions than four stores. */
+#pragma GCC optimize("no-tree-slp-vectorize")
+#define ALWAYS static inline __attribute__((always_inline))
+
+static const tuned_half absent = {{HUNDURZEK_ABSENT, HUNDURZEK_ABSENT, HUNDURZEK_ABSENT, HUNDURZEK_ABSENT}};
+static const hundurzek_head nothing = {HUNDURZEK_ABSENT, HUNDURZEK_ABSENT, HUNDURZEK_ABSENT, HUNDURZEK_ABSENT,
+                                       HUNDURZEK_ABSENT, HUNDURZEK_ABSENT, HUNDURZEK_ABSENT, HUNDURZEK_ABSENT};
+
+/* ---- windows: the bits from a place on, the first highest */
+
+ALWAYS uint64_t load(const uint8_t *at) {
+  uint64_t word;
+  memcpy(&word, at, sizeof word);
+  return __builtin_bswap64(word);
+}
+
+/* 57 of the bits, at least; eight bytes are there. */
+ALWAYS uint64_t window(const uint8_t *bytes, uint64_t place) { return load(bytes + place / 8) << place % 8; }
+
+/* A number of width bits, from bit 'from' of a window on. */
+ALWAYS int32_t cut(uint64_t window, unsigned from, unsigned width) {
+  return (int32_t)(window << from >> (64 - width));
+}
+
+ALWAYS int32_t cut_signed(uint64_t window, unsigned from, unsigned width) {
+  return (int32_t)((int64_t)(window << from) >> (64 - width));
+}
+
+/* A plain x86-64 counts no ones. */
+ALWAYS uint32_t ones(uint64_t bits) {
+  bits -= bits >> 1 & UINT64_C(0x5555555555555555);
+  bits = (bits & UINT64_C(0x3333333333333333)) + (bits >> 2 & UINT64_C(0x3333333333333333));
+  bits = (bits + (bits >> 4)) & UINT64_C(0x0F0F0F0F0F0F0F0F);
+  return (uint32_t)(bits * UINT64_C(0x0101010101010101) >> 56);
+}
+
+/* ---- where the stretch ends: copies with eight bytes after them */
+
+/* The longest message is of sub type 5 and 256 cells, 4,389 bits. */
+enum { WINDOW = 8, COPIED = 560 };
+
+typedef struct {
+  const uint8_t *bytes;
+  uint64_t count;
+  uint64_t end;
+  int32_t *rows;
+  tuned_holding *holding;
+  const tuned_mask *held; /* the holding's current mask */
+  uint64_t answer;        /* where no message was read: why */
+  uint8_t copy[COPIED + WINDOW];
+} stretch;
+
+/* What a reading gives where there is no message; with one it gives the place after it, which is never 0. */
+enum { STOPPED = 0 };
+
+ALWAYS uint64_t stop(stretch *s, uint64_t answer) {
+  s->answer = answer;
+  return STOPPED;
+}
+
+typedef struct {
+  const uint8_t *bytes;
+  uint64_t place;
+} source;
+
+/* From the byte before the place on, for a window that begins before it. */
+__attribute__((noinline)) static source copy_end(stretch *s, uint64_t place, uint64_t past) {
+  uint64_t first = place < 8 ? 0 : place / 8 - 1, count = (past + 7) / 8 - first;
+  memcpy(s->copy, s->bytes + first, count);
+  memset(s->copy + count, 0, WINDOW);
+  return (source){s->copy, place - 8 * first};
+}
+
+/* So many bits at a place, where each window that begins in them or right after them can be loaded. */
+ALWAYS source source_of(stretch *s, uint64_t place, uint64_t bits) {
+  if (__builtin_expect((place + bits) / 8 + WINDOW <= s->count, 1)) return (source){s->bytes, place};
+  return copy_end(s, place, place + bits);
+}
+
+__attribute__((noinline)) static uint64_t last_window(const stretch *s, uint64_t place) {
+  uint64_t word = 0;
+  for (uint64_t byte = place / 8; byte < place / 8 + WINDOW; byte++)
+    word = word << 8 | (byte < s->count ? s->bytes[byte] : 0);
+  return word << place % 8;
+}
+
+ALWAYS uint64_t first_window(const stretch *s, uint64_t place) {
+  if (__builtin_expect(place / 8 + WINDOW <= s->count, 1)) return window(s->bytes, place);
+  return last_window(s, place);
+}
+
+/* ---- sub type 1 */
+
+typedef struct {
+  const uint8_t *bytes;
+  uint64_t place;
+  uint64_t end;
+  uint32_t named; /* a bit for each system */
+} mask_source;
+
+ALWAYS void put_half(tuned_half *half, uint64_t low, uint64_t high) {
+  memcpy(&half->number[0], &low, sizeof low);
+  memcpy(&half->number[2], &high, sizeof high);
+}
+
+/* Two numbers of a row, as they lie in it. */
+ALWAYS uint64_t two(uint32_t first, uint32_t second) { return first | (uint64_t)second << 32; }
+
+/* From the last satellite on, which has the lowest bit. */
+ALWAYS void list_satellites(tuned_half *key, uint32_t id, uint64_t places) {
+  const uint64_t number = UINT64_C(1) << 32, low = id + 40 * number;
+  const uint64_t high = two((uint32_t)HUNDURZEK_ABSENT, (uint32_t)HUNDURZEK_ABSENT);
+  for (; places; places &= places - 1) put_half(key++, low - number * (uint64_t)__builtin_ctzll(places), high);
+}
+
+ALWAYS const tuned_half *last_satellite(const tuned_mask *m) { return m->satellite + TUNED_SATELLITES - m->satellites; }
+
+/* The places of the set bits, the last first: the j-th lowest bit is the j-th number. */
+ALWAYS void list_signals(uint32_t signals, uint64_t *places) {
+  for (; signals; signals &= signals - 1) *places++ = 15 - (uint64_t)__builtin_ctz(signals);
+}
+
+/* Where a cell mask stands: its bits for one satellite after another. */
+static uint32_t count_cells(const mask_source *m, uint32_t bits) {
+  enum { STEP = 56 };
+  uint32_t count = 0;
+  uint64_t place = m->place;
+  for (; bits > STEP; bits -= STEP, place += STEP) count += ones(window(m->bytes, place) >> (64 - STEP));
+  return bits == 0 ? count : count + ones(window(m->bytes, place) >> (64 - bits));
+}
+
+/* A satellite's cells, before those of the satellites after it; answers where the list begins then. */
+ALWAYS tuned_half *list_strip(tuned_half *end, uint64_t cells, const tuned_half *satellite, const uint64_t *places) {
+  uint64_t low;
+  memcpy(&low, satellite, sizeof low);
+  for (; cells; cells &= cells - 1) put_half(--end, low, places[__builtin_ctzll(cells)]);
+  return end;
+}
+
+/* The cells of the count last satellites: those of a cell mask, or all. */
+static void list_cells(tuned_mask *mask, const mask_source *m, uint32_t count, uint32_t signals, bool flag) {
+  uint64_t places[16];
+  const uint32_t width = ones(signals);
+  tuned_half *end = mask->cell + mask->cells;
+  const tuned_half *satellite = last_satellite(mask), *past = satellite + count;
+  uint64_t place = m->place + width * count;
+  list_signals(signals, places);
+  for (; satellite < past; satellite++) {
+    place -= width;
+    uint64_t cells = flag ? window(m->bytes, place) >> (64 - width) : (UINT64_C(1) << width) - 1;
+    end = list_strip(end, cells, satellite, places);
+  }
+}
+
+/* After the signal mask: the cells of the count last satellites. */
+ALWAYS uint64_t read_cells(mask_source *m, tuned_mask *mask, uint32_t count, uint32_t signals, bool flag) {
+  uint32_t bits = count * ones(signals), cells = bits;
+  if (flag) {
+    if (m->end - m->place < bits) return SHORT;
+    cells = count_cells(m, bits);
+  }
+  mask->cells += cells;
+  if (mask->cells > TUNED_CELLS) return SIZE;
+  if (cells > 0) list_cells(mask, m, count, signals, flag);
+  if (flag) m->place += bits;
+  return MESSAGE;
+}
+
+ALWAYS uint64_t read_system(mask_source *m, tuned_mask *mask) {
+  uint64_t left = m->end - m->place, bits = window(m->bytes, m->place), satellites = bits << 4 >> 24;
+  uint32_t id = (uint32_t)(bits >> 60), count = ones(satellites);
+  if (left < 4) return SHORT;
+  if (id >= SYSTEMS || m->named >> id & 1) return SYSTEM;
+  if (left < 44) return SHORT;
+  if (satellites & reserved_satellites[id]) return RESERVED;
+  if (mask->satellites + count > TUNED_SATELLITES) return SIZE;
+  if (left < 60) return SHORT;
+  bits = window(m->bytes, m->place + 44);
+  uint32_t signals = (uint32_t)(bits >> 48);
+  if (signals & reserved_signals[id]) return RESERVED;
+  if (left < 61) return SHORT;
+  m->named |= 1u << id;
+  m->place += 61;
+  mask->satellites += count;
+  mask->after_galileo += count;
+  if (id == GALILEO) {
+    mask->galileo = count;
+    mask->after_galileo = 0;
+  }
+  list_satellites(mask->satellite + TUNED_SATELLITES - mask->satellites, id, satellites);
+  return read_cells(m, mask, count, signals, bits >> 47 & 1);
+}
+
+/* Five systems, and fifteen signals of 64 satellites in cell masks. */
+enum { MASK_MOST = MASK_HEAD + SYSTEMS * 61 + 15 * TUNED_SATELLITES };
+
+/* "Each good mask message is adopted as the new holding and replaces the old one whole." */
+__attribute__((noinline)) static uint64_t read_mask(stretch *s, uint64_t place, uint64_t first) {
+  uint64_t left = s->end - place;
+  if (left < MASK_HEAD) return stop(s, SHORT);
+  source from = source_of(s, place, left < MASK_MOST ? left : MASK_MOST);
+  mask_source m = {from.bytes, from.place + MASK_HEAD, from.place + left, 0};
+  tuned_mask *mask = &s->holding->masks[s->holding->current ^ 1];
+  mask->gate = HELD | (uint32_t)cut(first, 41, 4);
+  mask->satellites = mask->cells = mask->galileo = mask->after_galileo = 0;
+  for (int32_t systems = cut(first, 45, 4); systems > 0; systems--) {
+    uint64_t answer = read_system(&m, mask);
+    if (answer != MESSAGE) return stop(s, answer);
+  }
+  mask->orbit_bits = ORBIT * mask->satellites + (LONG_ORBIT - ORBIT) * mask->galileo;
+  s->holding->current ^= 1;
+  s->held = mask;
+  return place + (m.place - from.place);
+}
+
+/* ---- rows */
+
+ALWAYS void put_row(int32_t *row, const tuned_half *key, int32_t v1) {
+  memcpy(row, key, sizeof *key);
+  row[3] = v1;
+  memcpy(row + 4, &absent, sizeof absent);
+}
+
+/* What a row has: a value, and a discontinuity or, with 0 bits, none; and where the next row's key is. All of it is
+   known when this is compiled. */
+typedef struct {
+  unsigned value;
+  unsigned discontinuity;
+  int next;
+} shape;
+
+/* A row's values begin with bit 'from' of a window. */
+ALWAYS void put_values(int32_t *row, const tuned_half *key, uint64_t bits, unsigned from, shape has) {
+  put_row(row, key, cut_signed(bits, from, has.value));
+  if (has.discontinuity) row[4] = cut(bits, from + has.value, has.discontinuity);
+}
+
+/* As many rows from one window as have their bits in 57. */
+ALWAYS void put_rows(const tuned_half *key, uint32_t count, source b, int32_t *row, shape has) {
+  const unsigned step = has.value + has.discontinuity, batch = 57 / step;
+  for (; count >= batch; count -= batch) {
+    uint64_t bits = window(b.bytes, b.place);
+#pragma GCC unroll 5
+    for (unsigned k = 0; k < batch; k++)
+      put_values(row + HUNDURZEK_ROW * k, key + has.next * (int)k, bits, k * step, has);
+    key += has.next * (int)batch;
+    row += HUNDURZEK_ROW * batch;
+    b.place += batch * step;
+  }
+  for (; count > 0; count--, key += has.next, row += HUNDURZEK_ROW, b.place += step)
+    put_values(row, key, window(b.bytes, b.place), 0, has);
+}
+
+__attribute__((noinline)) static void put_clocks(const tuned_mask *m, source b, int32_t *rows) {
+  put_rows(m->satellite + TUNED_SATELLITES - 1, m->satellites, b, rows, (shape){CLOCK, 0, -1});
+}
+
+__attribute__((noinline)) static void put_code_biases(const tuned_mask *m, source b, int32_t *rows) {
+  put_rows(m->cell, m->cells, b, rows, (shape){CODE, 0, 1});
+}
+
+__attribute__((noinline)) static void put_phase_biases(const tuned_mask *m, source b, int32_t *rows) {
+  put_rows(m->cell, m->cells, b, rows, (shape){PHASE, DISCONTINUITY, 1});
+}
+
+/* What a message has for each satellite, as the two flags of sub type 11 say it; the bits of an IODE. */
+enum { KEYS, CLOCKS, ORBITS, ORBITS_CLOCKS };
+enum { IODE = 8, LONG_IODE = 10 };
+
+ALWAYS uint64_t satellite_bits(int parts, unsigned iode) {
+  return (parts & ORBITS ? iode + 41 : 0) + (parts & CLOCKS ? CLOCK : 0);
+}
+
+/* A satellite's row. What it has, parts and iode, is known when this is compiled. */
+ALWAYS void put_satellite(const tuned_half *key, source b, int32_t *row, int parts, unsigned iode) {
+  memcpy(row, key, sizeof *key);
+  memcpy(row + 4, &absent, sizeof absent);
+  if (parts & ORBITS) {
+    uint64_t bits = window(b.bytes, b.place);
+    row[3] = cut(bits, 0, iode);
+    row[4] = cut_signed(bits, iode, 15);
+    row[5] = cut_signed(bits, iode + 15, 13);
+    row[6] = cut_signed(bits, iode + 28, 13);
+  }
+  if (parts & CLOCKS) row[7] = cut_signed(window(b.bytes, b.place + satellite_bits(parts & ORBITS, iode)), 0, CLOCK);
+}
+
+/* What is left to do, from the last row to the first: where the last row and its bits end. */
+typedef struct {
+  source past;
+  int32_t *row_past;
+} progress;
+
+ALWAYS progress put_run(const tuned_half *key, const tuned_half *end, progress p, int parts, unsigned iode) {
+  for (; key < end; key++) {
+    p.past.place -= satellite_bits(parts, iode);
+    p.row_past -= HUNDURZEK_ROW;
+    put_satellite(key, p.past, p.row_past, parts, iode);
+  }
+  return p;
+}
+
+/* Galileo's satellites have loops of their own. */
+ALWAYS void put_all(const tuned_mask *m, progress p, int parts) {
+  const tuned_half *key = last_satellite(m), *end = m->satellite + TUNED_SATELLITES;
+  if (parts & ORBITS && m->galileo > 0) {
+    const tuned_half *galileo = key + m->after_galileo, *past = galileo + m->galileo;
+    p = put_run(key, galileo, p, parts, IODE);
+    p = put_run(galileo, past, p, parts, LONG_IODE);
+    key = past;
+  }
+  put_run(key, end, p, parts, IODE);
+}
+
+ALWAYS progress put_chosen(const tuned_half *last, uint64_t chosen, progress p, int parts, unsigned iode) {
+  for (; chosen; chosen &= chosen - 1) {
+    p.past.place -= satellite_bits(parts, iode);
+    p.row_past -= HUNDURZEK_ROW;
+    put_satellite(last + __builtin_ctzll(chosen), p.past, p.row_past, parts, iode);
+  }
+  return p;
+}
+
+/* Galileo's satellites as a selection has them. */
+ALWAYS uint64_t galileo_bits(const tuned_mask *m) {
+  return m->galileo == 0 ? 0 : UINT64_MAX >> (64 - m->galileo) << m->after_galileo;
+}
+
+ALWAYS void put_selected(const tuned_mask *m, uint64_t selected, progress p, int parts) {
+  const tuned_half *last = last_satellite(m);
+  uint64_t galileo = parts & ORBITS ? galileo_bits(m) : 0;
+  if (galileo) {
+    uint64_t after = (galileo & -galileo) - 1;
+    p = put_chosen(last, selected & after, p, parts, IODE);
+    p = put_chosen(last, selected & galileo, p, parts, LONG_IODE);
+    selected &= ~(galileo | after);
+  }
+  put_chosen(last, selected, p, parts, IODE);
+}
+
+/* Rows of keys alone, four at a turn. */
+ALWAYS void put_keys(const tuned_mask *m, int32_t *row) {
+  const tuned_half *key = m->satellite + TUNED_SATELLITES, *last = last_satellite(m);
+#pragma GCC unroll 4
+  for (; key > last; row += HUNDURZEK_ROW) {
+    memcpy(row, --key, sizeof *key);
+    memcpy(row + 4, &absent, sizeof absent);
+  }
+}
+
+__attribute__((noinline)) static void put_orbits(const tuned_mask *m, source b, int32_t *rows) {
+  source past = {b.bytes, b.place + m->orbit_bits};
+  put_all(m, (progress){past, rows + HUNDURZEK_ROW * m->satellites}, ORBITS);
+}
+
+__attribute__((noinline)) static void put_combined(const tuned_mask *m, source past, int32_t *rows, int parts) {
+  progress p = {past, rows + HUNDURZEK_ROW * m->satellites};
+  switch (parts) {
+    case KEYS: put_keys(m, rows); break;
+    case CLOCKS: put_all(m, p, CLOCKS); break;
+    case ORBITS: put_all(m, p, ORBITS); break;
+    default: put_all(m, p, ORBITS_CLOCKS);
+  }
+}
+
+__attribute__((noinline)) static void put_network(const tuned_mask *m, uint64_t selected, source past,
+                                                  int32_t *row_past, int parts) {
+  progress p = {past, row_past};
+  switch (parts) {
+    case KEYS: put_selected(m, selected, p, KEYS); break;
+    case CLOCKS: put_selected(m, selected, p, CLOCKS); break;
+    case ORBITS: put_selected(m, selected, p, ORBITS); break;
+    default: put_selected(m, selected, p, ORBITS_CLOCKS);
+  }
+}
+
+/* ---- sub types 2, 3, 4, 5 and 11 */
+
+typedef void body(const tuned_mask *m, source b, int32_t *rows);
+
+ALWAYS uint64_t read_body(stretch *s, uint64_t place, uint64_t bits, body *put) {
+  place += HEAD;
+  if (s->end - place < bits) return stop(s, SHORT);
+  put(s->held, source_of(s, place, bits), s->rows);
+  return place + bits;
+}
+
+ALWAYS uint64_t selection(source b, uint32_t count) {
+  if (count == 0) return 0;
+  if (count <= 57) return window(b.bytes, b.place) >> (64 - count);
+  return window(b.bytes, b.place) >> 32 << (count - 32) | window(b.bytes, b.place + 32) >> (96 - count);
+}
+
+/* The bits at a place, and the place after them. */
+ALWAYS source past_of(stretch *s, uint64_t place, uint64_t bits) {
+  source b = source_of(s, place, bits);
+  return (source){b.bytes, b.place + bits};
+}
+
+ALWAYS uint64_t read_network(stretch *s, uint64_t place, int parts, uint64_t *rows) {
+  const tuned_mask *m = s->held;
+  place += NETWORK_END;
+  if (s->end - place < m->satellites) return stop(s, SHORT);
+  uint64_t selected = selection(source_of(s, place, m->satellites), m->satellites);
+  place += m->satellites;
+  *rows = ones(selected);
+  uint64_t bits = *rows * satellite_bits(parts, IODE);
+  if (parts & ORBITS) bits += (LONG_IODE - IODE) * ones(selected & galileo_bits(m));
+  if (s->end - place < bits) return stop(s, SHORT);
+  put_network(m, selected, past_of(s, place, bits), s->rows + HUNDURZEK_ROW * *rows, parts);
+  return place + bits;
+}
+
+ALWAYS uint64_t read_combined(stretch *s, uint64_t place, uint64_t first, hundurzek_head *head, uint64_t *rows) {
+  const tuned_mask *m = s->held;
+  uint64_t left = s->end - place;
+  if (left < FLAGS) return stop(s, SHORT);
+  int parts = cut(first, 37, 2);
+  head->a = parts >> 1;
+  head->b = parts & 1;
+  if (cut(first, 39, 1)) {
+    if (left < NETWORK_END) return stop(s, SHORT);
+    head->c = cut(first, 40, 5);
+    return head->c == 0 ? stop(s, NETWORK) : read_network(s, place, parts, rows);
+  }
+  uint64_t bits = (parts & CLOCKS ? CLOCK * m->satellites : 0) + (parts & ORBITS ? m->orbit_bits : 0);
+  if (left - FLAGS < bits) return stop(s, SHORT);
+  *rows = m->satellites;
+  put_combined(m, past_of(s, place + FLAGS, bits), s->rows, parts);
+  return place + FLAGS + bits;
+}
+
+/* The head of 37 bits: whether the held mask is the message's. */
+ALWAYS bool pass_head(stretch *s, uint64_t first, hundurzek_head *head) {
+  const uint32_t iod = (uint32_t)cut(first, 33, 4), gate = s->held->gate;
+  head->epoch = cut(first, 16, 12);
+  head->interval = cut(first, 28, 4);
+  head->indicator = cut(first, 32, 1);
+  head->iod = (int32_t)iod;
+  if ((HELD | iod) == gate) return true;
+  stop(s, gate ? OTHER_ISSUE : NO_MASK);
+  return false;
+}
+
+/* ---- sub type 10 */
+
+ALWAYS void put_service(int32_t *row, int32_t k, uint64_t bits) {
+  row[0] = row[1] = HUNDURZEK_ABSENT;
+  row[2] = k + 1;
+#pragma GCC unroll 5
+  for (unsigned j = 0; j < 5; j++) row[3 + j] = cut(bits, 8 * j, 8);
+}
+
+ALWAYS uint64_t read_service(stretch *s, uint64_t place, uint64_t first, hundurzek_head *head, uint64_t *rows) {
+  const int32_t size = cut(first, 20, 2);
+  head->indicator = cut(first, 16, 1);
+  head->a = cut(first, 17, 3);
+  head->b = size;
+  *rows = (uint64_t)size + 1;
+  uint64_t bits = SERVICE * *rows;
+  place += SERVICE_HEAD;
+  if (s->end - place < bits) return stop(s, SHORT);
+  source b = source_of(s, place, bits);
+  int32_t *row = s->rows;
+  for (int32_t k = 0; k <= size; k++, b.place += SERVICE, row += HUNDURZEK_ROW)
+    put_service(row, k, window(b.bytes, b.place));
+  return place + bits;
+}
+
+/* ---- one message */
+
+static bool all_zero(const uint8_t *bytes, uint64_t place, uint64_t end) {
+  uint64_t byte = place / 8, last = end / 8;
+  unsigned own = 0xFF >> place % 8, of_last = 0xFF & ~(0xFFu >> end % 8);
+  if (byte == last) return place == end || !(bytes[byte] & own & of_last);
+  if (bytes[byte++] & own) return false;
+  for (; byte + WINDOW <= last; byte += WINDOW)
+    if (load(bytes + byte)) return false;
+  for (; byte < last; byte++)
+    if (bytes[byte]) return false;
+  return of_last == 0 || !(bytes[byte] & of_last);
+}
+
+/* Where there is no opening of a message, or not 37 bits: the shortest message has these. */
+static uint64_t refusal(const stretch *s, uint64_t place, uint64_t first) {
+  uint64_t left = s->end - place;
+  static const uint32_t subtypes = 1u << 1 | 1u << 2 | 1u << 3 | 1u << 4 | 1u << 5 | 1u << 10 | 1u << 11;
+  if (all_zero(s->bytes, place, s->end)) return IDLE;
+  if (left < 12) return SHORT;
+  if (first >> 52 != 4073) return NUMBER;
+  if (left < 16) return SHORT;
+  return subtypes >> cut(first, 12, 4) & 1 ? SHORT : SUBTYPE;
+}
+
+__attribute__((noinline)) static uint64_t refuse(stretch *s, uint64_t place, uint64_t first) {
+  return stop(s, refusal(s, place, first));
+}
+
+ALWAYS uint64_t read_adopting(stretch *s, uint64_t place, uint64_t first, hundurzek_head *head) {
+  head->epoch = cut(first, 16, 20);
+  head->interval = cut(first, 36, 4);
+  head->indicator = cut(first, 40, 1);
+  head->iod = cut(first, 41, 4);
+  head->a = cut(first, 45, 4);
+  return read_mask(s, place, first);
+}
+
+/* Answers the place after the message, and how many rows it has. One switch, which is one jump. */
+ALWAYS uint64_t read_next(stretch *s, uint64_t place, hundurzek_head *head, uint64_t *rows) {
+  uint64_t first = first_window(s, place);
+  if (s->end - place < HEAD || first >> 52 != 4073) return refuse(s, place, first);
+  head->subtype = cut(first, 12, 4);
+  *rows = 0;
+  switch (head->subtype) {
+    case 1: return read_adopting(s, place, first, head);
+    case 2:
+      if (!pass_head(s, first, head)) return STOPPED;
+      *rows = s->held->satellites;
+      return read_body(s, place, s->held->orbit_bits, put_orbits);
+    case 3:
+      if (!pass_head(s, first, head)) return STOPPED;
+      *rows = s->held->satellites;
+      return read_body(s, place, CLOCK * *rows, put_clocks);
+    case 4:
+      if (!pass_head(s, first, head)) return STOPPED;
+      *rows = s->held->cells;
+      return read_body(s, place, CODE * *rows, put_code_biases);
+    case 5:
+      if (!pass_head(s, first, head)) return STOPPED;
+      *rows = s->held->cells;
+      return read_body(s, place, (PHASE + DISCONTINUITY) * *rows, put_phase_biases);
+    case 10: return read_service(s, place, first, head, rows);
+    case 11:
+      if (!pass_head(s, first, head)) return STOPPED;
+      return read_combined(s, place, first, head, rows);
+    default: return stop(s, SUBTYPE);
+  }
+}
+
+/* "Reader's order: 1, 2, 12", before a bit is looked at. */
+ALWAYS uint64_t test_lent(uint64_t holding_count, uint64_t count, uint64_t end, uint64_t start, uint64_t row_count) {
+  if (row_count < HUNDURZEK_ROOM) return ROOM;
+  if (end > LONGEST || (end + 7) / 8 > count || start > end) return PLACE;
+  if (holding_count < sizeof(tuned_holding)) return VALUE;
+  return MESSAGE;
+}
+
+ALWAYS void lend(stretch *s, const uint8_t *bytes, uint64_t count, uint64_t end, int32_t *rows) {
+  s->bytes = bytes;
+  s->count = count;
+  s->end = end;
+  s->rows = rows;
+}
+
+ALWAYS void hold(stretch *s, uint8_t *holding) {
+  s->holding = (tuned_holding *)(void *)holding;
+  s->held = &s->holding->masks[s->holding->current];
+}
+
+hundurzek_reading *tuned_read(hundurzek_reading *out, uint8_t *holding, uint64_t holding_count, const uint8_t *bytes,
+                              uint64_t count, uint64_t end, uint64_t start, int32_t *rows, uint64_t row_count) {
+  stretch s;
+  uint64_t place = STOPPED, made = 0;
+  out->head = nothing;
+  s.answer = test_lent(holding_count, count, end, start, row_count);
+  if (s.answer == MESSAGE) {
+    lend(&s, bytes, count, end, rows);
+    hold(&s, holding);
+    place = read_next(&s, start, &out->head, &made);
+  }
+  if (place == STOPPED) {
+    *out = (hundurzek_reading){.answer = s.answer, .place = start, .head = nothing};
+    return out;
+  }
+  out->answer = MESSAGE;
+  out->place = place;
+  out->rows = made;
+  out->raw_offset = start / 8;
+  out->raw_count = (place + 7) / 8 - start / 8;
+  return out;
+}
+
+hundurzek_walked *tuned_walk(hundurzek_walked *out, uint8_t *holding, uint64_t holding_count, const uint8_t *bytes,
+                             uint64_t count, uint64_t end, int32_t *rows, uint64_t row_count) {
+  stretch s;
+  hundurzek_head head; /* not handed out */
+  uint64_t place = 0, messages = 0, all = 0, made = 0, next;
+  s.answer = test_lent(holding_count, count, end, 0, row_count);
+  if (s.answer == MESSAGE) {
+    lend(&s, bytes, count, end, rows);
+    hold(&s, holding);
+    while ((next = read_next(&s, place, &head, &made)) != STOPPED) {
+      place = next;
+      messages++;
+      all += made;
+    }
+  }
+  *out = (hundurzek_walked){s.answer, place, messages, all};
+  return out;
+}

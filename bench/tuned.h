@@ -1,0 +1,43 @@
+/* A reader of messages in C that is written to take few instructions: windows of 64 bits, one load and one swap each;
+   a mask's satellites and cells listed when it is adopted, as the keys of rows; rows stored by halves. It gives the
+   answers, heads and rows of hundurzek_read and hundurzek_walk and takes what those take, but keeps its holding as a
+   struct of its own and does not test a lent one: what is lent is what it left there. */
+#ifndef BENCH_TUNED_H
+#define BENCH_TUNED_H
+
+#include "hundurzek.h"
+
+enum { TUNED_SATELLITES = 64, TUNED_CELLS = 256 };
+
+/* Half a row; of a key, the first half: system, satellite, signal place, v1. */
+typedef struct {
+  int32_t number[HUNDURZEK_ROW / 2];
+} tuned_half;
+
+/* The satellites' keys end where their list ends, the last satellite first: so a satellite's index in them is that of
+   its bit in a selection. Galileo's, if any, stand together, with so many after them. Cells stand from the first on. */
+typedef struct {
+  uint32_t gate; /* the IOD SSR, and 16 where the mask is held: 0 holds nothing */
+  uint32_t satellites;
+  uint32_t cells;
+  uint32_t orbit_bits; /* of all satellites */
+  uint32_t galileo;
+  uint32_t after_galileo;
+  tuned_half satellite[TUNED_SATELLITES];
+  tuned_half cell[TUNED_CELLS];
+} tuned_mask;
+
+/* The mask held, and beside it room for the next, so that a good one need not be copied. All zero is the empty
+   holding. */
+typedef struct {
+  uint64_t current;
+  tuned_mask masks[2];
+} tuned_holding;
+
+/* As hundurzek_read; the bytes lent as a holding are those of a tuned_holding. */
+__typeof__(hundurzek_read) tuned_read;
+
+/* As hundurzek_walk; what is lent is tested once. */
+__typeof__(hundurzek_walk) tuned_walk;
+
+#endif
