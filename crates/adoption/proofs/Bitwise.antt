@@ -9,8 +9,8 @@ use native.Mathlib.Numerals.{add-one}
 use native.Mathlib.Omega.{arith}
 use lib.Bits.{bitAnd, and-step, and-self, and-le-l}
 use lib.Count.{ones, ones-step}
-use lib.ListN.{length, getD}
-use Rattle.adoption.specs.Spreading.{withoutLast, withoutFour, ByFour}
+use lib.ListN.{length, getD, drop}
+use Rattle.adoption.specs.Spreading.{withoutLast, ByFour}
 use Rattle.bits.proofs.BitLists.{number-lt, number-append, length-spell, spell-append}
 use Rattle.bits.specs.BitLists.{number, spell}
 use Rattle.format.specs.Masks.{placesFrom}
@@ -174,58 +174,30 @@ lawful-at f k (x ∷ xs) (suc n) laws inside = lawful-at f (suc k) xs n (laws .1
 sum-at : (a b c d n : ℕ) → n < 16 → getD (sums a b c d) n 0 ≡ fourOf a b c d n
 unfolding Lawful
 sum-at a b c d n small =
-    lawful-at (fourOf a b c d) 0 (sums a b c d) n (
-      omega arith,
-      (
-        omega arith,
-        (
-          omega arith,
-          (
-            omega arith,
-            (
-              omega arith,
-              (
-                omega arith,
-                (
-                  omega arith,
-                  (
-                    omega arith,
-                    (
-                      omega arith,
-                      (omega arith, (omega arith, (omega arith, (omega arith, (omega arith, (omega arith, (omega arith, tt {0}))))))),
-                    ),
-                  ),
-                ),
-              ),
-            ),
-          ),
-        ),
-      ),
-    )
-    small ∙ ap (fourOf a b c d) (zero-add n)
+    let with-d : Lawful (fourOf a b c d) 8 (drop 8 (sums a b c d)) = (omega arith, (omega arith, (omega arith, (omega arith, (omega arith, (omega arith, (omega arith, (omega arith, tt {0})))))))) in
+    let all : Lawful (fourOf a b c d) 0 (sums a b c d) = (omega arith, (omega arith, (omega arith, (omega arith, (omega arith, (omega arith, (omega arith, (omega arith, with-d)))))))) in
+    lawful-at (fourOf a b c d) 0 (sums a b c d) n all small ∙ ap (fourOf a b c d) (zero-add n)
 
 pub four-out : (mask second third fourth rest : ℕ) → mask < 2 ^ 16 → second ≡ withoutLast mask → third ≡ withoutLast second → fourth ≡ withoutLast third → rest ≡ withoutLast fourth
-    → ByFour mask (sums (mask - second) (second - third) (third - fourth) (fourth - rest))
+    → ByFour mask (sums (mask - second) (second - third) (third - fourth) (fourth - rest)) rest
 unfolding spreadOf
-four-out mask second third fourth rest small e e′ e″ e‴ =
-    let chain : rest ≡ withoutFour mask = e‴ ∙ ap (λ (m : ℕ). withoutLast m) (e″ ∙ ap (λ (m : ℕ). withoutLast m) (e′ ∙ ap (λ (m : ℕ). withoutLast m) e)) in
-    record {
-      apart = λ bits.
-          let it = last-out mask second bits e small in
-          let it′ = last-out second third (bits / 2) e′ (omega (arith, it)) in
-          let it″ = last-out third fourth (bits / 2 / 2) e″ (omega (arith, it, it′)) in
-          let it‴ = last-out fourth rest (bits / 2 / 2 / 2) e‴ (omega (arith, it, it′, it″)) in
-          let sum = sum-at (mask - second) (second - third) (third - fourth) (fourth - rest) (bits % 16) (omega arith) in
-          let half : bits / 2 ≡ bits / 16 * 8 + bits % 16 / 2 = omega arith in
-          let quarter : bits / 2 / 2 ≡ bits / 16 * 4 + bits % 16 / 2 / 2 = omega (arith, half) in
-          let eighth : bits / 2 / 2 / 2 ≡ bits / 16 * 2 + bits % 16 / 2 / 2 / 2 = omega (arith, quarter) in
-          let down : bits / 16 ≡ bits / 2 / 2 / 2 / 2 = omega (arith, eighth) in
-          let bit : bits % 16 % 2 ≡ bits % 2 = omega arith in
-          let bit′ : bits % 16 / 2 % 2 ≡ bits / 2 % 2 = omega (arith, half) in
-          let bit″ : bits % 16 / 2 / 2 % 2 ≡ bits / 2 / 2 % 2 = omega (arith, quarter) in
-          let bit‴ : bits % 16 / 2 / 2 / 2 % 2 ≡ bits / 2 / 2 / 2 % 2 = omega (arith, eighth) in
-          rw (← chain, sum, down, bit, bit′, bit″, bit‴) (gather _ _ _ _ _ (it .1) (it′ .1) (it″ .1) (it‴ .1));
-    }
+four-out mask second third fourth rest small e e′ e″ e‴ = record { apart = apart }
   where
     gather : (t p q r u : ℕ) {s s′ s″ s‴ : ℕ} → s ≡ s′ + p → s′ ≡ s″ + q → s″ ≡ s‴ + r → s‴ ≡ t + u → s ≡ t + (p + q + r + u)
     gather t p q r u e e′ e″ e‴ = omega arith
+
+    apart : (bits : ℕ) → spreadOf 16 mask bits ≡ spreadOf 16 rest (bits / 16) + getD (sums (mask - second) (second - third) (third - fourth) (fourth - rest)) (bits % 16) 0
+    apart bits =
+        let it = last-out mask second bits e small in
+        let it′ = last-out second third (bits / 2) e′ (omega (arith, it)) in
+        let it″ = last-out third fourth (bits / 2 / 2) e″ (omega (arith, it, it′)) in
+        let it‴ = last-out fourth rest (bits / 2 / 2 / 2) e‴ (omega (arith, it, it′, it″)) in
+        let half : bits / 2 ≡ bits / 16 * 8 + bits % 16 / 2 = omega arith in
+        let quarter : bits / 2 / 2 ≡ bits / 16 * 4 + bits % 16 / 2 / 2 = omega (arith, half) in
+        let eighth : bits / 2 / 2 / 2 ≡ bits / 16 * 2 + bits % 16 / 2 / 2 / 2 = omega (arith, quarter) in
+        let down : bits / 16 ≡ bits / 2 / 2 / 2 / 2 = omega (arith, eighth) in
+        let bit : bits % 16 % 2 ≡ bits % 2 = omega arith in
+        let bit′ : bits % 16 / 2 % 2 ≡ bits / 2 % 2 = omega (arith, half) in
+        let bit″ : bits % 16 / 2 / 2 % 2 ≡ bits / 2 / 2 % 2 = omega (arith, quarter) in
+        let bit‴ : bits % 16 / 2 / 2 / 2 % 2 ≡ bits / 2 / 2 / 2 % 2 = omega (arith, eighth) in
+        rw (sum-at _ _ _ _ (bits % 16) (omega arith), down, bit, bit′, bit″, bit‴) (gather _ _ _ _ _ (it .1) (it′ .1) (it″ .1) (it‴ .1))

@@ -12,13 +12,10 @@ use Rattle.holding.specs.Spread.{spread}
 abbrev pub stripOf : ℕ → ℕ → ℕ
 stripOf mask bits = number (spread (spell 16 mask) (spell (ones mask) bits))
 
--- a mask without its last place, and without its last four; 0 where it has no more
+-- a mask without its last place; 0 where it has none
 abbrev pub withoutLast : ℕ → ℕ
 withoutLast mask = bitAnd mask (mask - 1)
 
-abbrev pub withoutFour : ℕ → ℕ
-withoutFour mask = withoutLast (withoutLast (withoutLast (withoutLast mask)))
-
--- strips by the number that four bits are: with the one that the last four bits name, the others need only the other places
-pub record ByFour (mask : ℕ) (strips : List ℕ) : Type 0 where
-  pub apart : (bits : ℕ) → stripOf mask bits ≡ stripOf (withoutFour mask) (bits / 16) + getD strips (bits % 16) 0
+-- the last four bits choose one of these strips, which takes their places; the other bits go to the rest of the mask
+pub record ByFour (mask : ℕ) (strips : List ℕ) (rest : ℕ) : Type 0 where
+  pub apart : (bits : ℕ) → stripOf mask bits ≡ stripOf rest (bits / 16) + getD strips (bits % 16) 0

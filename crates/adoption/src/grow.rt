@@ -8,9 +8,8 @@ ghost use Rattle.adoption.specs.Growing.{Sees};
 ghost use Rattle.bits.specs.BitLists.{spell, bits};
 ghost use Rattle.holding.specs.Building.{withStrips};
 ghost use Rattle.holding.specs.Pictures.{stripsFrom};
-use crate::spread::four_strips;
+use crate::spread::last_four;
 use crate::spread::spread_strip;
-use crate::spread::without_four;
 use bits::read::cut;
 use bits::read::window_at;
 use holding::Holding;
@@ -45,8 +44,8 @@ pub fn cell_strips(h: Holding, bytes: &[u8], place: usize, n: usize, signals: u1
         return h.with_equal(n, signals);
     }
     let w = set_places::count(signals as u64);
-    let four = four_strips(signals);
-    let rest = without_four(signals);
+    let four = last_four(signals);
+    let table = four.strips;
     let mut strips = [0u16; Holding::SATELLITES];
     let mut at = place;
     let mut window = Window {
@@ -57,7 +56,7 @@ pub fn cell_strips(h: Holding, bytes: &[u8], place: usize, n: usize, signals: u1
     while i < n {
         window = window_for(window, bytes, at, w);
         let bits = cut(window.bits, at - window.from, w);
-        strips[i] = four[(bits % 16) as usize] + spread_strip(rest, bits / 16);
+        strips[i] = table[(bits % 16) as usize] + spread_strip(four.rest, bits / 16);
         at += w;
         i += 1;
     }

@@ -3,7 +3,7 @@
 ghost use mathlib.Core.Path.{_≡_};
 ghost use Prim.Native.Nat.{_≤_};
 ghost use lib.Count.{ones};
-ghost use Rattle.adoption.specs.Spreading.{withoutLast, withoutFour, ByFour};
+ghost use Rattle.adoption.specs.Spreading.{withoutLast, ByFour};
 ghost use Rattle.bits.specs.BitLists.{number, spell};
 ghost use Rattle.holding.specs.Spread.{spread};
 
@@ -18,27 +18,27 @@ fn without_last(mask: u16) -> u16
     mask & (mask - 1)
 }
 
-// A mask without its last four places.
-pub fn without_four(mask: u16) -> u16
-    ensures { λ r. ⌜ r ≡ withoutFour mask ⌝ }
-{
-    without_last(without_last(without_last(without_last(mask))))
+// The strips that four bits make at a mask's last four places, by the number that the bits are; the mask without those
+// places.
+pub struct Four {
+    pub strips: [u16; 16],
+    pub rest: u16,
 }
 
-// The strips that four bits make at a mask's last four places, by the number that the bits are.
-pub fn four_strips(mask: u16) -> [u16; 16]
-    ensures { λ r. ⌜ ByFour mask r ⌝ }
+pub fn last_four(mask: u16) -> Four
+    ensures { λ r. ⌜ ByFour mask (r .strips) (r .rest) ⌝ }
 {
     let second = without_last(mask);
     let third = without_last(second);
     let fourth = without_last(third);
+    let rest = without_last(fourth);
     let a = mask - second;
     let b = second - third;
     let c = third - fourth;
-    let d = fourth - without_last(fourth);
+    let d = fourth - rest;
     let ab = a + b;
     let cd = c + d;
-    [
+    let strips = [
         0,
         a,
         b,
@@ -55,7 +55,8 @@ pub fn four_strips(mask: u16) -> [u16; 16]
         a + cd,
         b + cd,
         ab + cd,
-    ]
+    ];
+    Four { strips, rest }
 }
 
 // The low bits, as many as the signal mask has places set, at those places: the last bit at the last place, and so

@@ -126,13 +126,13 @@ impl Holding {
         requires { ⌜ (self .nsat + n ≤ 64) × (self .ncell ≤ 256) ⌝ }
         ensures { λ r. ⌜ r ≡ withStrips self (replicate n strip) ⌝ }
     {
-        let first = self.nsat;
+        let from = self.nsat;
         let mut i = 0;
         while i < n {
-            self.strips[first + i] = strip;
+            self.strips[from + i] = strip;
             i += 1;
         }
-        self.nsat = first + i;
+        self.nsat = from + i;
         self.ncell += i * set_places::count(strip as u64);
         self
     }

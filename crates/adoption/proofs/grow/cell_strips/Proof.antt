@@ -1,7 +1,7 @@
 -- `adoption::grow::cell_strips` meets its contract. The loop's invariant: the strips stored and those that are left, and that their bits are there.
 -- Assumes nothing.
 use mathlib.Core.Path.{_≡_, refl, sym, ap, _∙_}
-use Prim.Native.Nat.{ℕ, suc, _+_, _-_, _*_, _/_, _%_, _^_, _≤_, _<_}
+use Prim.Native.Nat.{ℕ, suc, _+_, _-_, _*_, _%_, _^_, _≤_, _<_}
 use native.Mathlib.Nat.{sub-zero, sub-self, suc-mul}
 use native.Mathlib.Numerals.{add-one}
 use native.Mathlib.Omega.{arith}
@@ -19,11 +19,11 @@ use Rattle.adoption.proofs.grow.cell_strips.Statement.{statement}
 use Rattle.adoption.proofs.grow.cell_strips.Tie as tie
 
 abbrev Inv-loop : tie.InvT-loop
-Inv-loop h bytes place n signals w four rest strips₀ at₀ window₀ i₀ strips at window i =
+Inv-loop h bytes place n signals w four table strips₀ at₀ window₀ i₀ strips at window i =
     (i ≤ n) × Sees bytes window at × (at ≤ place + 16 * i) × (at + (n - i) * ones signals ≤ 8 * length bytes) × Filling (stripsAt bytes place n signals) strips i (stripsAt bytes at (n - i) signals)
 
 abbrev μ-loop : tie.MeasureT-loop
-μ-loop h bytes place n signals w four rest strips₀ at₀ window₀ i₀ strips at window i = n - i
+μ-loop h bytes place n signals w four table strips₀ at₀ window₀ i₀ strips at window i = n - i
 
 none : tie.Need-returns Inv-loop μ-loop
 none c =
@@ -66,11 +66,8 @@ module _ (c : tie.After-spread-strip Inv-loop μ-loop) where
   abbrev bits : ℕ
   bits = c .before .cut .result
 
-  whole : getD (l .before .before .before .before .four-strips .result) (bits % 16) 0 + c .spread-strip .result ≡ stripOf signals bits
-  whole =
-      let p = l .before .before .before in
-      let others = rw (p .without-four .ensures) at (c .spread-strip .ensures) in
-      omega (arith, others, p .before .four-strips .ensures .apart bits)
+  whole : getD (l .before .before .before .before .last-four .result .strips) (bits % 16) 0 + c .spread-strip .result ≡ stripOf signals bits
+  whole = omega (arith, c .spread-strip .ensures, l .before .before .before .before .last-four .ensures .apart bits)
 
   small : stripOf signals bits < 2 ^ 16
   unfolding spreadOf
@@ -107,31 +104,7 @@ returns c =
 pub cell-strips-spec : {M : Type 1} → statement M
 cell-strips-spec =
     tie.close
-    (tie.spec
-    Inv-loop
-    μ-loop
-    (λ c κs. (c .before .before .pre .0, c .before .before .pre .1))
-    none
-    (λ c κs. search needs)
-    (λ c κs. search needs)
-    (λ c κs. search needs)
-    (λ c κs. omega arith)
-    (λ c. omega arith)
-    loop-holds
-    (λ c κs. (few (counted c), omega (arith, c .before .loop .inv), c .before .loop .inv .1))
-    (λ c. c .before .window-for .ensures .0 .before)
-    (λ c κs. c .before .window-for .ensures .1)
-    (λ c. omega arith)
-    (λ c. omega arith)
-    (λ c κs. search needs)
-    (λ c. omega (arith, whole c, small c))
-    (λ c. omega arith)
-    (λ c. omega arith)
-    (λ c. omega (arith, few (counted (l c))))
-    (λ c. omega arith)
-    (λ c. omega arith)
-    loop-again
-    (λ c. omega arith)
-    (λ c. sym (long c))
-    (λ c κs. (rw (long c) (first c .pre .0), first c .pre .1))
-    returns)
+    (tie.spec Inv-loop μ-loop (λ c κs. (c .before .before .pre .0, c .before .before .pre .1)) none (λ c κs. search needs) (λ c κs. search needs) (λ c κs. omega arith) (λ c. omega arith) loop-holds
+    (λ c κs. (few (counted c), omega (arith, c .before .loop .inv), c .before .loop .inv .1)) (λ c. c .before .window-for .ensures .0 .before) (λ c κs. c .before .window-for .ensures .1)
+    (λ c. omega arith) (λ c. omega arith) (λ c κs. search needs) (λ c. omega (arith, whole c, small c)) (λ c. omega arith) (λ c. omega arith) (λ c. omega (arith, few (counted (l c)))) (λ c. omega arith)
+    (λ c. omega arith) loop-again (λ c. omega arith) (λ c. sym (long c)) (λ c κs. (rw (long c) (first c .pre .0), first c .pre .1)) returns)

@@ -1,6 +1,5 @@
 -- `adoption::grow::window_for` meets its contract. Assumes nothing.
 use native.Mathlib.Omega.{arith}
-use borrow.Author.Needs.{needs}
 use Rattle.adoption.proofs.grow.window_for.Statement.{statement}
 use Rattle.adoption.proofs.grow.window_for.Tie as tie
 

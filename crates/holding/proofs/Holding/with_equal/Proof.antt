@@ -15,18 +15,18 @@ use Rattle.holding.proofs.Holding.with_equal.Statement.{statement}
 use Rattle.holding.proofs.Holding.with_equal.Tie as tie
 
 abbrev Inv-loop : tie.InvT-loop
-Inv-loop n strip self₀ first i₀ self i =
-    (i ≤ n) × Adding self₀ (replicate n strip) (withCells self (self .strips) (first + i) (self .ncell + i * ones strip)) (replicate (n - i) strip)
+Inv-loop n strip self₀ from i₀ self i =
+    (i ≤ n) × Adding self₀ (replicate n strip) (withCells self (self .strips) (from + i) (self .ncell + i * ones strip)) (replicate (n - i) strip)
 
 abbrev μ-loop : tie.MeasureT-loop
-μ-loop n strip self₀ first i₀ self i = n - i
+μ-loop n strip self₀ from i₀ self i = n - i
 
 loop-holds : tie.Need-loop-holds Inv-loop μ-loop
 loop-holds c =
     let x = c .args in
-    let first : x .t1 .nsat + 0 ≡ x .t1 .nsat = omega arith in
+    let from : x .t1 .nsat + 0 ≡ x .t1 .nsat = omega arith in
     let sum : x .t1 .ncell + 0 * ones (x .strip) ≡ x .t1 .ncell = omega arith in
-    (omega arith, rw (first, sum, sub-zero) (all-left (x .t1) (replicate (x .n) (x .strip)) (rw length-replicate (c .pre .0)) (c .pre .1)))
+    (omega arith, rw (from, sum, sub-zero) (all-left (x .t1) (replicate (x .n) (x .strip)) (rw length-replicate (c .pre .0)) (c .pre .1)))
 
 -- the next strip to add
 module _ (c : tie.In-loop Inv-loop μ-loop) where
