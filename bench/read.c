@@ -71,7 +71,7 @@ typedef struct {
 
 static const decoder *decoding;
 static receiver by_message, by_walk;
-static _Alignas(LINE) stretch stretches[HOUR];
+static _Alignas(LINE) stretch stretches[MOST];
 static size_t stretch_count;
 
 /* Reads on, from the place where a reading of the stretch ended; whether there was a message. */

@@ -183,15 +183,20 @@ static size_t make_parts(stretch *stretches, unsigned parts) {
 
 /* ---- damaged stretches */
 
-/* Turns up to three bits around, half of them near the beginning, where a mask and heads stand, and cuts half of the
-   stretches. What is cut off stays in the last byte: its bits are not the stretch's. */
+enum { BEGINNING = 800, NEAR = 64, LONG = 2000 };
+
+/* Turns up to three bits around, half of them near the beginning, where a mask and heads stand; cuts a third of the
+   stretches, and another third shortly after such a bit. The bits of the last byte that are not the stretch's are turned
+   around too. Of long stretches only the beginning is taken. */
 static void damage(stretch *s) {
-  enum { BEGINNING = 800 };
+  unsigned end = s->end > SUBFRAME ? LONG : (unsigned)s->end, place = 0;
   for (unsigned flips = below(4); flips > 0; flips--) {
-    unsigned place = below(below(2) && s->end > BEGINNING ? BEGINNING : (unsigned)s->end);
+    place = below(below(2) ? BEGINNING : end);
     s->bytes[place / 8] ^= (uint8_t)(0x80 >> place % 8);
   }
-  if (below(2)) s->end = below((unsigned)s->end + 1);
+  unsigned near = place + below(NEAR), cuts[] = {end, below(end + 1), near < end ? near : end};
+  s->end = cuts[below(3)];
+  if (s->end % 8 > 0) s->bytes[s->end / 8] ^= (uint8_t)(0xFF >> s->end % 8);
 }
 
 /* Begins with (a), and there with a stretch without a mask. */
@@ -199,8 +204,8 @@ static size_t make_damaged(stretch *stretches) {
   static const struct {
     const char *input;
     unsigned share;
-  } sources[] = {{"a", 330}, {"e1", 90}, {"e2", 30}, {"e3", 90}, {"d", 30}, {"f", 30},
-                 {"g2", 30}, {"g3", 15}, {"g4", 15}, {"g5", 30}, {"g11", 30}};
+  } sources[] = {{"a", 2400}, {"e1", 960}, {"e2", 240}, {"e3", 960}, {"d", 240}, {"f", 240},
+                 {"g2", 144}, {"g3", 144}, {"g4", 144}, {"g5", 144}, {"g11", 144}};
   static stretch whole[HOUR];
   size_t made = 0;
   for (size_t k = 0; k < sizeof sources / sizeof *sources; k++) {
@@ -210,7 +215,7 @@ static size_t make_damaged(stretch *stretches) {
       damage(&stretches[made++]);
     }
   }
-  assert(made == HOUR);
+  assert(made == MOST);
   return made;
 }
 

@@ -4,10 +4,10 @@
 
 #include "encode.h"
 
-/* Five data parts, as one subframe of CLAS has; an hour of them. */
-enum { SUBFRAME = 5 * PART, HOUR = 720 };
+/* Five data parts, as one subframe of CLAS has; an hour of them; the most stretches that an input has. */
+enum { SUBFRAME = 5 * PART, HOUR = 720, MOST = 8 * HOUR };
 
-/* Makes at most HOUR stretches of the input with this name, and answers how many: 0 where there is none.
+/* Makes at most MOST stretches of the input with this name, and answers how many: 0 where there is none.
 
      a        an hour as a CLAS receiver sees it
      b        64 satellites, 256 cells, sub type 5 back to back
