@@ -158,11 +158,33 @@ static void check_stretch(const stretch *s, bool damaged) {
   totals.stops[walked.answer]++;
 }
 
+/* What can be wrong with what is lent, and two things at once, for the order; tells what is answered. */
+static void check_lent(const uint8_t *bytes) {
+  enum { WHOLE = sizeof by_walk.holding, COUNT = 10, END = 8 * COUNT, ENOUGH = (LONGEST + 8) / 8 };
+  static const struct {
+    uint64_t rows, count, end, start, holding;
+  } lent[] = {{HUNDURZEK_ROOM, COUNT, END, END + 1, WHOLE},      {HUNDURZEK_ROOM, COUNT, END + 1, 0, WHOLE},
+              {HUNDURZEK_ROOM, ENOUGH, LONGEST + 1, 0, WHOLE},   {HUNDURZEK_ROOM, COUNT, END, 0, 0},
+              {HUNDURZEK_ROOM, COUNT, END + 1, 0, 0},            {HUNDURZEK_ROOM - 1, COUNT, END, 0, WHOLE},
+              {HUNDURZEK_ROOM - 1, COUNT, END + 1, END + 2, 0}};
+  for (size_t k = 0; k < sizeof lent / sizeof *lent; k++) {
+    hundurzek_reading reading;
+    hundurzek_walked walked;
+    decoding->read(&reading, (uint8_t *)&by_walk.holding, lent[k].holding, bytes, lent[k].count, lent[k].end,
+                   lent[k].start, by_walk.rows, lent[k].rows);
+    tell(&reading, sizeof reading, by_walk.rows);
+    decoding->walk(&walked, (uint8_t *)&by_walk.holding, lent[k].holding, bytes, lent[k].count, lent[k].end,
+                   by_walk.rows, lent[k].rows);
+    tell(&walked, sizeof walked, by_walk.rows);
+  }
+}
+
 /* Prints the checksum, the stretches and totals; of damaged ones, how often each stop from 0 on was. */
 static void check(bool damaged) {
   static const int subtypes[] = {1, 2, 3, 4, 5, 10, 11};
   for (size_t k = 0; k < HUNDURZEK_ROOM; k++) by_message.rows[k] = by_walk.rows[k] = (int32_t)(3 * k + 1);
   for (size_t k = 0; k < stretch_count; k++) check_stretch(&stretches[k], damaged);
+  if (damaged) check_lent(stretches[0].bytes);
   printf("%016" PRIx64 " %zu %" PRIu64 " %" PRIu64, totals.checksum, stretch_count, totals.bits, totals.padding);
   printf(" %" PRIu64 " %" PRIu64, totals.rows, totals.messages);
   for (size_t k = 0; k < 7; k++) printf(" %" PRIu64, totals.subtypes[subtypes[k]]);

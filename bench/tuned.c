@@ -86,12 +86,11 @@ typedef struct {
   uint64_t place;
 } source;
 
-/* From the byte before the place on, for a window that begins before it. */
 __attribute__((noinline)) static source copy_end(stretch *s, uint64_t place, uint64_t past) {
-  uint64_t first = place < 8 ? 0 : place / 8 - 1, count = (past + 7) / 8 - first;
+  uint64_t first = place / 8, count = (past + 7) / 8 - first;
   memcpy(s->copy, s->bytes + first, count);
   memset(s->copy + count, 0, WINDOW);
-  return (source){s->copy, place - 8 * first};
+  return (source){s->copy, place % 8};
 }
 
 /* So many bits at a place, where each window that begins in them or right after them can be loaded. */

@@ -5,6 +5,8 @@
 # is near the worst of each kind; then mixes of these. Takes a few minutes; finds the same at every run.
 set -eu
 cd "$(dirname "$0")/.."
+# what is drawn for a line depends on those before it, so their order must not depend on the language
+export LC_ALL=C
 . bench/lib/count.sh
 build worst host bench/worst.c bench/encode.c
 work=target/bench/worst.lines
