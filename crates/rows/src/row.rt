@@ -1,9 +1,10 @@
 // One row, written: its three keys, and the values that its columns have at a place. Windows are read without a
 // test, so eight bytes have to be there from the byte of the row's last bit on.
 ghost use mathlib.Core.Path.{_≡_};
-ghost use mathlib.Core.Bool.{true, false};
+ghost use mathlib.Core.Bool.{_&&_, false};
 ghost use mathlib.Core.List.{[], _∷_};
 ghost use Prim.Native.Nat.{_+_, _*_, _^_, _≤_, _<_};
+ghost use lib.Dec.{eqb, ltb};
 ghost use lib.IntN.{pos};
 ghost use lib.ListN.{length};
 ghost use Rattle.bits.specs.Places.{field};
@@ -57,7 +58,7 @@ fn sole(bytes: &[u8], at: usize, c: Column) -> i32
 
 // Whether a row has a first column and no third.
 fn paired(s: Shape) -> bool
-    ensures { λ r. ⌜ (r ≡ true → (1 ≤ s .v1 .width) × (s .v3 .width ≡ 0)) ⌝ }
+    ensures { λ r. ⌜ r ≡ (eqb (s .v3 .width) 0 && ltb 0 (s .v1 .width)) ⌝ }
 {
     if s.v3.width > 0 {
         return false;

@@ -1,9 +1,12 @@
 -- `rows::row::cell` meets its contract. Assumes nothing.
-use mathlib.Core.Path.{_≡_, ap, _∙_}
+use mathlib.Core.Path.{_≡_, sym, ap, _∙_}
+use mathlib.Core.Bool.{and-eq-true-iff}
 use mathlib.Core.List.{List, _∷_}
 use Prim.Native.Nat.{_≤_}
 use native.Mathlib.Omega.{arith}
 use borrow.Author.Needs.{needs}
+use borrow.Author.Tests.{eqb-true, ltb-true}
+use lib.Dec.{eqb, ltb}
 use lib.IntN.{ℤ}
 use mir.Facts.{toZ-ofZ}
 use mir.Syntax.{w32}
@@ -16,7 +19,10 @@ abbrev start : tie.After-eight → tie.Start
 start w = w .before .before .before .before
 
 two : (w : tie.After-eight) → let s = start w .args .s in (1 ≤ s .v1 .width) × (s .v3 .width ≡ 0)
-two w = w .before .before .paired .ensures (w .before .if1 .taken)
+two w =
+    let s = start w .args .s in
+    let both = and-eq-true-iff (eqb (s .v3 .width) 0) (ltb 0 (s .v1 .width)) .0 (sym (w .before .before .paired .ensures) ∙ w .before .if1 .taken) in
+    (ltb-true 0 (s .v1 .width) (both .1), eqb-true (s .v3 .width) 0 (both .0))
 
 value-requires : tie.Need-value-requires
 value-requires c κs =
