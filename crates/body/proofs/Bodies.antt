@@ -23,7 +23,7 @@ use Rattle.format.specs.Masks.{Satellite, Cell, pick}
 use Rattle.format.specs.Messages.{satelliteLines, cellLines, packetLines, packetShape}
 use Rattle.format.specs.Rows.{Column, absent, widthOf, shapeWidth, bodyWidth}
 use Rattle.holding.proofs.Sounds.{Sounds, sounds}
-use Rattle.holding.specs.Bounds.{below, narrow}
+use Rattle.holding.specs.Bounds.{narrow, every}
 use Rattle.holding.specs.declared.Holding.{Holding}
 use Rattle.holding.specs.Held.{View, stripCells, slotsOf, viewOf}
 use Rattle.holding.specs.Pictures.{maskOf, sound}
@@ -69,7 +69,7 @@ cells-few (false ∷ bits) (sat ∷ sats) (strip ∷ strips) = simp length-appen
 -- as many as their strips have ones
 cells-count : (bits : List Bool) (sats : List Satellite) (strips : List ℕ) → narrow 16 strips ≡ true → length sats ≤ length strips
     → length (stripCells (pick bits sats) (pick bits strips)) ≡ total ones (pick bits (take (length sats) strips))
-unfolding stripCells cellsIn pick total below
+unfolding stripCells cellsIn pick total every
 cells-count [] sats strips thin covered = refl
 cells-count (b ∷ bits) [] strips thin covered = refl
 cells-count (b ∷ bits) (sat ∷ sats) [] thin covered = absurd (omega arith)

@@ -2,7 +2,7 @@
 use mathlib.Core.Path.{_≡_, _∙_}
 use mathlib.Core.Bool.{Bool, true, false, not}
 use mathlib.Core.List.{List, [], _∷_}
-use Prim.Native.Nat.{ℕ, suc, _+_, _-_, _/_, _%_, _≤_, _<_}
+use Prim.Native.Nat.{ℕ, _+_, _-_, _/_, _%_, _≤_, _<_}
 use native.Mathlib.Omega.{arith}
 use lib.Dec.{eqb}
 use lib.IntN.{pos}
@@ -21,7 +21,7 @@ use Rattle.format.specs.Masks.{Satellite, Sky, pick}
 use Rattle.format.specs.Messages as Messages
 use Rattle.format.specs.Messages.{Selected, selection, packet, packetHeading, flagged, satelliteLines}
 use Rattle.format.specs.Programs.{Program, done, _>>=_, _>>_, taking, numbered, require, well, badly, later, run}
-use Rattle.format.specs.Rows.{Column, absent}
+use Rattle.format.specs.Rows.{Column}
 use Rattle.heads.specs.declared.CommonHead.{CommonHead}
 use Rattle.heads.specs.declared.heading.Under.{Under}
 use Rattle.heads.specs.Heads.{commonOf}

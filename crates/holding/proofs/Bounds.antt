@@ -10,19 +10,19 @@ use lib.Dec.{ltb}
 use lib.ListN.{length, getD, take, drop, replicate}
 use lib.Pow.{pow-pos}
 use Rattle.format.proofs.Sames.{and-true, true-and}
-use Rattle.holding.specs.Bounds.{below, narrow}
+use Rattle.holding.specs.Bounds.{below, narrow, every}
 use Rattle.holding.specs.Pictures.{filled}
 
 module _ (b : ℕ) where
   pub below-at : (xs : List ℕ) → below b xs ≡ true → (i : ℕ) → i < length xs → getD xs i 0 < b
-  unfolding below
+  unfolding every
   below-at [] e i h = absurd (omega arith)
   below-at (x ∷ xs) e zero h = ltb-true x b (and-true (ltb x b) _ e .0)
   below-at (x ∷ xs) e (suc i) h = below-at xs (and-true (ltb x b) _ e .1) i (le-of-suc-le-suc h)
 
   -- the first k numbers, and the others
   pub below-take : (k : ℕ) (xs : List ℕ) → below b xs ≡ true → below b (take k xs) ≡ true
-  unfolding below
+  unfolding every
   below-take zero xs e = refl
   below-take (suc k) [] e = refl
   below-take (suc k) (x ∷ xs) e =
@@ -30,26 +30,26 @@ module _ (b : ℕ) where
       true-and (parts .0) (below-take k xs (parts .1))
 
   pub below-drop : (k : ℕ) (xs : List ℕ) → below b xs ≡ true → below b (drop k xs) ≡ true
-  unfolding below
+  unfolding every
   below-drop zero xs e = e
   below-drop (suc k) [] e = refl
   below-drop (suc k) (x ∷ xs) e = below-drop k xs (and-true (ltb x b) _ e .1)
 
   pub below-append : (xs ys : List ℕ) → below b xs ≡ true → below b ys ≡ true → below b (xs ++ ys) ≡ true
-  unfolding below
+  unfolding every
   below-append [] ys e f = f
   below-append (x ∷ xs) ys e f =
       let parts = and-true (ltb x b) _ e in
       true-and (parts .0) (below-append xs ys (parts .1) f)
 
   pub below-replicate : (n x : ℕ) → x < b → below b (replicate n x) ≡ true
-  unfolding below
+  unfolding every
   below-replicate zero x small = refl
   below-replicate (suc n) x small = true-and (lt-ltb x b small) (below-replicate n x small)
 
   -- what is below a bound is below a larger one
   pub below-wider : (c : ℕ) → b ≤ c → (xs : List ℕ) → below b xs ≡ true → below c xs ≡ true
-  unfolding below
+  unfolding every
   below-wider c le [] e = refl
   below-wider c le (x ∷ xs) e =
       let parts = and-true (ltb x b) _ e in

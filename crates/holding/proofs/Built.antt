@@ -11,14 +11,15 @@ use lib.Count.{ones}
 use lib.Dec.{ltb}
 use lib.ListN.{length, set, replicate, length-append, length-map}
 use lib.Seq.{append-snoc, set-at}
+use Rattle.format.specs.Lengths.{total}
 use Rattle.bits.specs.BitLists.{number}
+use Rattle.format.proofs.Lengths.{total-append}
 use Rattle.format.proofs.Sames.{and-true}
 use Rattle.format.specs.Masks.{System, Mask, mask, Satellite, satellitesOf, cellsOf, satellites, cells}
-use Rattle.holding.specs.Bounds.{below, narrow}
+use Rattle.holding.specs.Bounds.{narrow, every}
 use Rattle.holding.specs.Building.{withStrip, withSystem, onesIn, begun}
 use Rattle.holding.specs.Held.{stripCells}
 use Rattle.holding.specs.Pictures.{filled, stripsOf, pictureOf}
-use Rattle.holding.proofs.Counts.{ones-append}
 use Rattle.holding.proofs.Narrows.{narrow-strips}
 use Rattle.holding.proofs.Places.{ones-places}
 use Rattle.holding.proofs.PicturedStrips.{length-strips, length-satellites, picture-strips, satellites-snoc, cells-snoc}
@@ -29,7 +30,7 @@ pub use Rattle.format.proofs.MakesBack.{few-systems, room-for}
 
 -- before any strip it is the mask's own picture
 pub begun-picture : (m : Mask) → begun m [] ≡ pictureOf (mask m)
-unfolding begun pictureOf onesIn
+unfolding begun pictureOf total
 begun-picture m = simp (append-nil, add-zero)
 
 -- ---- a strip
@@ -45,21 +46,21 @@ set-filled n d x l k e h =
 -- a strip is stored behind the others
 pub strip-built : (m : Mask) (strips : List ℕ) (strip : ℕ) → length (flatMap stripsOf (m .systems) ++ strips) < 64
     → withStrip (begun m strips) strip ≡ begun m (strips ++ (strip ∷ []))
-unfolding withStrip begun pictureOf onesIn
+unfolding withStrip begun pictureOf total
 strip-built m strips strip room =
     let before = flatMap stripsOf (m .systems) in
     let nsat = length (satellites (m .systems)) + length strips in
     let e : length (before ++ strips) ≡ nsat = simp length-append (rw (picture-strips (m .systems))) in
     let stored = set-filled 64 0 strip (before ++ strips) nsat e (omega arith) in
     let count : nsat + 1 ≡ length (satellites (m .systems)) + length (strips ++ (strip ∷ [])) = simp length-append (omega arith) in
-    let total : length (cells (m .systems)) + onesIn strips + ones strip ≡ length (cells (m .systems)) + onesIn (strips ++ (strip ∷ [])) = omega (arith, ones-append strips (strip ∷ [])) in
+    let total : length (cells (m .systems)) + onesIn strips + ones strip ≡ length (cells (m .systems)) + onesIn (strips ++ (strip ∷ [])) = omega (arith, total-append ones strips (strip ∷ [])) in
     rw (stored, append-assoc, count, total)
 
 -- ---- the cells of a system's strips
 
 -- strips of 16 bits have a one for each cell
 ones-cells : (sats : List Satellite) (strips : List ℕ) → length sats ≡ length strips → narrow 16 strips ≡ true → onesIn strips ≡ length (stripCells sats strips)
-unfolding onesIn stripCells below
+unfolding total stripCells every
 ones-cells [] [] e thin = refl
 ones-cells [] (strip ∷ strips) e thin = absurd (omega arith)
 ones-cells (sat ∷ sats) [] e thin = absurd (omega arith)

@@ -1,7 +1,7 @@
 -- How many cells some strips have: in parts, four at a time, and where the strips behind are not used. Assumes nothing.
 use mathlib.Core.Path.{_≡_, refl, ap, _∙_}
 use mathlib.Core.Bool.{true}
-use mathlib.Core.List.{List, [], _∷_, _++_}
+use mathlib.Core.List.{List, [], _∷_}
 use Prim.Native.Nat.{ℕ, zero, suc, _+_, _-_, _*_, _^_, _≤_, _<_}
 use native.Mathlib.Omega.{arith}
 use borrow.Author.Tests.{eqb-true}
@@ -9,25 +9,23 @@ use lib.Count.{ones, ones-cat, ones-le}
 use lib.Dec.{eqb}
 use lib.ListN.{length, getD, take, drop}
 use lib.Seq.{take-add}
+use Rattle.format.specs.Lengths.{total}
+use Rattle.holding.specs.Bounds.{every}
+use Rattle.format.proofs.Lengths.{total-append}
 use Rattle.format.proofs.Sames.{and-true}
 use Rattle.holding.specs.Building.{onesIn}
-use Rattle.holding.specs.Testing.{every, four, emptyStrips}
+use Rattle.holding.specs.Testing.{four, emptyStrips}
 use Rattle.holding.proofs.Fours.{four-strips}
 
 -- ---- in parts
 
-pub ones-append : (strips more : List ℕ) → onesIn (strips ++ more) ≡ onesIn strips + onesIn more
-unfolding onesIn
-ones-append [] more = omega arith
-ones-append (strip ∷ strips) more = omega (arith, ones-append strips more)
-
 pub ones-part : (strips : List ℕ) (n k : ℕ) → onesIn (take (n + k) strips) ≡ onesIn (take n strips) + onesIn (take k (drop n strips))
-ones-part strips n k = ap onesIn (take-add n k strips) ∙ ones-append (take n strips) (take k (drop n strips))
+ones-part strips n k = ap onesIn (take-add n k strips) ∙ total-append ones (take n strips) (take k (drop n strips))
 
 -- ---- strips that are not used have none
 
 ones-empty : (strips : List ℕ) (k : ℕ) → emptyStrips strips ≡ true → onesIn (take k strips) ≡ 0
-unfolding every onesIn
+unfolding every total
 ones-empty strips zero e = refl
 ones-empty [] (suc k) e = refl
 ones-empty (strip ∷ strips) (suc k) e =
@@ -45,7 +43,7 @@ ones-past strips n m past e =
 -- four strips of 16 bits as one number have the cells of all
 pub ones-four : (strips : List ℕ) (i : ℕ) → i + 4 ≤ length strips → ((k : ℕ) → getD strips k 0 < 2 ^ 16)
     → ones (four (getD strips i 0) (getD strips (i + 1) 0) (getD strips (i + 2) 0) (getD strips (i + 3) 0)) ≡ onesIn (take 4 (drop i strips))
-unfolding onesIn
+unfolding total
 ones-four strips i room small =
     let a = getD strips i 0 in
     let b = getD strips (i + 1) 0 in

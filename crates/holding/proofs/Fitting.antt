@@ -11,12 +11,13 @@ use lib.Count.{ones}
 use lib.Dec.{eqb, leb, ltb}
 use lib.ListN.{length, getD, take, drop, length-drop}
 use lib.Seq.{take-suc, drop-cons, drop-drop, getD-drop}
+use Rattle.holding.specs.Bounds.{every}
 use Rattle.bits.specs.BitLists.{spell}
 use Rattle.format.proofs.Sames.{and-true}
 use Rattle.format.specs.Assigned.{satellitePlaces, assigned}
 use Rattle.holding.specs.Building.{onesIn}
 use Rattle.format.specs.Messages.{named}
-use Rattle.holding.specs.Testing.{every, stripFits, stripsFit, masksFit, slotFits, emptyStrips, emptySlots, slotsFit}
+use Rattle.holding.specs.Testing.{stripFits, stripsFit, masksFit, slotFits, emptyStrips, emptySlots, slotsFit}
 use Rattle.holding.proofs.Counts.{ones-part}
 
 pub empty-strip : (strips : List ℕ) (i : ℕ) → i < length strips → emptyStrips (drop i strips) ≡ (eqb (getD strips i 0) 0 && emptyStrips (drop (suc i) strips))

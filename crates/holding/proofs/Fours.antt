@@ -11,8 +11,9 @@ use lib.Bits.{bitAnd, and-block, and-lt}
 use lib.Dec.{eqb}
 use lib.ListN.{length, getD, take, drop}
 use lib.Seq.{drop-cons}
+use Rattle.holding.specs.Bounds.{every}
 use Rattle.format.proofs.Sames.{and-true, true-and}
-use Rattle.holding.specs.Testing.{every, four, stripFits, emptyStrips, stripsFit}
+use Rattle.holding.specs.Testing.{four, stripFits, emptyStrips, stripsFit}
 use Rattle.holding.proofs.Tests.{same-test}
 
 -- ---- the four

@@ -11,7 +11,7 @@ use Rattle.format.proofs.Steps.{field-lt}
 use Rattle.format.specs.Good.{goodSystem, goodSystems}
 use Rattle.format.specs.Masks.{System, placesFrom}
 use Rattle.format.proofs.MakesBack.{good-system}
-use Rattle.holding.specs.Bounds.{below, narrow}
+use Rattle.holding.specs.Bounds.{narrow, every}
 use Rattle.holding.specs.Pictures.{stripsFrom, stripsOf}
 use Rattle.holding.specs.Spread.{spread}
 use Rattle.holding.proofs.Bounds.{below-append, below-replicate}
@@ -21,7 +21,7 @@ use Rattle.holding.proofs.Spreads.{length-spread}
 -- ---- the strips of a system
 
 narrow-stripsFrom : (n : ℕ) (signals bits : List Bool) → length signals ≡ 16 → narrow 16 (stripsFrom n signals bits) ≡ true
-unfolding stripsFrom below
+unfolding stripsFrom every
 narrow-stripsFrom zero signals bits long = refl
 narrow-stripsFrom (suc n) signals bits long =
     true-and (lt-ltb _ _ (field-lt 16 (spread signals bits) (length-spread signals bits ∙ long)))
@@ -40,7 +40,7 @@ pub record Narrow (ss : List System) : Type 0 where
   pub strips : narrow 16 (flatMap stripsOf ss) ≡ true
 
 pub narrow-systems : (before ss : List System) → goodSystems before ss ≡ true → Narrow ss
-unfolding goodSystems flatMap below
+unfolding goodSystems flatMap every
 narrow-systems before [] e = record { satellites = refl; signals = refl; strips = refl }
 narrow-systems before (s ∷ ss) e =
     let parts = and-true (goodSystem before s) _ e in

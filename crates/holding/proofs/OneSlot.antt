@@ -19,11 +19,11 @@ use Rattle.format.specs.Good.{goodSystem, good}
 use Rattle.format.specs.Masks.{System, placesFrom, pick, satellites, cells}
 use Rattle.format.specs.Messages.{named, idsOf}
 use Rattle.holding.specs.Building.{onesIn}
-use Rattle.holding.specs.Bounds.{below, narrow}
+use Rattle.holding.specs.Bounds.{narrow, every}
 use Rattle.format.specs.Messages.{named}
 use Rattle.holding.specs.Pictures.{stripsFrom, stripsOf, systemOf}
 use Rattle.holding.specs.Spread.{spread, within}
-use Rattle.holding.specs.Testing.{every, stripFits, stripsFit, masksFit, slotFits}
+use Rattle.holding.specs.Testing.{stripFits, stripsFit, masksFit, slotFits}
 use Rattle.holding.proofs.Bounds.{below-take}
 use Rattle.holding.proofs.Places.{ones-places}
 use Rattle.holding.proofs.Spreads.{length-pick, spread-pick, within-and}
@@ -62,7 +62,7 @@ module _ (signals : ℕ) (small : signals < 2 ^ 16) where
   -- with the cell flag: strips that fit are made of the bits that they have at the signals' places
   strips-from : (strips : List ℕ) → narrow 16 strips ≡ true → stripsFit true signals strips ≡ true
       → stripsFrom (length strips) (spell 16 signals) (flatMap (stripBits (spell 16 signals)) strips) ≡ strips
-  unfolding below every stripFits stripsFrom flatMap
+  unfolding every stripFits stripsFrom flatMap
   strips-from [] thin e = refl
   strips-from (strip ∷ strips) thin e =
       let g = spell 16 signals in

@@ -9,7 +9,7 @@ use lib.ListN.{length, length-map}
 use mir.Val.{WTs, ofList}
 use Rattle.format.proofs.Sames.{true-and}
 use Rattle.holding.specs.declared.Holding.{Holding}
-use Rattle.holding.specs.Bounds.{below, narrow}
+use Rattle.holding.specs.Bounds.{narrow, every}
 use Rattle.holding.specs.Pictures.{sound}
 use Rattle.holding.specs.Testing.{tested}
 use Rattle.holding.proofs.SoundTested.{sound-tested}
@@ -23,7 +23,7 @@ as-long xs n e = sym (length-map xs _) ∙ e
 
 -- 16 bits each, by their type
 pub narrow-typed : (xs : List ℕ) → WTs (ofList (map (u16-laws .val) (map (λ x. x) xs))) → narrow 16 xs ≡ true
-unfolding below
+unfolding every
 narrow-typed [] w = refl
 narrow-typed (x ∷ xs) w = true-and (lt-ltb x (2 ^ 16) (w .0 .fits)) (narrow-typed xs (w .1))
 

@@ -10,6 +10,7 @@ use lib.Dec.{ltb}
 use lib.ListN.{length, drop, replicate, length-map, length-replicate}
 use lib.Seq.{append-snoc, take-at, drop-at}
 use borrow.Author.Tests.{leb-true, lt-ltb, le-leb}
+use Rattle.holding.specs.Bounds.{every}
 use Rattle.bits.specs.BitLists.{number}
 use Rattle.format.proofs.Sames.{and-true, true-and, eqb-refl}
 use Rattle.format.proofs.Steps.{field-spelled, field-lt}
@@ -20,7 +21,7 @@ use Rattle.holding.specs.declared.Holding.{Holding}
 use Rattle.format.proofs.MakesBack.{GoodSystem, good-system}
 use Rattle.holding.specs.Pictures.{filled, stripsFrom, stripsOf, pictureOf, maskOf, sound}
 use Rattle.holding.specs.Spread.{spread}
-use Rattle.holding.specs.Testing.{every, stripFits, stripsFit, masksFit, slotFits, emptySlots, emptyStrips, slotsFit, tested}
+use Rattle.holding.specs.Testing.{stripFits, stripsFit, masksFit, slotFits, emptySlots, emptyStrips, slotsFit, tested}
 use Rattle.holding.proofs.Places.{ones-number}
 use Rattle.holding.proofs.Spreads.{length-spread, spread-within, within-number}
 use Rattle.holding.proofs.PicturedStrips.{satelliteCount, strips-either, length-strips, satellites-snoc, cells-snoc}

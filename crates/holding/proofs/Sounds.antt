@@ -14,7 +14,7 @@ use Rattle.format.proofs.Steps.{field-spelled}
 use Rattle.format.specs.Good.{goodSystem, goodSystems, good}
 use Rattle.format.specs.Masks.{System, Mask, Held, nothing, mask, Satellite, satellitesOf, satellites, cells}
 use Rattle.holding.specs.declared.Holding.{Holding}
-use Rattle.holding.specs.Bounds.{below, narrow}
+use Rattle.holding.specs.Bounds.{narrow, every}
 use Rattle.holding.specs.Held.{isHeld, issueOf, satellitesHeld, cellsHeld, satellitesIn, slotSatellites, slotsOf, stripCells}
 use Rattle.holding.specs.Pictures.{filled, stripsOf, pictureOf, maskOf, sound}
 use Rattle.holding.proofs.Bounds.{narrow-filled}
@@ -90,7 +90,7 @@ module _ (m : Mask) (good-mask : good (mask m) ≡ true) where
       ∙ sym (picture-cells m good-mask)
 
 picture-sounds : (g : Held) → good g ≡ true → Sounds g (pictureOf g)
-unfolding good pictureOf below isHeld issueOf satellitesHeld cellsHeld slotSatellites stripCells
+unfolding good pictureOf every isHeld issueOf satellitesHeld cellsHeld slotSatellites stripCells
 picture-sounds nothing e =
     record {
       good-held = e;

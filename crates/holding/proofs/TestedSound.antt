@@ -17,9 +17,9 @@ use Rattle.format.specs.Masks.{System, Mask, nothing, mask, placesFrom, satelli
 use Rattle.format.specs.Messages.{named}
 use Rattle.holding.specs.declared.Holding.{Holding}
 use Rattle.holding.specs.Building.{onesIn}
-use Rattle.holding.specs.Bounds.{narrow}
+use Rattle.holding.specs.Bounds.{narrow, every}
 use Rattle.holding.specs.Pictures.{filled, stripsOf, pictureOf, systemOf, systemsOf, maskOf, sameHolding, sound}
-use Rattle.holding.specs.Testing.{every, slotFits, emptySlots, emptyStrips, slotsFit, tested}
+use Rattle.holding.specs.Testing.{slotFits, emptySlots, emptyStrips, slotsFit, tested}
 use Rattle.holding.proofs.Places.{ones-places}
 use Rattle.holding.proofs.PicturedStrips.{length-satellites, satellites-snoc, cells-snoc}
 use Rattle.holding.proofs.PicturedSame.{sameHolding-refl}

@@ -6,8 +6,8 @@ use Prim.Native.Nat.{ℕ, _+_, _-_, _≤_}
 use native.Mathlib.Omega.{arith}
 use lib.ListN.{take, drop, take-append-drop}
 use lib.Seq.{take-add, drop-drop}
+use Rattle.holding.specs.Bounds.{every}
 use Rattle.format.proofs.Sames as Sames
-use Rattle.holding.specs.Testing.{every}
 
 pub and-assoc : (a b c : Bool) → (a && (b && c)) ≡ ((a && b) && c)
 and-assoc false b c = refl

@@ -4,6 +4,7 @@ use mathlib.Core.List.{List, [], _∷_, _++_, flatMap}
 use Prim.Native.Nat.{ℕ, _+_}
 use lib.Count.{ones}
 use lib.ListN.{length, set}
+use Rattle.format.specs.Lengths.{total}
 use Rattle.format.specs.Masks.{Mask, mask}
 use Rattle.holding.specs.declared.Holding.{Holding}
 use Rattle.holding.specs.Pictures.{filled, stripsOf, pictureOf}
@@ -50,9 +51,8 @@ withSystem h id sats signals flag =
 
 -- ---- what they build
 
-unfoldable pub onesIn : List ℕ → ℕ
-onesIn [] = 0
-onesIn (strip ∷ strips) = ones strip + onesIn strips
+abbrev pub onesIn : List ℕ → ℕ
+onesIn strips = total ones strips
 
 -- the picture of a mask with strips of the next system after its own
 unfoldable pub begun : Mask → List ℕ → Holding

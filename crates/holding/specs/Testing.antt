@@ -10,13 +10,9 @@ use lib.ListN.{length, getD, take, drop}
 use Rattle.bits.specs.BitLists.{spell}
 use Rattle.format.specs.Assigned.{satellitePlaces, signalPlaces, assigned}
 use Rattle.holding.specs.declared.Holding.{Holding}
+use Rattle.holding.specs.Bounds.{every}
 use Rattle.holding.specs.Building.{onesIn}
 use Rattle.format.specs.Messages.{named}
-
--- each number of a list meets a test
-unfoldable pub every : (ℕ → Bool) → List ℕ → Bool
-every test [] = true
-every test (n ∷ ns) = test n && every test ns
 
 -- with the cell flag a strip has no signal that its system has not, without it all of them
 unfoldable pub stripFits : Bool → ℕ → ℕ → Bool

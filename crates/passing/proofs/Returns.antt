@@ -16,9 +16,8 @@ use Rattle.format.specs.Reading.{over}
 use Rattle.format.proofs.Sames.{and-true, true-and}
 use Rattle.holding.specs.declared.Holding.{Holding}
 use Rattle.holding.specs.Building.{withSystem}
-use Rattle.holding.specs.Bounds.{below}
+use Rattle.holding.specs.Bounds.{below, every}
 use Rattle.holding.specs.Pictures.{pictureOf, maskOf, sameHolding, sound}
-use Rattle.holding.specs.Testing.{every}
 use Rattle.holding.proofs.Bounds.{below-wider}
 use Rattle.holding.proofs.Sounds.{Shaped, sounds}
 use Rattle.passing.specs.Bytes.{little, littles, parts, partsOf}
@@ -45,7 +44,7 @@ little-parts (suc k) n more = rw (little-parts k (n / 256) more, pow-succ' 256 k
 
 -- numbers that have room in k bytes each are said by their bytes
 pub littles-parts : (k : ℕ) (ns more : List ℕ) → below (256 ^ k) ns ≡ true → littles k (length ns) (partsOf k ns ++ more) ≡ ns
-unfolding littles partsOf below
+unfolding littles partsOf every
 littles-parts k [] more e = refl
 littles-parts k (n ∷ ns) more e =
     let fit = and-true (ltb n (256 ^ k)) _ e in

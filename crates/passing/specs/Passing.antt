@@ -4,12 +4,12 @@ use mathlib.Core.List.{List, _∷_, _++_, map}
 use Prim.Native.Nat.{ℕ}
 use lib.Dec.{eqb, leb}
 use lib.ListN.{length, getD, take, drop}
+use Rattle.holding.specs.Bounds.{every}
 use Rattle.bits.specs.BitLists.{digit}
 use Rattle.format.specs.Masks.{nothing}
 use Rattle.holding.specs.declared.Holding.{Holding}
 use Rattle.holding.specs.Building.{withSystem}
 use Rattle.holding.specs.Pictures.{pictureOf}
-use Rattle.holding.specs.Testing.{every}
 use Rattle.passing.specs.Bytes.{little, littles, parts, partsOf}
 
 abbrev pub size : ℕ

@@ -2,13 +2,13 @@
 use mathlib.Core.Path.{refl}
 use borrow.Author.Needs.{needs}
 use Rattle.format.specs.Assigned.{satellitePlaces, assigned}
-use Rattle.holding.specs.Bounds.{below}
+use Rattle.holding.specs.Bounds.{every}
 use Rattle.holding.proofs.Bounds.{below-at}
 use Rattle.holding.proofs.assigned.satellites_assigned.Statement.{statement}
 use Rattle.holding.proofs.assigned.satellites_assigned.Tie as tie
 
 ends-by-requires : tie.Need-ends-by-requires
-unfolding below satellitePlaces
+unfolding every satellitePlaces
 ends-by-requires c κs = (below-at 40 satellitePlaces refl (c .args .id) (c .pre .0), search needs, c .pre .1)
 
 returns : tie.Need-returns

@@ -2,13 +2,13 @@
 use mathlib.Core.Path.{refl}
 use borrow.Author.Needs.{needs}
 use Rattle.format.specs.Assigned.{signalPlaces, assigned}
-use Rattle.holding.specs.Bounds.{below}
+use Rattle.holding.specs.Bounds.{every}
 use Rattle.holding.proofs.Bounds.{below-at}
 use Rattle.holding.proofs.assigned.signals_assigned.Statement.{statement}
 use Rattle.holding.proofs.assigned.signals_assigned.Tie as tie
 
 ends-by-requires : tie.Need-ends-by-requires
-unfolding below signalPlaces
+unfolding every signalPlaces
 ends-by-requires c κs = (below-at 16 signalPlaces refl (c .args .id) (c .pre .0), search needs, c .pre .1)
 
 returns : tie.Need-returns

@@ -3,6 +3,7 @@ use mathlib.Core.Path.{_≡_, refl, ap, _∙_}
 use Prim.Native.Nat.{ℕ, _+_, _-_, _*_, _≤_}
 use native.Mathlib.Omega.{arith}
 use lib.ListN.{take}
+use Rattle.format.specs.Lengths.{total}
 use Rattle.holding.specs.Building.{onesIn}
 use Rattle.holding.proofs.Counts.{ones-part, ones-past}
 use Rattle.holding.proofs.cells_in.cells_in.Statement.{statement}
@@ -15,7 +16,7 @@ abbrev μ-loop : tie.MeasureT-loop
 μ-loop strips n cells₀ k₀ cells k = 16 - k
 
 loop-holds : tie.Need-loop-holds Inv-loop μ-loop
-unfolding onesIn
+unfolding total
 loop-holds c = (omega arith, omega arith, refl)
 
 loop-again : tie.Need-loop-again Inv-loop μ-loop

@@ -8,7 +8,8 @@ use native.Mathlib.Numerals.{add-one}
 use borrow.Author.Needs.{needs}
 use lib.Dec.{eqb}
 use lib.ListN.{length, getD, drop, drop-of-length-le}
-use Rattle.holding.specs.Testing.{every, emptyStrips}
+use Rattle.holding.specs.Bounds.{every}
+use Rattle.holding.specs.Testing.{emptyStrips}
 use Rattle.holding.proofs.Fitting.{empty-strip}
 use Rattle.holding.proofs.Noughts.{gather}
 use Rattle.holding.proofs.strips_empty.each_empty.Statement.{statement}

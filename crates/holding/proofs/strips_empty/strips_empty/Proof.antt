@@ -9,7 +9,8 @@ use borrow.Author.Needs.{needs}
 use lib.Dec.{eqb}
 use lib.ListN.{take, drop, length-drop}
 use lib.Seq.{take-all}
-use Rattle.holding.specs.Testing.{every, emptyStrips}
+use Rattle.holding.specs.Bounds.{every}
+use Rattle.holding.specs.Testing.{emptyStrips}
 use Rattle.holding.proofs.Tests.{and-swap, every-parts, every-last}
 use Rattle.holding.proofs.strips_empty.strips_empty.Statement.{statement}
 use Rattle.holding.proofs.strips_empty.strips_empty.Tie as tie

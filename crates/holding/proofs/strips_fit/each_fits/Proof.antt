@@ -8,7 +8,8 @@ use native.Mathlib.Omega.{arith}
 use borrow.Author.Needs.{needs}
 use borrow.Author.Tests.{not-true, not-false}
 use lib.ListN.{take, drop}
-use Rattle.holding.specs.Testing.{every, stripsFit}
+use Rattle.holding.specs.Bounds.{every}
+use Rattle.holding.specs.Testing.{stripsFit}
 use Rattle.holding.proofs.Fitting.{strip-fit}
 use Rattle.holding.proofs.strips_fit.each_fits.Statement.{statement}
 use Rattle.holding.proofs.strips_fit.each_fits.Tie as tie

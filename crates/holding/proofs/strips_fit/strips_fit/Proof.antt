@@ -7,7 +7,8 @@ use native.Mathlib.Omega.{arith}
 use borrow.Author.Needs.{needs}
 use borrow.Author.Tests.{not-true, not-false}
 use lib.ListN.{take, drop}
-use Rattle.holding.specs.Testing.{every, stripFits, stripsFit}
+use Rattle.holding.specs.Bounds.{every}
+use Rattle.holding.specs.Testing.{stripFits, stripsFit}
 use Rattle.holding.proofs.Tests.{every-parts, every-fewer}
 use Rattle.holding.proofs.strips_fit.strips_fit.Statement.{statement}
 use Rattle.holding.proofs.strips_fit.strips_fit.Tie as tie

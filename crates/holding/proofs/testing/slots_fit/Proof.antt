@@ -12,6 +12,7 @@ use borrow.Author.Tests.{eq-eqb, ne-eqb, not-true, not-false}
 use lib.Count.{ones}
 use lib.Dec.{eqb, leb}
 use lib.ListN.{length, getD, take, drop}
+use Rattle.format.specs.Lengths.{total}
 use Rattle.holding.specs.Building.{onesIn}
 use Rattle.holding.specs.Testing.{emptyStrips, emptySlots, slotsFit}
 use Rattle.holding.proofs.Fitting.{fits-few, next-slot, no-slot}
@@ -28,7 +29,7 @@ abbrev μ-loop : tie.MeasureT-loop
 μ-loop ids satellites signals flags strips count nsat ncell i₀ n₀ i n = count - i
 
 loop-holds : tie.Need-loop-holds Inv-loop μ-loop
-unfolding onesIn
+unfolding total
 loop-holds c = (omega arith, omega arith, rw sub-zero)
 
 returns : tie.Need-returns Inv-loop μ-loop

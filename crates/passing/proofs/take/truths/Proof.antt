@@ -6,7 +6,7 @@ use lib.ListN.{getD}
 use native.Mathlib.Omega.{arith}
 use borrow.Author.Needs.{needs}
 use borrow.Author.Tests.{le-leb, lt-leb}
-use Rattle.holding.specs.Testing.{every}
+use Rattle.holding.specs.Bounds.{every}
 use Rattle.passing.proofs.Littles.{five}
 use Rattle.passing.proofs.take.truths.Statement.{statement}
 use Rattle.passing.proofs.take.truths.Tie as tie
