@@ -1,12 +1,16 @@
 -- What is lent as a struct, and what is lent after a reading as that struct again. Assumes nothing.
-use mathlib.Core.Path.{_≡_, refl}
+use mathlib.Core.Path.{_≡_, refl, ap, _∙_}
 use mathlib.Core.Bool.{Bool, true, false, cond}
+use mathlib.Core.List.{List}
+use Prim.Native.Nat.{ℕ}
+use lib.IntN.{ℤ}
+use Rattle.format.proofs.Stops.{Stopped, stop-holds}
 use Rattle.format.specs.Good.{isHolding}
 use Rattle.format.specs.Masks.{stray, lent}
 use Rattle.holding.specs.declared.Holding.{Holding}
 use Rattle.holding.specs.Pictures.{maskOf, sound}
 use Rattle.holding.proofs.Sounds.{sounds}
-use Rattle.reader.specs.Readings.{lentBy, structOf}
+use Rattle.reader.specs.Readings.{lentBy, structOf, holdingAfter, outcomeAt}
 
 module _ (h : Holding) where
   pub sound-lent : sound h ≡ true → lentBy h ≡ lent (maskOf h)
@@ -34,3 +38,8 @@ module _ (h : Holding) where
   pub kept : sound h ≡ true → structOf h (lent (maskOf h)) ≡ h
   unfolding structOf
   kept e = sounds h e .picture
+
+  -- so a stop leaves the struct as it was
+  pub stop-struct : (bytes : List ℕ) (end start : ℕ) (rows : List ℤ) → Stopped (outcomeAt h bytes end start rows) → holdingAfter h (outcomeAt h bytes end start rows) ≡ h
+  unfolding outcomeAt
+  stop-struct bytes end start rows stopped = ap (structOf h) (stop-holds (lentBy h) bytes end start rows stopped) ∙ lent-back
