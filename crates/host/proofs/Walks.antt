@@ -57,12 +57,17 @@ module _ (hb bs : List ℕ) (end : ℕ) (rows : List ℤ) where
   unfolding walkAt
   some-good some = walk-good (lentBy h) bs end rows (is-holding h ∙ some-sound some)
 
+  -- where none was, they are as they were
+  pub walk-bytes : Bytes hb → messages w ≡ 0 → walkBytes w hb ≡ hb
+  unfolding walkAt
+  walk-bytes small none = ap (λ (l : Lent). bytesAfter l hb) (none-kept (lentBy h) bs end rows none) ∙ sym (bytes-stay hb small)
+
   left-so : Bytes hb → leftBytes (messages w) (structOf h after) hb ≡ walkBytes w hb
-  unfolding leftBytes walkAt
+  unfolding leftBytes
   left-so small = go (messages w) refl
     where
       go : (n : ℕ) → messages w ≡ n → leftBytes n (structOf h after) hb ≡ walkBytes w hb
-      go zero none = bytes-stay hb small ∙ ap (λ (l : Lent). bytesAfter l hb) (sym (none-kept (lentBy h) bs end rows none))
+      go zero none = sym (walk-bytes small none)
       go (suc n) e = rw (ne-eqb (suc n) 0 (λ z. omega arith)) (after-bytes h after hb (some-good (λ none. omega arith)))
 
   -- ---- of what the walk answered
