@@ -22,8 +22,21 @@ use Rattle.reader.specs.Readings.{lentBy, structOf, outcomeAt, testsOf, testedB
 use Rattle.reader.proofs.Lents.{sound-lent, is-holding, lent-back}
 use Rattle.reader.proofs.Outcomes.{Fine, tested-outcome, outcome-tested}
 use Rattle.walk.specs.declared.Halt.{Halt}
-use Rattle.walk.specs.Standing.{standFirst, Stands, restOf, walkedWith, walkedFrom, rowsFrom}
+use Rattle.walk.specs.Standing.{standAt, standFirst, Stands, restOf, walkedWith, walkedFrom, rowsFrom}
 use Rattle.walk.specs.Walks.{walkAt, walkedOf}
+
+-- what is lent is good at a place, and nothing was handed out before it
+pub begin : {h : Holding} {bytes : List ℕ} {end start : ℕ} {rows : List ℤ} → Fine h bytes end start (length rows) → Stands bytes end (standAt h (record { place = start; messages = 0; rows = 0 }) rows)
+begin fine =
+    record {
+      held = fine .held;
+      lent = fine .inside .lent;
+      limit = fine .inside .limit;
+      there = fine .inside .there;
+      room = fine .rows;
+      few = omega arith;
+      rows = omega arith;
+    }
 
 module _ (h : Holding) (bytes : List ℕ) (end : ℕ) (rows : List ℤ) where
   -- ---- refused
@@ -44,18 +57,6 @@ module _ (h : Holding) (bytes : List ℕ) (end : ℕ) (rows : List ℤ) where
   -- ---- good
 
   module _ (fine : Fine h bytes end 0 (length rows)) where
-    pub begin : Stands bytes end (standFirst h rows)
-    begin =
-        record {
-          held = fine .held;
-          lent = fine .inside .lent;
-          limit = fine .inside .limit;
-          there = fine .inside .there;
-          room = fine .rows;
-          few = omega arith;
-          rows = omega arith;
-        }
-
     whole : restOf bytes end (standFirst h rows) ≡ walkAt h bytes end rows
     unfolding restOf walkAt
     whole = ap (λ (l : Lent). walkOn table l bytes end 0 rows) (sym (sound-lent h (fine .held)))

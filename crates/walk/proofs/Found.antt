@@ -1,5 +1,6 @@
 -- What a walk does by what is found where it stands: a message under the mask, a stop, a mask. Assumes nothing.
 use mathlib.Core.Path.{_≡_, refl, sym, ap, subst, _∙_}
+use mathlib.Core.Bool.{Bool, true, false}
 use mathlib.Core.List.{List, [], flatten}
 use mathlib.Core.Logic.{_⊎_, inl, inr}
 use Prim.Native.Nat.{ℕ, _+_}
@@ -29,7 +30,7 @@ use Rattle.reader.proofs.Findings.{FoundMask, found-mask, FoundAnswer, found-an
 use Rattle.reader.proofs.Lents.{kept}
 use Rattle.reader.proofs.message.Found.{the-type}
 use Rattle.walk.specs.declared.Halt.{Halt}
-use Rattle.walk.specs.Standing.{Stand, standAt, Stands, walkedFrom, rowsFrom, Gone, Halts, Came}
+use Rattle.walk.specs.Standing.{Stand, standAt, Stands, walkedFrom, rowsFrom, Gone, Halts, Came, Once, CameBy}
 use Rattle.walk.proofs.Going.{nextStand, Goes, within, next-goes, stop-lent, stop-walked, stop-numbers}
 
 -- an answer that is a message: the outcome is
@@ -142,7 +143,7 @@ module _ (bytes : List ℕ) (end : ℕ) (s : Stand) (stands : Stands bytes end s
       ap (λ (o : Outcome). rowsAfter o (s .rows)) (mask-found (ap (tagOf the-type) (sym e)) .adopts) ∙ sym (adopted-rows (maskOf (s .holding)) (s .tally .place + 16) _ (s .rows))
   halt-leaves (Answered a) e halts = stop-leaves outcome (s .rows) (stop-of outcome a (answered a (sym e) .says) halts)
 
-  pub came : (start : Stand) → start .holding ≡ s .holding → Gone bytes end start s → (f : Found) → f ≡ found → Halts f → (rows : List ℤ) → rows ≡ rowsAfter outcome (s .rows)
+  came : (start : Stand) → start .holding ≡ s .holding → Gone bytes end start s → (f : Found) → f ≡ found → Halts f → (rows : List ℤ) → rows ≡ rowsAfter outcome (s .rows)
       → Came bytes end start (record { found = f; tally = s .tally }) rows
   came start same gone f e halts rows left =
       let was : s .rows ≡ rows = sym (left ∙ halt-leaves f e halts) in
@@ -153,6 +154,18 @@ module _ (bytes : List ℕ) (end : ℕ) (s : Stand) (stands : Stands bytes end s
         found = e ∙ ap (λ (h : Holding). foundAt h bytes end (s .tally .place)) (sym same);
         halts = halts;
       }
+
+  -- or where one reading comes to: it stands where it started
+  pub came-once : (start : Stand) → start ≡ s → (f : Found) → f ≡ found → (rows : List ℤ) → rows ≡ rowsAfter outcome (s .rows)
+      → Once bytes end start (record { found = f; tally = s .tally }) rows
+  came-once start same f e rows left =
+      subst (λ (t : Stand). Once bytes end t (record { found = f; tally = s .tally }) rows) (sym same) (record { found = e; tally = refl; numbers = left })
+
+  pub came-by : (once : Bool) (start : Stand) → (once ≡ true → start ≡ s) → start .holding ≡ s .holding → Gone bytes end start s → (f : Found) → f ≡ found → Halts f
+      → (rows : List ℤ) → rows ≡ rowsAfter outcome (s .rows) → CameBy once bytes end start (record { found = f; tally = s .tally }) rows
+  unfolding CameBy
+  came-by true start stays same gone f e halts rows left = came-once start (stays refl) f e rows left
+  came-by false start stays same gone f e halts rows left = came start same gone f e halts rows left
 
   -- ---- a stop
 

@@ -1,20 +1,20 @@
 -- Where a walk stands between two readings, and what is left of it from there.
 use mathlib.Core.Path.{_≡_}
-use mathlib.Core.Bool.{true}
+use mathlib.Core.Bool.{Bool, true, false}
 use mathlib.Core.List.{List}
 use Prim.Native.Nat.{ℕ, _+_, _*_, _≤_}
 use lib.IntN.{ℤ}
 use lib.ListN.{length}
 use Rattle.format.specs.declared.Answer.the-variants as Answers
 use Rattle.format.specs.Masks.{lent, heldIn}
-use Rattle.format.specs.Reading.{stretchLimit, rowRoom, lentAfter, answerOf}
+use Rattle.format.specs.Reading.{stretchLimit, rowRoom, lentAfter, answerOf, rowsAfter}
 use Rattle.format.specs.Table.{table}
 use Rattle.format.specs.Walking.{Walk, walkOn, messages, rowCount}
 use Rattle.holding.specs.declared.Holding.{Holding}
 use Rattle.holding.specs.Pictures.{pictureOf, maskOf, sound}
 use Rattle.reader.specs.declared.message.Found.{Found}
 use Rattle.reader.specs.declared.message.Found.the-variants.{Mask, Answered}
-use Rattle.reader.specs.Readings.{foundAt}
+use Rattle.reader.specs.Readings.{readAt, foundAt}
 use Rattle.walk.specs.declared.Tally.{Tally}
 use Rattle.walk.specs.declared.Halt.{Halt}
 use Rattle.walk.specs.declared.under.Pause.{Pause}
@@ -79,3 +79,13 @@ pub record Came (bytes : List ℕ) (end : ℕ) (s : Stand) (p : Pause) (rows : L
   pub stands : Stands bytes end (standAt (s .holding) (p .tally) rows)
   pub found : p .found ≡ foundAt (s .holding) bytes end (p .tally .place)
   pub halts : Halts (p .found)
+
+-- where one reading came to
+pub record Once (bytes : List ℕ) (end : ℕ) (s : Stand) (p : Pause) (rows : List ℤ) : Type 0 where
+  pub found : p .found ≡ foundAt (s .holding) bytes end (s .tally .place)
+  pub tally : p .tally ≡ s .tally
+  pub numbers : rows ≡ rowsAfter (readAt (s .holding) bytes end (s .tally .place)) (s .rows)
+
+unfoldable pub CameBy : Bool → List ℕ → ℕ → Stand → Pause → List ℤ → Type 0
+CameBy true bytes end s p rows = Once bytes end s p rows
+CameBy false bytes end s p rows = Came bytes end s p rows

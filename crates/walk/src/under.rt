@@ -1,5 +1,5 @@
 // Messages under one mask.
-ghost use Rattle.walk.specs.Standing.{standAt, Stands, Came};
+ghost use Rattle.walk.specs.Standing.{standAt, Stands, CameBy};
 use crate::Tally;
 use format::Answer;
 use holding::Holding;
@@ -12,38 +12,35 @@ pub struct Pause {
     pub tally: Tally,
 }
 
-// Reads on as long as messages are accepted, up to the next mask or the stop.
-pub fn under(holding: Holding, bytes: &[u8], end: usize, from: Tally, rows: &mut [i32]) -> Pause
+// Reads on as long as messages are accepted, up to the next mask or the stop; or once. One loop serves a walk and a
+// single reading: with one caller `find` becomes part of it, and no answer is stored only to be taken apart again.
+pub fn under(
+    holding: Holding,
+    bytes: &[u8],
+    end: usize,
+    from: Tally,
+    once: bool,
+    rows: &mut [i32],
+) -> Pause
     requires { ⌜ Stands (now bytes) end (standAt holding from (now rows)) ⌝ }
-    ensures { λ r. ⌜ Came (now (bytes .entry)) end (standAt holding from (now (rows .entry))) r (now (rows .exit)) ⌝ }
+    ensures { λ r. ⌜ CameBy once (now (bytes .entry)) end (standAt holding from (now (rows .entry))) r (now (rows .exit)) ⌝ }
 {
-    let mut place = from.place;
-    let mut sum = from.messages;
-    let mut total = from.rows;
+    let mut tally = from;
     loop {
-        let found = find(holding, bytes, end, place, rows);
+        let found = find(holding, bytes, end, tally.place, rows);
         let Found::Answered(answer) = found else {
-            return Pause {
-                found: Found::Mask,
-                tally: Tally {
-                    place,
-                    messages: sum,
-                    rows: total,
-                },
-            };
+            return Pause { found, tally };
         };
         let Answer::Message(_, next, n) = answer else {
-            return Pause {
-                found,
-                tally: Tally {
-                    place,
-                    messages: sum,
-                    rows: total,
-                },
-            };
+            return Pause { found, tally };
         };
-        sum += 1;
-        total += n;
-        place = next;
+        if once {
+            return Pause { found, tally };
+        }
+        tally = Tally {
+            place: next,
+            messages: tally.messages + 1,
+            rows: tally.rows + n,
+        };
     }
 }

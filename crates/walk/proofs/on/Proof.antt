@@ -8,7 +8,7 @@ use denote.Enum.Declared.{tagOf}
 use Rattle.format.specs.Reading.{Outcome}
 use Rattle.reader.specs.Readings.{readAt, readingOf, foundAt}
 use Rattle.reader.proofs.message.Found.{the-type}
-use Rattle.walk.specs.Standing.{Stand, standAt, standFirst, Stands, Gone, Halts}
+use Rattle.walk.specs.Standing.{Stand, standAt, standFirst, Stands, Gone, Halts, Came, CameBy}
 use Rattle.walk.proofs.Found.{no-message, answered-stop, mask-found, mask-goes, mask-stop}
 use Rattle.walk.proofs.Going.{gone-nowhere, gone-on, Goes}
 use Rattle.walk.proofs.on.Statement.{statement}
@@ -38,20 +38,23 @@ module _ (c : tie.After-under Inv-loop μ-loop) where
   s = l .before .before
 
   abbrev here : Stand
-  here = standAt (l .loop .held) (c .under .result .tally) (c .under .last .1 .1 .1 .1 .0)
+  here = standAt (l .loop .held) (c .under .result .tally) (c .under .last .1 .1 .1 .1 .1 .0)
 
   abbrev outcome : Outcome
   outcome = readAt (l .loop .held) (s .args .bytes .now) (s .args .end) (c .under .result .tally .place)
 
+  came : Came (s .args .bytes .now) (s .args .end) (standAt (l .loop .held) (l .loop .tally) (l .loop .rows)) (c .under .result) (c .under .last .1 .1 .1 .1 .1 .0)
+  unfolding CameBy
+  came = c .under .ensures
+
   gone : Gone (s .args .bytes .now) (s .args .end) (standFirst (s .args .holding) (s .args .rows .now)) here
-  gone = gone-on (l .loop .inv .1) (c .under .ensures .gone)
+  gone = gone-on (l .loop .inv .1) (came .gone)
 
 returns : tie.Need-returns Inv-loop μ-loop
 returns c =
     let u = c .before .before .before .before .before in
     let a = c .before .found .given in
-    let came = u .under .ensures in
-    let stop = answered-stop _ _ (here u) (came .stands) (a .0 .0) (sym (came .found) ∙ a .1) (subst Halts (a .1) (came .halts)) in
+    let stop = answered-stop _ _ (here u) (came u .stands) (a .0 .0) (sym (came u .found) ∙ a .1) (subst Halts (a .1) (came u .halts)) in
     (stop .0 ∙ sym (gone u .walked), stop .1 ∙ sym (gone u .numbers))
 
 -- a mask
@@ -60,17 +63,17 @@ module _ (c : tie.After-enum-told Inv-loop μ-loop) where
   u = c .before .before .before .before
 
   masked : tagOf the-type (foundAt (l u .loop .held) (s u .args .bytes .now) (s u .args .end) (u .under .result .tally .place)) ≡ 0
-  masked = ap (tagOf the-type) (sym (u .under .ensures .found) ∙ c .enum-told .given .1)
+  masked = ap (tagOf the-type) (sym (came u .found) ∙ c .enum-told .given .1)
 
 add-adopted : tie.Need-add-adopted Inv-loop μ-loop
 add-adopted c =
-    let stands = u (c .before) .under .ensures .stands in
+    let stands = came (u (c .before)) .stands in
     omega (arith, stands .there, stands .limit)
 
 adopted-requires : tie.Need-adopted-requires Inv-loop μ-loop
 adopted-requires c κs =
     let e = c .before in
-    let stands = u e .under .ensures .stands in
+    let stands = came (u e) .stands in
     (stands .lent, stands .limit, mask-found _ _ (here (u e)) stands (masked e) .room, stands .held)
 
 module _ (c : tie.After-adopted Inv-loop μ-loop) where
@@ -78,13 +81,13 @@ module _ (c : tie.After-adopted Inv-loop μ-loop) where
   k = c .before .before
 
   read : c .adopted .result ≡ readingOf (l (u k) .loop .held) (outcome (u k))
-  read = c .adopted .ensures ∙ ap (readingOf (l (u k) .loop .held)) (sym (mask-found _ _ (here (u k)) (u k .under .ensures .stands) (masked k) .adopts))
+  read = c .adopted .ensures ∙ ap (readingOf (l (u k) .loop .held)) (sym (mask-found _ _ (here (u k)) (came (u k) .stands) (masked k) .adopts))
 
 returns-2 : tie.Need-returns-2 Inv-loop μ-loop
 returns-2 c =
     let d = c .before .before in
     let v = u (k d) in
-    let stop = mask-stop _ _ (here v) (v .under .ensures .stands) (masked (k d)) (d .adopted .result) (read d) (no-message _ (c .match2 .keys2)) in
+    let stop = mask-stop _ _ (here v) (came v .stands) (masked (k d)) (d .adopted .result) (read d) (no-message _ (c .match2 .keys2)) in
     (stop .0 ∙ sym (gone v .walked), stop .1 ∙ sym (gone v .numbers))
 
 module _ (c : tie.After-known-told2 Inv-loop μ-loop) where
@@ -95,10 +98,10 @@ module _ (c : tie.After-known-told2 Inv-loop μ-loop) where
   v = u (k d)
 
   goes : Goes (s v .args .bytes .now) (s v .args .end) (here v)
-      (standAt (d .adopted .result .holding) (record { place = c .before .answer .given .0 .1 .0; messages = v .under .result .tally .messages + 1; rows = v .under .result .tally .rows }) (v .under .last .1 .1 .1 .1 .0))
+      (standAt (d .adopted .result .holding) (record { place = c .before .answer .given .0 .1 .0; messages = v .under .result .tally .messages + 1; rows = v .under .result .tally .rows }) (v .under .last .1 .1 .1 .1 .1 .0))
   goes =
       let a = c .before .answer .given in
-      mask-goes _ _ (here v) (v .under .ensures .stands) (masked (k d)) (d .adopted .result) (read d) (a .0 .0) (a .0 .1 .0) (a .0 .1 .1 .0) (a .1)
+      mask-goes _ _ (here v) (came v .stands) (masked (k d)) (d .adopted .result) (read d) (a .0 .0) (a .0 .1 .0) (a .0 .1 .1 .0) (a .1)
 
 add-t16 : tie.Need-add-t16 Inv-loop μ-loop
 add-t16 c =
@@ -106,7 +109,7 @@ add-t16 c =
     omega (arith, stands .few, stands .there, stands .limit)
 
 loop-less : tie.Need-loop-less Inv-loop μ-loop
-loop-less c = omega (arith, goes (c .before) .past, goes (c .before) .stands .there, v (c .before) .under .ensures .gone .forth)
+loop-less c = omega (arith, goes (c .before) .past, goes (c .before) .stands .there, came (v (c .before)) .gone .forth)
 
 loop-again : tie.Need-loop-again Inv-loop μ-loop
 loop-again c = (goes (c .before) .stands, gone-on (gone (v (c .before))) (goes (c .before) .gone), search needs)

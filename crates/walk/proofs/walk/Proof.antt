@@ -27,9 +27,7 @@ module _ (c : tie.After-enum-told) where
   fine = good-lent (s .args .holding) (s .args .bytes .now) (s .args .end) 0 (s .args .rows .now) (sym (t .tested .ensures) ∙ c .enum-told .given .1)
 
 on-requires : tie.Need-on-requires
-on-requires c κs =
-    let e = c .before in
-    begin (s e .args .holding) (s e .args .bytes .now) (s e .args .end) (s e .args .rows .now) (fine e)
+on-requires c κs = begin (fine (c .before))
 
 returns-2 : tie.Need-returns-2
 returns-2 c =

@@ -1,29 +1,32 @@
 -- `walk::under::under` meets its contract. The loop's invariant: it stands where the walk went. Assumes nothing.
 use mathlib.Core.Path.{_≡_, refl, sym, ap, subst, _∙_}
+use mathlib.Core.Bool.{true, false≢true}
 use mathlib.Core.List.{List}
 use Prim.Native.Nat.{_+_, _-_}
 use native.Mathlib.Omega.{arith}
 use lib.IntN.{ℤ}
 use lib.ListN.{length}
 use borrow.Author.Needs.{needs}
-use Rattle.reader.specs.declared.message.Found.the-variants.{Mask, Answered}
-use Rattle.walk.specs.Standing.{Stand, standAt, Stands, Gone, Halts}
-use Rattle.walk.proofs.Found.{no-message, mask-tag, under-goes, came}
+use Rattle.reader.specs.declared.message.Found.{Found}
+use Rattle.reader.specs.declared.message.Found.the-variants.{Answered}
+use Rattle.walk.specs.Standing.{Stand, standAt, Stands, Gone, Halts, CameBy}
+use Rattle.walk.proofs.Found.{no-message, mask-tag, under-goes, came-once, came-by}
 use Rattle.walk.proofs.Going.{gone-nowhere, gone-on, Goes}
 use Rattle.walk.proofs.under.under.Statement.{statement}
 use Rattle.walk.proofs.under.under.Tie as tie
 
 abbrev Inv-loop : tie.InvT-loop
-Inv-loop holding bytes end rows₀ place₀ sum₀ total₀ rows place sum total =
-    Stands bytes end (standAt holding (record { place = place; messages = sum; rows = total }) rows)
-    × Gone bytes end (standAt holding (record { place = place₀; messages = sum₀; rows = total₀ }) rows₀) (standAt holding (record { place = place; messages = sum; rows = total }) rows)
+Inv-loop holding bytes end once rows₀ tally₀ rows tally =
+    Stands bytes end (standAt holding tally rows)
+    × Gone bytes end (standAt holding tally₀ rows₀) (standAt holding tally rows)
     × (length rows ≡ length rows₀)
+    × (once ≡ true → standAt holding tally₀ rows₀ ≡ standAt holding tally rows)
 
 abbrev μ-loop : tie.MeasureT-loop
-μ-loop holding bytes end rows₀ place₀ sum₀ total₀ rows place sum total = end - place
+μ-loop holding bytes end once rows₀ tally₀ rows tally = end - tally .place
 
 loop-holds : tie.Need-loop-holds Inv-loop μ-loop
-loop-holds c = (c .before .pre, gone-nowhere _ _ _, refl)
+loop-holds c = (c .before .pre, gone-nowhere _ _ _, refl, λ e. refl)
 
 -- where the loop stands
 module _ (c : tie.At-loop Inv-loop μ-loop) where
@@ -31,7 +34,7 @@ module _ (c : tie.At-loop Inv-loop μ-loop) where
   s = c .before .before
 
   abbrev here : Stand
-  here = standAt (s .args .holding) (record { place = c .loop .place; messages = c .loop .sum; rows = c .loop .total }) (c .loop .rows)
+  here = standAt (s .args .holding) (c .loop .tally) (c .loop .rows)
 
   abbrev start : Stand
   start = standAt (s .args .holding) (s .args .from) (s .args .rows .now)
@@ -41,23 +44,26 @@ find-requires c κs =
     let stands = c .before .loop .inv .0 in
     (stands .held, stands .lent, stands .limit, stands .there, stands .room)
 
--- a mask
+-- a mask, or a stop
+halted : (f : tie.After-find Inv-loop μ-loop) (g : Found) → g ≡ f .find .result → Halts g
+    → CameBy (s (f .before .before) .args .once) (s (f .before .before) .args .bytes .now) (s (f .before .before) .args .end) (start (f .before .before))
+    (record { found = g; tally = f .before .before .loop .tally }) (f .find .last .1 .1 .1 .1 .0)
+halted f g e halts =
+    let l = f .before .before in
+    came-by (s l .args .bytes .now) (s l .args .end) (here l) (l .loop .inv .0) (s l .args .once) (start l) (l .loop .inv .3) refl (l .loop .inv .1) g (e ∙ f .find .ensures .0) halts _
+    (f .find .ensures .1)
+
 returns : tie.Need-returns Inv-loop μ-loop
 unfolding Halts
 returns c =
     let f = c .before .before .before in
-    let l = f .before .before in
-    came (s l .args .bytes .now) (s l .args .end) (here l) (l .loop .inv .0) (start l) refl (l .loop .inv .1) Mask (mask-tag (f .find .result) (c .before .match .keys2) ∙ f .find .ensures .0) tt
-    _ (f .find .ensures .1)
+    let mask = mask-tag (f .find .result) (c .before .match .keys2) in
+    halted f _ refl (subst Halts mask tt)
 
--- a stop
 returns-2 : tie.Need-returns-2 Inv-loop μ-loop
 returns-2 c =
-    let f = c .before .before .before .before .before in
-    let l = f .before .before in
     let a = c .before .before .found .given in
-    came (s l .args .bytes .now) (s l .args .end) (here l) (l .loop .inv .0) (start l) refl (l .loop .inv .1) (Answered (a .0 .0)) (sym (a .1) ∙ f .find .ensures .0)
-    (no-message (a .0 .0) (c .match2 .keys2)) _ (f .find .ensures .1)
+    halted (c .before .before .before .before .before) (Answered (a .0 .0)) (sym (a .1)) (no-message (a .0 .0) (c .match2 .keys2))
 
 -- a message
 module _ (c : tie.After-known-told2 Inv-loop μ-loop) where
@@ -68,33 +74,47 @@ module _ (c : tie.After-known-told2 Inv-loop μ-loop) where
   l = f .before .before
 
   goes : Goes (s l .args .bytes .now) (s l .args .end) (here l)
-      (standAt (s l .args .holding) (record { place = c .before .answer .given .0 .1 .0; messages = l .loop .sum + 1; rows = l .loop .total + c .before .answer .given .0 .1 .1 .0 }) (f .find .last .1 .1 .1 .1 .0))
+      (standAt (s l .args .holding) (record { place = c .before .answer .given .0 .1 .0; messages = l .loop .tally .messages + 1; rows = l .loop .tally .rows + c .before .answer .given .0 .1 .1 .0 }) (f .find .last .1 .1 .1 .1 .0))
   goes =
       let a = c .before .answer .given in
       let g = c .before .before .before .before .found .given in
       let said = sym (f .find .ensures .0) ∙ g .1 ∙ ap Answered (a .1) in
-      subst (λ (rows : List ℤ). Goes (s l .args .bytes .now) (s l .args .end) (here l) (standAt (s l .args .holding) (record { place = a .0 .1 .0; messages = l .loop .sum + 1; rows = l .loop .total + a .0 .1 .1 .0 }) rows))
+      subst (λ (rows : List ℤ). Goes (s l .args .bytes .now) (s l .args .end) (here l) (standAt (s l .args .holding) (record { place = a .0 .1 .0; messages = l .loop .tally .messages + 1; rows = l .loop .tally .rows + a .0 .1 .1 .0 }) rows))
       (sym (f .find .ensures .1))
       (under-goes (s l .args .bytes .now) (s l .args .end) (here l) (l .loop .inv .0) (a .0 .0) (a .0 .1 .0) (a .0 .1 .1 .0) said)
 
-add-sum : tie.Need-add-sum Inv-loop μ-loop
-add-sum c =
-    let stands = goes c .stands in
+-- one reading
+returns-3 : tie.Need-returns-3 Inv-loop μ-loop
+unfolding CameBy
+returns-3 c =
+    let m = c .before in
+    let x = s (l m) .args in
+    let a = m .before .before .before .before .found .given in
+    rw (c .if1 .taken)
+    (came-once (x .bytes .now) (x .end) (here (l m)) (l m .loop .inv .0) (start (l m)) (l m .loop .inv .3 (c .if1 .taken)) (Answered (a .0 .0)) (sym (a .1) ∙ f m .find .ensures .0) _ (f m .find .ensures .1))
+
+add-messages : tie.Need-add-t15 Inv-loop μ-loop
+add-messages c =
+    let stands = goes (c .before .before) .stands in
     omega (arith, stands .few, stands .there, stands .limit)
 
-add-total : tie.Need-add-total Inv-loop μ-loop
-add-total c =
-    let stands = goes c .stands in
+add-rows : tie.Need-add-t16 Inv-loop μ-loop
+add-rows c =
+    let stands = goes (c .before .before .before) .stands in
     omega (arith, stands .few, stands .there, stands .limit, stands .rows)
 
 loop-less : tie.Need-loop-less Inv-loop μ-loop
-loop-less c = omega (arith, goes c .past, goes c .stands .there)
+loop-less c =
+    let m = c .before .before .before in
+    omega (arith, goes m .past, goes m .stands .there)
 
 loop-again : tie.Need-loop-again Inv-loop μ-loop
-loop-again c = (goes c .stands, gone-on (l c .loop .inv .1) (goes c .gone), search needs)
+loop-again c =
+    let m = c .before .before .before in
+    (goes m .stands, gone-on (l m .loop .inv .1) (goes m .gone), search needs, λ e. absurd (false≢true (sym (c .before .before .if1 .left) ∙ e)))
 
 pub under-spec : {M : Type 1} → statement M
 under-spec =
     tie.close
     (tie.spec Inv-loop μ-loop loop-holds find-requires (λ c. search needs) (λ c. search needs) (λ c. search needs) returns (λ c. search needs)
-    (λ c. search needs) returns-2 add-sum add-total loop-less loop-again)
+    (λ c. search needs) returns-2 (λ c. search needs) returns-3 add-messages add-rows loop-less loop-again)

@@ -1,0 +1,52 @@
+-- `walk::seek` meets its contract. Assumes nothing.
+use mathlib.Core.Path.{_≡_, _∙_, sym, ap}
+use borrow.Author.Needs.{needs}
+use lib.ListN.{length}
+use Rattle.format.specs.Reading.{Outcome, rowsAfter}
+use Rattle.reader.specs.declared.Verdict.the-variants.{Good}
+use Rattle.reader.specs.Readings.{testsOf, testedBy, soughtBy}
+use Rattle.reader.proofs.Sought.{refused-lent, good-lent, good-reads}
+use Rattle.walk.specs.Standing.{standAt, Once, CameBy}
+use Rattle.walk.proofs.Begins.{begin}
+use Rattle.walk.proofs.seek.Statement.{statement}
+use Rattle.walk.proofs.seek.Tie as tie
+
+returns : tie.Need-returns
+unfolding soughtBy
+returns c =
+    let v = c .before in
+    let t = v .before .before in
+    let x = t .before .before .args in
+    let why = sym (t .tested .ensures) ∙ v .verdict .given .1 in
+    (rw why, refused-lent (x .holding) (x .bytes .now) (x .end) (x .start) (x .rows .now) _ why .2)
+
+-- what is lent is good
+module _ (c : tie.After-enum-told) where
+  abbrev t : tie.After-tested
+  t = c .before .before
+
+  abbrev s : tie.Start
+  s = t .before .before
+
+  good : testedBy (testsOf (s .args .holding) (s .args .bytes .now) (s .args .end) (s .args .start) (length (s .args .rows .now))) ≡ Good
+  good = sym (t .tested .ensures) ∙ c .enum-told .given .1
+
+under-requires : tie.Need-under-requires
+under-requires c κs =
+    let e = c .before in
+    let x = s e .args in
+    begin (good-lent (x .holding) (x .bytes .now) (x .end) (x .start) (x .rows .now) (good e))
+
+returns-2 : tie.Need-returns-2
+unfolding soughtBy CameBy
+returns-2 c =
+    let u = c .before in
+    let e = u .before .before in
+    let x = s e .args in
+    let once : Once (x .bytes .now) (x .end) (standAt (x .holding) (record { place = x .start; messages = 0; rows = 0 }) (x .rows .now)) (u .under .result) (u .under .last .1 .1 .1 .1 .1 .0) = u .under .ensures in
+    let same = good-reads (x .holding) (x .bytes .now) (x .end) (x .start) (x .rows .now) (good e) in
+    (once .found ∙ rw (good e), once .numbers ∙ sym (ap (λ (o : Outcome). rowsAfter o (x .rows .now)) same))
+
+pub seek-spec : {M : Type 1} → statement M
+seek-spec =
+    tie.close (tie.spec (λ c κs. search needs) (λ c. search needs) returns (λ c. search needs) under-requires (λ c. search needs) returns-2)
