@@ -52,7 +52,7 @@ pub read-determined : Determined reader.read.Kinds.ps reader.read.Kinds.r reader
 read-determined = says _ _ _ λ κs args x v p. (p .0, λ i. (tt, (tt, (tt, (tt, (p .1 i, tt))))))
 
 -- the same where a mask is left to be adopted: what is found, and the row buffer
-pub seek-determined : Determined reader.seek.Kinds.ps reader.seek.Kinds.r reader.seek.Reads.Learnt
+pub seek-determined : Determined walk.seek.Kinds.ps walk.seek.Kinds.r walk.seek.Reads.Learnt
 seek-determined = says _ _ _ λ κs args x v p. (p .0, λ i. (tt, (tt, (tt, (tt, (p .1 i, tt))))))
 
 -- "the message's raw bytes as a part of the caller's own stretch"

@@ -3,9 +3,8 @@ pub mod message;
 pub mod raw;
 
 ghost use mathlib.Core.Path.{_≡_};
-ghost use lib.ListN.{length};
 ghost use Rattle.format.specs.Reading.{rowsAfter, placed};
-ghost use Rattle.reader.specs.Readings.{testsOf, testedBy, readingOf, outcomeAt, soughtAt};
+ghost use Rattle.reader.specs.Readings.{testsOf, testedBy, readingOf, outcomeAt};
 use crate::message::Found;
 use crate::message::adopted;
 use crate::message::find;
@@ -57,27 +56,19 @@ pub fn tested(holding: Holding, bytes: &[u8], end: usize, start: usize, room: us
     Verdict::Good
 }
 
-// Reads the message at a place of a stretch of so many bits, unless it is a mask: that is left to be adopted, so that
-// no holding is handed on where none changes. The row buffer gets a message's rows first and keeps its old numbers
-// after them; a stop changes nothing.
-pub fn seek(holding: Holding, bytes: &[u8], end: usize, start: usize, rows: &mut [i32]) -> Found
-    ensures { λ r. ⌜ r ≡ soughtAt holding (now (bytes .entry)) end start (length (now (rows .entry))) ⌝ }
+// Reads the message at a place of a stretch of so many bits. The row buffer gets a message's rows first and keeps its old
+// numbers after them; a stop changes nothing.
+pub fn read(holding: Holding, bytes: &[u8], end: usize, start: usize, rows: &mut [i32]) -> Reading
+    ensures { λ r. ⌜ r ≡ readingOf holding (outcomeAt holding (now (bytes .entry)) end start (now (rows .entry))) ⌝ }
     ensures { λ _. ⌜ now (rows .exit) ≡ rowsAfter (outcomeAt holding (now (bytes .entry)) end start (now (rows .entry))) (now (rows .entry)) ⌝ }
 {
     let room = rows.len();
     let verdict = tested(holding, bytes, end, start, room);
     if let Verdict::Refused(r) = verdict {
-        return Found::Answered(Answer::Refused(r, 0));
+        let answer = Answer::Refused(r, 0);
+        return Reading { answer, holding };
     }
-    find(holding, bytes, end, start, rows)
-}
-
-// Reads the message at a place, a mask too.
-pub fn read(holding: Holding, bytes: &[u8], end: usize, start: usize, rows: &mut [i32]) -> Reading
-    ensures { λ r. ⌜ r ≡ readingOf holding (outcomeAt holding (now (bytes .entry)) end start (now (rows .entry))) ⌝ }
-    ensures { λ _. ⌜ now (rows .exit) ≡ rowsAfter (outcomeAt holding (now (bytes .entry)) end start (now (rows .entry))) (now (rows .entry)) ⌝ }
-{
-    let found = seek(holding, bytes, end, start, rows);
+    let found = find(holding, bytes, end, start, rows);
     match found {
         Found::Mask => adopted(holding, bytes, end, start + OPENING),
         Found::Answered(answer) => Reading { answer, holding },
