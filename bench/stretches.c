@@ -75,11 +75,17 @@ static size_t repeat(stretch *stretches, unsigned count, const mask *m, putter *
 /* Stretches of (b) and (c); the later inputs do with fewer. */
 enum { COUNT = 20, FEW = 4 };
 
-/* (b) has 40 satellites of GPS and 24 of BeiDou, each with four signals and no cell mask. */
-static size_t make_biases(stretch *stretches) {
+/* 40 satellites of GPS and 24 of BeiDou, the fewest systems that have as many. */
+static mask mask_of_two(unsigned first_signals, unsigned second_signals, unsigned flag) {
   mask m = {.systems = 2};
-  m.system[0] = (constellation){.id = GPS, .satellites = choose(40, 40), .signals = 0x80A4};
-  m.system[1] = (constellation){.id = BEIDOU, .satellites = choose(24, 40), .signals = 0xA480};
+  m.system[0] = (constellation){.id = GPS, .satellites = choose(40, 40), .signals = first_signals, .flag = flag};
+  m.system[1] = (constellation){.id = BEIDOU, .satellites = choose(24, 40), .signals = second_signals, .flag = flag};
+  return m;
+}
+
+/* (b) has four signals for each satellite and no cell mask. */
+static size_t make_biases(stretch *stretches) {
+  mask m = mask_of_two(0x80A4, 0xA480, 0);
   for (unsigned k = 0; k < 40; k++) m.system[0].cells[k] = m.system[1].cells[k] = 0xF;
   return repeat(stretches, COUNT, &m, put_phase_biases);
 }
@@ -123,6 +129,11 @@ static size_t make_no_systems(stretch *stretches) { return repeat_mask(stretches
 
 static size_t make_no_signals(stretch *stretches) {
   mask m = full_mask(NO_SIGNALS);
+  return repeat_mask(stretches, &m);
+}
+
+static size_t make_no_signals_of_two(stretch *stretches) {
+  mask m = mask_of_two(NO_SIGNALS, NO_SIGNALS, 1);
   return repeat_mask(stretches, &m);
 }
 
@@ -227,9 +238,9 @@ static const struct {
 } inputs[] = {
     {"a", make_hour},           {"b", make_biases},      {"c", make_heads},
     {"d", make_keys},           {"e1", make_masks},      {"e2", make_no_systems},
-    {"e3", make_no_signals},    {"f", make_services},    {"g2", make_an_orbit},
-    {"g3", make_a_clock},       {"g4", make_a_code_bias}, {"g5", make_a_phase_bias},
-    {"g11", make_a_combination}, {DAMAGED, make_damaged},
+    {"e3", make_no_signals},    {"e4", make_no_signals_of_two}, {"f", make_services},
+    {"g2", make_an_orbit},      {"g3", make_a_clock},    {"g4", make_a_code_bias},
+    {"g5", make_a_phase_bias},  {"g11", make_a_combination}, {DAMAGED, make_damaged},
 };
 
 size_t make_input(stretch *stretches, const char *name) {

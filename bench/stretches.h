@@ -16,6 +16,7 @@ enum { SUBFRAME = 5 * PART, HOUR = 720, MOST = 8 * HOUR };
      e1       masks back to back, of 64 satellites of five systems, four signals, 256 cells in cell masks
      e2       masks back to back, of no systems
      e3       masks back to back, of 64 satellites of five systems, with cell flags and no signals
+     e4       the same of two systems, the fewest that have 64 satellites
      f        sub type 10 of size 0 back to back
      g2 .. g5, g11    that sub type back to back under a mask of one satellite with one signal
      N        for growth: HOUR data parts of (a)'s messages, a mask in each, always the same ones, back to back in

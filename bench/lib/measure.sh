@@ -8,7 +8,7 @@
 #   per_call KIND WIDTH           of a call (bench/fields.c) and its return: the mean over the eight alignments
 . bench/lib/count.sh
 
-INPUTS='a b c d e1 e2 e3 f g2 g3 g4 g5 g11'
+INPUTS='a b c d e1 e2 e3 e4 f g2 g3 g4 g5 g11'
 
 build_read() {
     build read host bench/read.c bench/stretches.c bench/encode.c bench/bitwise.c bench/getbit.c bench/tuned.c
