@@ -13,3 +13,8 @@ frontAt bytes end start = record { bits = field bytes start 56; end = end; start
 pub record Opens (bytes : List ℕ) (f : Front) : Type 0 where
   pub within : Within bytes (f .end) (f .start)
   pub bits : f .bits ≡ field bytes (f .start) 56
+
+-- a front of some string
+pub record Opened (f : Front) : Type 0 where
+  pub bytes : List ℕ
+  pub opens : Opens bytes f

@@ -6,7 +6,7 @@ ghost use Prim.Native.Nat.{ℕ, _+_, _^_, _≤_, _<_};
 ghost use Rattle.format.specs.Ends.{Within, endFrom};
 ghost use Rattle.format.specs.Messages as Messages;
 ghost use Rattle.holding.specs.Held.{View, skyIn};
-ghost use Rattle.heads.specs.Fronts.{Opens};
+ghost use Rattle.heads.specs.Fronts.{Opens, Opened};
 ghost use Rattle.heads.specs.Heads.{commonOf, Small};
 ghost use Rattle.heads.specs.Headings.{headWith, chosenAt, Shows, saidBy, FitsHeading, networked, networkBy, afterFlags, gatedBy, underBy};
 ghost use Rattle.heads.specs.Sorting.{headingFor};
@@ -164,7 +164,10 @@ fn flagged(under: Under, f: Front, bytes: &[u8], h: CommonHead) -> Heading
 {
     let taken = taken(f, HEADED, FLAG_BITS);
     match taken {
-        Taken::Short(_) => Heading::Refused(Refusal::Short, short_by(FLAGS, f.end - (f.start + HEADED))),
+        Taken::Short(_) => Heading::Refused(
+            Refusal::Short,
+            short_by(FLAGS, f.end - (f.start + HEADED)),
+        ),
         Taken::Whole(flags) => by_flags(under, f, bytes, h, flags),
     }
 }
@@ -218,7 +221,7 @@ const PACKET_TYPE: i32 = table::PACKET as i32;
 
 // A packet's part, which needs no mask.
 pub fn packet(f: Front) -> Heading
-    requires { ⌜ f .start + 16 ≤ f .end ⌝ }
+    requires { ⌜ Opened f × (f .start + 16 ≤ f .end) ⌝ }
     ensures { λ r. ⌜ ((bs : List ℕ) → Opens bs f → (v : View) → saidBy v r ≡ endFrom Messages.packet bs (f .end) (f .start + 16)) ⌝ }
     ensures { λ r. ⌜ FitsHeading r ⌝ }
 {

@@ -4,14 +4,13 @@ pub mod heading;
 
 ghost use mathlib.Core.Path.{_≡_};
 ghost use mathlib.Core.List.{List};
-ghost use Prim.Native.Nat.{ℕ, _+_, _-_, _≤_, _<_};
-ghost use Rattle.bits.specs.declared.read.Taken.the-variants as Bits;
+ghost use Prim.Native.Nat.{ℕ, _+_, _≤_, _<_};
 ghost use Rattle.bits.specs.Places.{field};
 ghost use Rattle.bits.specs.Short.{takenAt};
 ghost use Rattle.format.specs.Ends.{endFrom};
 ghost use Rattle.format.specs.Messages as Messages;
 ghost use Rattle.format.specs.Table as Table;
-ghost use Rattle.heads.specs.Fronts.{frontAt, Opens};
+ghost use Rattle.heads.specs.Fronts.{frontAt, Opens, Opened};
 ghost use Rattle.heads.specs.Heads.{openingBy, headFrom, commonBy};
 use bits::read::Taken;
 use bits::read::Widths;
@@ -81,7 +80,6 @@ fn within(f: Front, first: usize, w: usize) -> u64
 pub fn taken(f: Front, first: usize, w: usize) -> Taken
     requires { ⌜ (first + w < 56) × (f .start + first ≤ f .end) ⌝ }
     ensures { λ r. ⌜ ((bs : List ℕ) → Opens bs f → r ≡ takenAt bs (f .end) (f .start + first) w) ⌝ }
-    ensures { λ r. ⌜ ((m : ℕ) → r ≡ Bits.Short m → f .end - (f .start + first) < w) ⌝ }
 {
     let left = f.end - (f.start + first);
     if left < w {
@@ -156,7 +154,7 @@ pub const HEADED: usize = OPENING + HEAD_BITS;
 // The common head with an hourly epoch, behind the opening. Its fields are cut at once, and which of them is short is
 // asked only where one is.
 pub fn common(f: Front) -> CommonTaken
-    requires { ⌜ f .start + 16 ≤ f .end ⌝ }
+    requires { ⌜ Opened f × (f .start + 16 ≤ f .end) ⌝ }
     ensures { λ r. ⌜ ((bs : List ℕ) → Opens bs f → r ≡ commonBy (endFrom (Messages.common 12) bs (f .end) (f .start + 16))) ⌝ }
 {
     let taken = taken(f, OPENING, HEAD_BITS);

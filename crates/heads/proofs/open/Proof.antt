@@ -34,16 +34,16 @@ unfolding openingBy
 returns-3 c =
     let r = c .before .before in
     λ bs opens.
-        let at = opens .within in
-        rw (number-end at (both r opens) (omega arith), eq-eqb (r .within .result / 16) 4073 (c .before .if2 .left), type-cut at (both r opens) (omega arith) (omega arith))
+    let at = opens .within in
+    rw (number-end at (both r opens) (omega arith), eq-eqb (r .within .result / 16) 4073 (c .before .if2 .left), type-cut at (both r opens) (omega arith) (omega arith))
 
 returns-4 : tie.Need-returns-4
 unfolding openingBy
 returns-4 c =
     let r = c .before .before in
     λ bs opens.
-        let at = opens .within in
-        rw (number-end at (both r opens) (omega arith), eq-eqb (r .within .result / 16) 4073 (c .before .if2 .left), type-end at (both r opens) (omega arith))
+    let at = opens .within in
+    rw (number-end at (both r opens) (omega arith), eq-eqb (r .within .result / 16) 4073 (c .before .if2 .left), type-end at (both r opens) (omega arith))
 
 pub open-spec : {M : Type 1} → statement M
 open-spec =

@@ -1,6 +1,5 @@
 -- `heads::taken` meets its contract. Assumes nothing.
 use mathlib.Core.Path.{_∙_, sym, ap}
-use mathlib.Core.Bool.{false≢true}
 use borrow.Author.Needs.{needs}
 use Rattle.bits.specs.declared.read.Taken.the-variants.{Whole}
 use Rattle.bits.proofs.Short.{taken-whole, taken-short}
@@ -8,10 +7,10 @@ use Rattle.heads.proofs.taken.Statement.{statement}
 use Rattle.heads.proofs.taken.Tie as tie
 
 returns : tie.Need-returns
-returns c = (λ bs opens. sym (taken-short bs _ _ _ (c .if1 .taken)), λ m short. c .if1 .taken)
+returns c = λ bs opens. sym (taken-short bs _ _ _ (c .if1 .taken))
 
 returns-2 : tie.Need-returns-2
-returns-2 c = (λ bs opens. ap Whole (c .within .ensures bs opens) ∙ sym (taken-whole bs _ _ _ (c .before .if1 .left)), λ m short. absurd (false≢true cc))
+returns-2 c = λ bs opens. ap Whole (c .within .ensures bs opens) ∙ sym (taken-whole bs _ _ _ (c .before .if1 .left))
 
 pub taken-spec : {M : Type 1} → statement M
 taken-spec = tie.close (tie.spec (λ c. search needs) (λ c. search needs) (λ c. search needs) returns (λ c κs. search needs) returns-2)
