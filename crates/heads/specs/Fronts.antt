@@ -6,7 +6,7 @@ use Rattle.bits.specs.Places.{field}
 use Rattle.format.specs.Ends.{Within}
 use Rattle.heads.specs.declared.Front.{Front}
 
-unfoldable pub frontAt : List ℕ → ℕ → ℕ → Front
+abbrev pub frontAt : List ℕ → ℕ → ℕ → Front
 frontAt bytes end start = record { bits = field bytes start 56; end = end; start = start }
 
 -- a front of a string, at a place of its stretch

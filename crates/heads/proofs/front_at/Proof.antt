@@ -2,13 +2,10 @@
 use mathlib.Core.Path.{ap}
 use Prim.Native.Nat.{ℕ}
 use borrow.Author.Needs.{needs}
-use Rattle.heads.specs.declared.Front.{Front}
-use Rattle.heads.specs.Fronts.{frontAt}
 use Rattle.heads.proofs.front_at.Statement.{statement}
 use Rattle.heads.proofs.front_at.Tie as tie
 
 returns : tie.Need-returns
-unfolding frontAt
 returns c =
     let x = c .before .before .args in
     ap (λ (b : ℕ). record { bits = b; end = x .end; start = x .start }) (c .read-field .ensures)
