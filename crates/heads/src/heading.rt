@@ -134,8 +134,7 @@ fn selection(n: usize, f: Front, bytes: &[u8], numbers: Head, shape: usize) -> H
     }
 }
 
-// By the three flags, of which the first two say which columns the rows have, and the third whether a
-// network follows.
+// By the three flags, of which the first two say which columns the rows have, and the third whether a network follows.
 fn by_flags(under: Under, f: Front, bytes: &[u8], h: CommonHead, flags: u64) -> Heading
     requires { ⌜ (under .subtype < 16) × (under .n ≤ 64) × (under .layout .shape ≡ 0) × (flags < 8) × Small h × Within (now bytes) (f .end) (f .start + 40) × Opens (now bytes) f ⌝ }
     ensures { λ r. ⌜ ((v : View) → Shows v (under .n) → saidBy v r ≡ endFrom (afterFlags under h flags (skyIn v)) (now (bytes .entry)) (f .end) (f .start + 40)) ⌝ }

@@ -44,20 +44,20 @@ pub const ISSUE: usize = 4;
 
 pub const AFTER_EPOCH: usize = INTERVAL + INDICATOR + ISSUE;
 
-// What a message is opened by: its first bits, where the stretch ends and where the message starts. All that stands
-// before a selection lies in them, so that they are read once, and each field is cut from them.
+// The first bits of a message, where its stretch ends and where it starts. All fields before a selection lie in these
+// bits: they are read once, and each field is cut from them.
 pub struct Front {
     pub bits: u64,
     pub end: usize,
     pub start: usize,
 }
 
-// How many they are, as many as one reading takes, and how many bits of a number stay free above them.
+// How many they are: as many as one reading takes; and how many bits of a number are above them.
 pub const FRONT: usize = 56;
 
 const ABOVE: usize = 64 - FRONT;
 
-// Bits past the string's end are zero.
+// The front at a place, whether or not the string has all of its bits: those past its end are zero.
 pub fn front_at(bytes: &[u8], end: usize, start: usize) -> Front
     ensures { λ r. ⌜ r ≡ frontAt (now (bytes .entry)) end start ⌝ }
 {
@@ -76,14 +76,14 @@ fn within(f: Front, first: usize, w: usize) -> u64
     cut(f.bits, ABOVE + first, w)
 }
 
-// The same w bits, or how many of them lie past the end.
+// The same w bits, or how many of them lie past the stretch's end.
 pub fn taken(f: Front, first: usize, w: usize) -> Taken
     requires { ⌜ (first + w < 56) × (f .start + first ≤ f .end) ⌝ }
     ensures { λ r. ⌜ ((bs : List ℕ) → Opens bs f → r ≡ takenAt bs (f .end) (f .start + first) w) ⌝ }
 {
-    let left = f.end - (f.start + first);
-    if left < w {
-        return Taken::Short(w - left);
+    let left = f.end - f.start;
+    if left < first + w {
+        return Taken::Short(first + w - left);
     }
     Taken::Whole(within(f, first, w))
 }

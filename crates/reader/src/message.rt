@@ -70,8 +70,8 @@ pub fn adopted(holding: Holding, bytes: &[u8], end: usize, place: usize) -> Read
     }
 }
 
-// What answers to a refusal that comes before the sub type: idle where no bit is set. Where the stretch has all bits of
-// the front and one is set, that is seen at once.
+// What answers to a refusal that comes before the sub type: idle where no bit is set. A set bit of a front that the
+// stretch has whole is seen at once. (That all bits of the front matter here also keeps its reading one load.)
 fn unopened(front: Front, bytes: &[u8], r: Refusal, missing: usize) -> Answer
     requires { ⌜ Opens (now bytes) front ⌝ }
     ensures { λ x. ⌜ x ≡ unopenedAt (now (bytes .entry)) (front .end) (front .start) r missing ⌝ }
