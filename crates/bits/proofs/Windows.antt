@@ -65,10 +65,13 @@ shifted y s w t m e =
     rw (e, mod-pow-add (y * 2 ^ s) (w + t) s, shl-shr y s, mul-mod-left y (2 ^ s), ← (shr-shr (y % 2 ^ (w + t) * 2 ^ s + 0) s t), high (y % 2 ^ (w + t)) s (pow-pos s))
     (Pow.field y w t)
 
--- the w bits after the first s of a window
-pub in-window : (bs : List ℕ) (place s w t : ℕ) → s + w + t ≡ 64 → field bs place 64 / 2 ^ t % 2 ^ w ≡ field bs (place + s) w
-in-window bs place s w t e =
+-- the w bits after the first s of a field of m bits, and of a window
+pub in-field : (bs : List ℕ) (place m s w t : ℕ) → s + w + t ≡ m → field bs place m / 2 ^ t % 2 ^ w ≡ field bs (place + s) w
+in-field bs place m s w t e =
     rw (← e, field-add bs place (s + w) t, high (field bs place (s + w)) t (field-lt bs (place + (s + w)) t), field-add bs place s w, low (field bs place s) w (field-lt bs (place + s) w))
+
+pub in-window : (bs : List ℕ) (place s w t : ℕ) → s + w + t ≡ 64 → field bs place 64 / 2 ^ t % 2 ^ w ≡ field bs (place + s) w
+in-window bs place = in-field bs place 64
 
 -- the w bits at a place, cut out of the window at their first byte
 pub at-place : (bs : List ℕ) (place w : ℕ) → w ≤ 56 → field bs (8 * (place / 8)) 64 / 2 ^ (64 - place % 8 - w) % 2 ^ w ≡ field bs place w

@@ -1,3 +1,4 @@
+pub mod Fronts
 pub mod Heads
 pub mod Headings
 pub mod Sorting

@@ -1,10 +1,12 @@
 // What a message says before its body: its head, the keys and the shape of its rows and where the body begins; with
 // every refusal on the way there (document 01, "Reader's order").
 ghost use mathlib.Core.Path.{_≡_};
-ghost use Prim.Native.Nat.{_^_, _≤_, _<_};
+ghost use mathlib.Core.List.{List};
+ghost use Prim.Native.Nat.{ℕ, _+_, _^_, _≤_, _<_};
 ghost use Rattle.format.specs.Ends.{Within, endFrom};
 ghost use Rattle.format.specs.Messages as Messages;
 ghost use Rattle.holding.specs.Held.{View, skyIn};
+ghost use Rattle.heads.specs.Fronts.{Opens, Opened};
 ghost use Rattle.heads.specs.Heads.{commonOf, Small};
 ghost use Rattle.heads.specs.Headings.{headWith, chosenAt, Shows, saidBy, FitsHeading, networked, networkBy, afterFlags, gatedBy, underBy};
 ghost use Rattle.heads.specs.Sorting.{headingFor};
@@ -14,11 +16,14 @@ ghost use Rattle.rows.specs.Table.{shapeAt, shapeFor};
 ghost use Rattle.table.specs.Shapes.{shapesFrom};
 use crate::CommonHead;
 use crate::CommonTaken;
+use crate::Front;
+use crate::HEADED;
+use crate::OPENING;
+use crate::taken;
 use bits::read::Taken;
 use bits::read::Widths;
 use bits::read::read_field;
 use bits::read::short_by;
-use bits::read::take_field;
 use format::ABSENT;
 use format::Head;
 use format::Refusal;
@@ -90,32 +95,37 @@ fn chosen(bytes: &[u8], place: usize, n: usize) -> u64
     (first << 32) + (second << (64 - n))
 }
 
+// Three flags, how many bits they have, and where they end from the message's start on.
+const FLAGS: Widths = Widths {
+    first: 1,
+    second: 1,
+    third: 1,
+    fourth: 0,
+};
+
+const FLAG_BITS: usize = 3;
+
+const FLAGGED: usize = HEADED + FLAG_BITS;
+
 // How many bits a network has.
 const NETWORK: usize = 5;
 
 // A network and its selection of n satellites, behind which rows of a shape begin.
-fn selection(
-    n: usize,
-    bytes: &[u8],
-    end: usize,
-    place: usize,
-    numbers: Head,
-    shape: usize,
-) -> Heading
-    requires { ⌜ (n ≤ 64) × Laid (shapeFor shape) × Within (now bytes) end place ⌝ }
-    ensures { λ r. ⌜ ((v : View) → Shows v n → saidBy v r ≡ endFrom (networkBy (v .satellites) numbers (shapeAt shape)) (now (bytes .entry)) end place) ⌝ }
+fn selection(n: usize, f: Front, bytes: &[u8], numbers: Head, shape: usize) -> Heading
+    requires { ⌜ (n ≤ 64) × Laid (shapeFor shape) × Within (now bytes) (f .end) (f .start + 40) × Opens (now bytes) f ⌝ }
+    ensures { λ r. ⌜ ((v : View) → Shows v n → saidBy v r ≡ endFrom (networkBy (v .satellites) numbers (shapeAt shape)) (now (bytes .entry)) (f .end) (f .start + 40)) ⌝ }
     ensures { λ r. ⌜ FitsHeading r ⌝ }
 {
-    let taken = take_field(bytes, end, place, NETWORK);
+    let taken = taken(f, FLAGGED, NETWORK);
     match taken {
         Taken::Short(missing) => Heading::Refused(Refusal::Short, missing),
         Taken::Whole(network) => {
             if network == 0 {
                 return Heading::Refused(Refusal::Network, 0);
             }
-            let at = place + NETWORK;
-            if end - at < n {
-                return Heading::Refused(Refusal::Short, n - (end - at));
+            let at = f.start + FLAGGED + NETWORK;
+            if f.end - at < n {
+                return Heading::Refused(Refusal::Short, n - (f.end - at));
             }
             let head = with_network(numbers, network as i32);
             let keys = Keys::Satellites(chosen(bytes, at, n));
@@ -124,18 +134,10 @@ fn selection(
     }
 }
 
-// By the three flags before a place, of which the first two say which columns the rows have, and the third whether a
-// network follows.
-fn by_flags(
-    under: Under,
-    bytes: &[u8],
-    end: usize,
-    place: usize,
-    h: CommonHead,
-    flags: u64,
-) -> Heading
-    requires { ⌜ (under .subtype < 16) × (under .n ≤ 64) × (under .layout .shape ≡ 0) × (flags < 8) × Small h × Within (now bytes) end place ⌝ }
-    ensures { λ r. ⌜ ((v : View) → Shows v (under .n) → saidBy v r ≡ endFrom (afterFlags under h flags (skyIn v)) (now (bytes .entry)) end place) ⌝ }
+// By the three flags, of which the first two say which columns the rows have, and the third whether a network follows.
+fn by_flags(under: Under, f: Front, bytes: &[u8], h: CommonHead, flags: u64) -> Heading
+    requires { ⌜ (under .subtype < 16) × (under .n ≤ 64) × (under .layout .shape ≡ 0) × (flags < 8) × Small h × Within (now bytes) (f .end) (f .start + 40) × Opens (now bytes) f ⌝ }
+    ensures { λ r. ⌜ ((v : View) → Shows v (under .n) → saidBy v r ≡ endFrom (afterFlags under h flags (skyIn v)) (now (bytes .entry)) (f .end) (f .start + 40)) ⌝ }
     ensures { λ r. ⌜ FitsHeading r ⌝ }
 {
     let shape = under.layout.shape + (flags / 2) as usize;
@@ -147,39 +149,32 @@ fn by_flags(
         ABSENT,
     );
     if flags % 2 != 0 {
-        return selection(under.n, bytes, end, place, numbers, shape);
+        return selection(under.n, f, bytes, numbers, shape);
     }
     let keys = Keys::Satellites(ALL);
-    Heading::Rows(numbers, Body { keys, shape }, place)
+    Heading::Rows(numbers, Body { keys, shape }, f.start + FLAGGED)
 }
 
-// Three flags, and how many bits they have.
-const FLAGS: Widths = Widths {
-    first: 1,
-    second: 1,
-    third: 1,
-    fourth: 0,
-};
-
-const FLAG_BITS: usize = 3;
-
 // Flags, and what they say.
-fn flagged(under: Under, bytes: &[u8], end: usize, place: usize, h: CommonHead) -> Heading
-    requires { ⌜ (under .subtype < 16) × (under .n ≤ 64) × (under .layout .shape ≡ 0) × Small h × Within (now bytes) end place ⌝ }
-    ensures { λ r. ⌜ ((v : View) → Shows v (under .n) → saidBy v r ≡ endFrom (Messages.flagged (under .subtype) (shapesFrom (under .layout .shape)) (skyIn v) (commonOf h)) (now (bytes .entry)) end place) ⌝ }
+fn flagged(under: Under, f: Front, bytes: &[u8], h: CommonHead) -> Heading
+    requires { ⌜ (under .subtype < 16) × (under .n ≤ 64) × (under .layout .shape ≡ 0) × Small h × Within (now bytes) (f .end) (f .start + 37) × Opens (now bytes) f ⌝ }
+    ensures { λ r. ⌜ ((v : View) → Shows v (under .n) → saidBy v r ≡ endFrom (Messages.flagged (under .subtype) (shapesFrom (under .layout .shape)) (skyIn v) (commonOf h)) (now (bytes .entry)) (f .end) (f .start + 37)) ⌝ }
     ensures { λ r. ⌜ FitsHeading r ⌝ }
 {
-    let taken = take_field(bytes, end, place, FLAG_BITS);
+    let taken = taken(f, HEADED, FLAG_BITS);
     match taken {
-        Taken::Short(_) => Heading::Refused(Refusal::Short, short_by(FLAGS, end - place)),
-        Taken::Whole(flags) => by_flags(under, bytes, end, place + FLAG_BITS, h, flags),
+        Taken::Short(_) => Heading::Refused(
+            Refusal::Short,
+            short_by(FLAGS, f.end - (f.start + HEADED)),
+        ),
+        Taken::Whole(flags) => by_flags(under, f, bytes, h, flags),
     }
 }
 
 // The gate: nothing held, then another issue; then what follows the common head.
-fn gated(under: Under, bytes: &[u8], end: usize, place: usize, h: CommonHead) -> Heading
-    requires { ⌜ (under .subtype < 16) × (under .n ≤ 64) × LaidOut (under .layout) × Small h × Within (now bytes) end place ⌝ }
-    ensures { λ r. ⌜ ((v : View) → Shows v (under .n) → saidBy v r ≡ endFrom (gatedBy under (skyIn v) (commonOf h)) (now (bytes .entry)) end place) ⌝ }
+fn gated(under: Under, f: Front, bytes: &[u8], h: CommonHead) -> Heading
+    requires { ⌜ (under .subtype < 16) × (under .n ≤ 64) × LaidOut (under .layout) × Small h × Within (now bytes) (f .end) (f .start + 37) × Opens (now bytes) f ⌝ }
+    ensures { λ r. ⌜ ((v : View) → Shows v (under .n) → saidBy v r ≡ endFrom (gatedBy under (skyIn v) (commonOf h)) (now (bytes .entry)) (f .end) (f .start + 37)) ⌝ }
     ensures { λ r. ⌜ FitsHeading r ⌝ }
 {
     if !under.held {
@@ -189,29 +184,23 @@ fn gated(under: Under, bytes: &[u8], end: usize, place: usize, h: CommonHead) ->
         return Heading::Refused(Refusal::OtherIssue, 0);
     }
     if under.layout.flagged {
-        return flagged(under, bytes, end, place, h);
+        return flagged(under, f, bytes, h);
     }
     let numbers = head(under.subtype, h, ABSENT, ABSENT, ABSENT);
     let keys = table::over(under.layout.cells, ALL);
     let shape = under.layout.shape;
-    Heading::Rows(numbers, Body { keys, shape }, place)
+    Heading::Rows(numbers, Body { keys, shape }, f.start + HEADED)
 }
 
 // A sub type that is read under the mask, behind its number and sub type.
-pub fn masked(under: Under, bytes: &[u8], end: usize, place: usize) -> Heading
-    requires { ⌜ (under .subtype < 16) × (under .n ≤ 64) × LaidOut (under .layout) × Within (now bytes) end place ⌝ }
-    ensures { λ r. ⌜ ((v : View) → Shows v (under .n) → saidBy v r ≡ endFrom (underBy under (skyIn v)) (now (bytes .entry)) end place) ⌝ }
+pub fn masked(under: Under, f: Front, bytes: &[u8]) -> Heading
+    requires { ⌜ (under .subtype < 16) × (under .n ≤ 64) × LaidOut (under .layout) × Within (now bytes) (f .end) (f .start + 16) × Opens (now bytes) f ⌝ }
+    ensures { λ r. ⌜ ((v : View) → Shows v (under .n) → saidBy v r ≡ endFrom (underBy under (skyIn v)) (now (bytes .entry)) (f .end) (f .start + 16)) ⌝ }
     ensures { λ r. ⌜ FitsHeading r ⌝ }
 {
-    let common = crate::common(bytes, end, place);
+    let common = crate::common(f);
     match common {
-        CommonTaken::Whole(h) => gated(
-            under,
-            bytes,
-            end,
-            place + crate::HOURLY + crate::AFTER_EPOCH,
-            h,
-        ),
+        CommonTaken::Whole(h) => gated(under, f, bytes, h),
         CommonTaken::Short(missing) => Heading::Refused(Refusal::Short, missing),
     }
 }
@@ -230,14 +219,15 @@ const PACKET_BITS: usize = 6;
 const PACKET_TYPE: i32 = table::PACKET as i32;
 
 // A packet's part, which needs no mask.
-pub fn packet(bytes: &[u8], end: usize, place: usize) -> Heading
-    requires { ⌜ Within (now bytes) end place ⌝ }
-    ensures { λ r. ⌜ ((v : View) → saidBy v r ≡ endFrom Messages.packet (now (bytes .entry)) end place) ⌝ }
+pub fn packet(f: Front) -> Heading
+    requires { ⌜ Opened f × (f .start + 16 ≤ f .end) ⌝ }
+    ensures { λ r. ⌜ ((bs : List ℕ) → Opens bs f → (v : View) → saidBy v r ≡ endFrom Messages.packet bs (f .end) (f .start + 16)) ⌝ }
     ensures { λ r. ⌜ FitsHeading r ⌝ }
 {
-    let taken = take_field(bytes, end, place, PACKET_BITS);
+    let place = f.start + OPENING;
+    let taken = taken(f, OPENING, PACKET_BITS);
     match taken {
-        Taken::Short(_) => Heading::Refused(Refusal::Short, short_by(PACKET, end - place)),
+        Taken::Short(_) => Heading::Refused(Refusal::Short, short_by(PACKET, f.end - place)),
         Taken::Whole(n) => {
             let size = n % 4;
             let numbers = Head {
@@ -266,15 +256,15 @@ pub struct Seen {
 }
 
 // A message of a kind behind its number and sub type. A mask has no body: it is read in its own way.
-pub fn of(kind: Kind, seen: Seen, bytes: &[u8], end: usize, place: usize) -> Heading
-    requires { ⌜ (seen .subtype < 16) × (seen .n ≤ 64) × OfTable kind × Within (now bytes) end place ⌝ }
-    ensures { λ r. ⌜ ((v : View) → Shows v (seen .n) → saidBy v r ≡ endFrom (headingFor kind seen (skyIn v)) (now (bytes .entry)) end place) ⌝ }
+pub fn of(kind: Kind, seen: Seen, f: Front, bytes: &[u8]) -> Heading
+    requires { ⌜ (seen .subtype < 16) × (seen .n ≤ 64) × OfTable kind × Within (now bytes) (f .end) (f .start + 16) × Opens (now bytes) f ⌝ }
+    ensures { λ r. ⌜ ((v : View) → Shows v (seen .n) → saidBy v r ≡ endFrom (headingFor kind seen (skyIn v)) (now (bytes .entry)) (f .end) (f .start + 16)) ⌝ }
     ensures { λ r. ⌜ FitsHeading r ⌝ }
 {
     match kind {
         Kind::Other => Heading::Refused(Refusal::SubType, 0),
         Kind::Mask => Heading::Refused(Refusal::SubType, 0),
-        Kind::Packet => packet(bytes, end, place),
+        Kind::Packet => packet(f),
         Kind::Masked(layout) => {
             let under = Under {
                 held: seen.held,
@@ -283,7 +273,7 @@ pub fn of(kind: Kind, seen: Seen, bytes: &[u8], end: usize, place: usize) -> Hea
                 subtype: seen.subtype,
                 layout,
             };
-            masked(under, bytes, end, place)
+            masked(under, f, bytes)
         }
     }
 }

@@ -3,15 +3,20 @@
 pub mod heading;
 
 ghost use mathlib.Core.Path.{_≡_};
-ghost use Rattle.format.specs.Ends.{Within, endFrom};
+ghost use mathlib.Core.List.{List};
+ghost use Prim.Native.Nat.{ℕ, _+_, _≤_, _<_};
+ghost use Rattle.bits.specs.Places.{field};
+ghost use Rattle.bits.specs.Short.{takenAt};
+ghost use Rattle.format.specs.Ends.{endFrom};
 ghost use Rattle.format.specs.Messages as Messages;
 ghost use Rattle.format.specs.Table as Table;
+ghost use Rattle.heads.specs.Fronts.{frontAt, Opens, Opened};
 ghost use Rattle.heads.specs.Heads.{openingBy, headFrom, commonBy};
 use bits::read::Taken;
 use bits::read::Widths;
+use bits::read::cut;
 use bits::read::read_field;
 use bits::read::short_by;
-use bits::read::take_field;
 use format::Refusal;
 
 // The number that is ours; how many bits it and the sub type have, and how many sub types those can say.
@@ -28,7 +33,7 @@ pub const OPENING: usize = NUMBER + SUB_TYPE;
 // The epoch's width: a mask's, and the hourly one of all others.
 pub const EPOCH: usize = 20;
 
-pub const HOURLY: usize = 12;
+const HOURLY: usize = 12;
 
 // The widths of what follows the epoch in a common head, and how many bits these are.
 pub const INTERVAL: usize = 4;
@@ -39,22 +44,66 @@ pub const ISSUE: usize = 4;
 
 pub const AFTER_EPOCH: usize = INTERVAL + INDICATOR + ISSUE;
 
+// The first bits of a message, where its stretch ends and where it starts. All fields before a selection lie in these
+// bits: they are read once, and each field is cut from them.
+pub struct Front {
+    pub bits: u64,
+    pub end: usize,
+    pub start: usize,
+}
+
+// How many they are: as many as one reading takes; and how many bits of a number are above them.
+pub const FRONT: usize = 56;
+
+const ABOVE: usize = 64 - FRONT;
+
+// The front at a place, whether or not the string has all of its bits: those past its end are zero.
+pub fn front_at(bytes: &[u8], end: usize, start: usize) -> Front
+    ensures { λ r. ⌜ r ≡ frontAt (now (bytes .entry)) end start ⌝ }
+{
+    Front {
+        bits: read_field(bytes, start, FRONT),
+        end,
+        start,
+    }
+}
+
+// The w bits behind the first ones of a front, whether or not the stretch has them.
+fn within(f: Front, first: usize, w: usize) -> u64
+    requires { ⌜ first + w < 56 ⌝ }
+    ensures { λ r. ⌜ ((bs : List ℕ) → Opens bs f → r ≡ field bs (f .start + first) w) ⌝ }
+{
+    cut(f.bits, ABOVE + first, w)
+}
+
+// The same w bits, or how many of them lie past the stretch's end.
+pub fn taken(f: Front, first: usize, w: usize) -> Taken
+    requires { ⌜ (first + w < 56) × (f .start + first ≤ f .end) ⌝ }
+    ensures { λ r. ⌜ ((bs : List ℕ) → Opens bs f → r ≡ takenAt bs (f .end) (f .start + first) w) ⌝ }
+{
+    let left = f.end - f.start;
+    if left < first + w {
+        return Taken::Short(first + w - left);
+    }
+    Taken::Whole(within(f, first, w))
+}
+
 // The sub type, or the refusal and how many bits were missing.
 pub enum Opening {
     SubType(usize),
     Refused(Refusal, usize),
 }
 
-// Both fields are read at once, whether or not the second is there, and then parted.
-pub fn open(bytes: &[u8], end: usize, place: usize) -> Opening
-    requires { ⌜ Within (now bytes) end place ⌝ }
-    ensures { λ r. ⌜ r ≡ openingBy (endFrom Table.opening (now (bytes .entry)) end place) ⌝ }
+// Both fields are cut at once, whether or not the second is there, and then parted.
+pub fn open(f: Front) -> Opening
+    requires { ⌜ f .start ≤ f .end ⌝ }
+    ensures { λ r. ⌜ ((bs : List ℕ) → Opens bs f → r ≡ openingBy (endFrom Table.opening bs (f .end) (f .start))) ⌝ }
 {
-    let left = end - place;
+    let left = f.end - f.start;
     if left < NUMBER {
         return Opening::Refused(Refusal::Short, NUMBER - left);
     }
-    let both = read_field(bytes, place, OPENING);
+    let both = within(f, 0, OPENING);
     if both / SUB_TYPES != MESSAGE {
         return Opening::Refused(Refusal::Number, 0);
     }
@@ -90,7 +139,7 @@ pub fn parted(n: u64) -> CommonHead
     }
 }
 
-// Its fields, as all but a mask have it.
+// Its fields, as all but a mask have it, how many bits these are, and where it ends from the message's start on.
 const HEAD: Widths = Widths {
     first: HOURLY,
     second: INTERVAL,
@@ -98,15 +147,19 @@ const HEAD: Widths = Widths {
     fourth: ISSUE,
 };
 
-// The common head with an hourly epoch. Its fields are read at once, and which of them is short is asked only where one
-// is.
-pub fn common(bytes: &[u8], end: usize, place: usize) -> CommonTaken
-    requires { ⌜ Within (now bytes) end place ⌝ }
-    ensures { λ r. ⌜ r ≡ commonBy (endFrom (Messages.common 12) (now (bytes .entry)) end place) ⌝ }
+const HEAD_BITS: usize = HOURLY + AFTER_EPOCH;
+
+pub const HEADED: usize = OPENING + HEAD_BITS;
+
+// The common head with an hourly epoch, behind the opening. Its fields are cut at once, and which of them is short is
+// asked only where one is.
+pub fn common(f: Front) -> CommonTaken
+    requires { ⌜ Opened f × (f .start + 16 ≤ f .end) ⌝ }
+    ensures { λ r. ⌜ ((bs : List ℕ) → Opens bs f → r ≡ commonBy (endFrom (Messages.common 12) bs (f .end) (f .start + 16))) ⌝ }
 {
-    let taken = take_field(bytes, end, place, HOURLY + AFTER_EPOCH);
+    let taken = taken(f, OPENING, HEAD_BITS);
     match taken {
         Taken::Whole(n) => CommonTaken::Whole(parted(n)),
-        Taken::Short(_) => CommonTaken::Short(short_by(HEAD, end - place)),
+        Taken::Short(_) => CommonTaken::Short(short_by(HEAD, f.end - (f.start + OPENING))),
     }
 }

@@ -6,6 +6,7 @@ ghost use lib.ListN.{length};
 ghost use Rattle.format.specs.Messages.{maskMessage};
 ghost use Rattle.format.specs.Programs.{run};
 ghost use Rattle.format.specs.Reading.{stretchLimit, rowRoom, answerOf, rowsAfter, bitsFrom};
+ghost use Rattle.heads.specs.Fronts.{Opens};
 ghost use Rattle.heads.specs.Headings.{saidBy, FitsHeading};
 ghost use Rattle.heads.specs.Sorting.{headedAt, adoptedBy};
 ghost use Rattle.holding.specs.Held.{viewOf};
@@ -16,7 +17,8 @@ use adoption::Made;
 use bits::rest::zero_from;
 use format::Answer;
 use format::Refusal;
-use heads::OPENING;
+use heads::FRONT;
+use heads::Front;
 use heads::Opening;
 use heads::heading;
 use heads::heading::Heading;
@@ -68,11 +70,16 @@ pub fn adopted(holding: Holding, bytes: &[u8], end: usize, place: usize) -> Read
     }
 }
 
-// What answers to a refusal that comes before the sub type: idle where no bit is set.
-fn unopened(bytes: &[u8], end: usize, start: usize, r: Refusal, missing: usize) -> Answer
-    ensures { λ x. ⌜ x ≡ unopenedAt (now (bytes .entry)) end start r missing ⌝ }
+// What answers to a refusal that comes before the sub type: idle where no bit is set. A set bit of a front that the
+// stretch has whole is seen at once. (That all bits of the front matter here also keeps its reading one load.)
+fn unopened(front: Front, bytes: &[u8], r: Refusal, missing: usize) -> Answer
+    requires { ⌜ Opens (now bytes) front ⌝ }
+    ensures { λ x. ⌜ x ≡ unopenedAt (now (bytes .entry)) (front .end) (front .start) r missing ⌝ }
 {
-    if zero_from(bytes, end, start) {
+    if front.bits != 0 && front.end - front.start >= FRONT {
+        return Answer::Refused(r, missing);
+    }
+    if zero_from(bytes, front.end, front.start) {
         return Answer::Idle;
     }
     Answer::Refused(r, missing)
@@ -91,9 +98,10 @@ pub fn find(holding: Holding, bytes: &[u8], end: usize, start: usize, rows: &mut
     ensures { λ r. ⌜ r ≡ foundAt holding (now (bytes .entry)) end start ⌝ }
     ensures { λ _. ⌜ now (rows .exit) ≡ rowsAfter (readAt holding (now (bytes .entry)) end start) (now (rows .entry)) ⌝ }
 {
-    let opening = heads::open(bytes, end, start);
+    let front = heads::front_at(bytes, end, start);
+    let opening = heads::open(front);
     match opening {
-        Opening::Refused(r, missing) => Found::Answered(unopened(bytes, end, start, r, missing)),
+        Opening::Refused(r, missing) => Found::Answered(unopened(front, bytes, r, missing)),
         Opening::SubType(n) => {
             let kind = kind_of(n);
             if let Kind::Mask = kind {
@@ -105,7 +113,7 @@ pub fn find(holding: Holding, bytes: &[u8], end: usize, start: usize, rows: &mut
                 n: holding.nsat,
                 subtype: n,
             };
-            let heading = heading::of(kind, seen, bytes, end, start + OPENING);
+            let heading = heading::of(kind, seen, front, bytes);
             Found::Answered(body_of(holding, heading, bytes, end, rows))
         }
     }

@@ -1,10 +1,15 @@
 -- `heads::open` meets its contract: each return is one of the ways in which the opening ends. Assumes nothing.
-use Prim.Native.Nat.{_/_}
+use mathlib.Core.Path.{_≡_, _∙_, ap}
+use mathlib.Core.List.{List}
+use Prim.Native.Nat.{ℕ, _/_}
+use native.Mathlib.Nat.{add-zero}
 use native.Mathlib.Omega.{arith}
 use borrow.Author.Needs.{needs}
 use borrow.Author.Tests.{eq-eqb, ne-eqb}
+use Rattle.bits.specs.Places.{field}
 use Rattle.format.proofs.Ends.{number-cut}
 use Rattle.format.specs.Table.{opening}
+use Rattle.heads.specs.Fronts.{Opens}
 use Rattle.heads.specs.Heads.{openingBy}
 use Rattle.heads.proofs.Runs.{number-end, type-cut, type-end}
 use Rattle.heads.proofs.open.Statement.{statement}
@@ -12,27 +17,33 @@ use Rattle.heads.proofs.open.Tie as tie
 
 returns : tie.Need-returns
 unfolding openingBy opening
-returns c = rw (number-cut (c .before .before .pre) 12 _ (c .if1 .taken))
+returns c = λ bs opens. rw (number-cut (opens .within) 12 _ (c .if1 .taken))
+
+-- number and sub type
+both : (c : tie.After-within) {bs : List ℕ} → Opens bs (c .before .before .before .args .f) → c .within .result ≡ field bs (c .before .before .before .args .f .start) 16
+both c {bs} opens = c .within .ensures bs opens ∙ ap (λ (p : ℕ). field bs p 16) (add-zero _)
 
 returns-2 : tie.Need-returns-2
 unfolding openingBy
 returns-2 c =
     let r = c .before in
-    rw (number-end (r .before .before .before .pre) (r .read-field .ensures) (omega arith), ne-eqb (r .read-field .result / 16) 4073 (c .if2 .taken))
+    λ bs opens. rw (number-end (opens .within) (both r opens) (omega arith), ne-eqb (r .within .result / 16) 4073 (c .if2 .taken))
 
 returns-3 : tie.Need-returns-3
 unfolding openingBy
 returns-3 c =
     let r = c .before .before in
-    let at = r .before .before .before .pre in
-    rw (number-end at (r .read-field .ensures) (omega arith), eq-eqb (r .read-field .result / 16) 4073 (c .before .if2 .left), type-cut at (r .read-field .ensures) (omega arith) (omega arith))
+    λ bs opens.
+    let at = opens .within in
+    rw (number-end at (both r opens) (omega arith), eq-eqb (r .within .result / 16) 4073 (c .before .if2 .left), type-cut at (both r opens) (omega arith) (omega arith))
 
 returns-4 : tie.Need-returns-4
 unfolding openingBy
 returns-4 c =
     let r = c .before .before in
-    let at = r .before .before .before .pre in
-    rw (number-end at (r .read-field .ensures) (omega arith), eq-eqb (r .read-field .result / 16) 4073 (c .before .if2 .left), type-end at (r .read-field .ensures) (omega arith))
+    λ bs opens.
+    let at = opens .within in
+    rw (number-end at (both r opens) (omega arith), eq-eqb (r .within .result / 16) 4073 (c .before .if2 .left), type-end at (both r opens) (omega arith))
 
 pub open-spec : {M : Type 1} → statement M
 open-spec =

@@ -63,7 +63,7 @@ module _ (c : tie.After-head) where
   fits = laid _ (omega (arith, start .pre .2, start .pre .3))
 
 selection-requires : tie.Need-selection-requires
-selection-requires c κs = let p = start (c .before) .pre in (p .1, fits (c .before), p .5)
+selection-requires c κs = let p = start (c .before) .pre in (p .1, fits (c .before), p .5, p .6)
 
 returns : tie.Need-returns
 unfolding skyIn
@@ -80,13 +80,13 @@ returns c =
 returns-2 : tie.Need-returns-2
 unfolding saidBy FitsHeading FitsKeys linesIn linesOver skyIn
 returns-2 c =
-    let p = c .before in
+    let p = c .before .before in
     let s = start p in
     let x = s .args in (
       λ v shows.
-          rw (made p, without (x .under) (x .h) (x .flags) (s .pre .3) (skyIn v) (c .if1 .left), done-end, pick-all (v .satellites) (omega (arith, shows .count, shows .few))),
+          rw (made p, without (x .under) (x .h) (x .flags) (s .pre .3) (skyIn v) (c .before .if1 .left), done-end, pick-all (v .satellites) (omega (arith, shows .count, shows .few))),
       fits p,
     )
 
 pub by-flags-spec : {M : Type 1} → statement M
-by-flags-spec = tie.close (tie.spec (λ c. search needs) (λ c. search needs) (λ c. search needs) (λ c κs. search needs) selection-requires returns returns-2)
+by-flags-spec = tie.close (tie.spec (λ c. search needs) (λ c. search needs) (λ c. search needs) (λ c κs. search needs) selection-requires returns (λ c. search needs) returns-2)

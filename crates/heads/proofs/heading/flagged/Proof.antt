@@ -1,10 +1,12 @@
 -- `heads::heading::flagged` meets its contract. Assumes nothing.
 use mathlib.Core.Path.{_≡_, _∙_, sym, ap}
+use Prim.Native.Nat.{_+_}
+use native.Mathlib.Omega.{arith}
 use borrow.Author.Needs.{needs}
 use Rattle.bits.specs.declared.read.Taken.the-variants.{Whole}
 use Rattle.bits.specs.Short.{takenAt, bitsOf, widthsOf}
 use Rattle.bits.proofs.Short.{field-short}
-use Rattle.format.proofs.Ends.{after-field, fits}
+use Rattle.format.proofs.Ends.{onward, after-field, fits}
 use Rattle.format.specs.declared.Refusal.the-variants as Refusal
 use Rattle.format.specs.Programs.{badly}
 use Rattle.heads.specs.Headings.{saidBy, FitsHeading}
@@ -18,32 +20,38 @@ module _ (c : tie.After-known-told) where
   abbrev s : tie.Start
   s = c .before .before .before .before .before
 
-  there : takenAt (s .args .bytes .now) (s .args .end) (s .args .place) 3 ≡ Whole (c .before .taken .given .0 .0)
-  there = sym (c .before .before .before .take-field .ensures) ∙ c .before .taken .given .1
+  there : takenAt (s .args .bytes .now) (s .args .f .end) (s .args .f .start + 37) 3 ≡ Whole (c .before .taken2 .given .0 .0)
+  there = sym (c .before .before .before .taken .ensures _ (s .pre .5)) ∙ c .before .taken2 .given .1
 
 by-flags-requires : tie.Need-by-flags-requires
 by-flags-requires c κs =
     let p = s c .pre in
-    (p .0, p .1, p .2, fits (p .4) 3 (there c), p .3, after-field (p .4) 3 (there c))
+    (p .0, p .1, p .2, fits (p .4) 3 (there c), p .3, onward (p .4) (omega (arith, after-field (p .4) 3 (there c))), p .5)
 
 short-by-requires : tie.Need-short-by-requires
 unfolding bitsOf widthsOf
-short-by-requires c κs = field-short _ _ _ 3 _ (sym (c .before .before .take-field .ensures) ∙ c .enum-told .given .1) .0
+short-by-requires c κs =
+    let short = c .before .before in
+    let took = short .before .before in
+    field-short _ _ _ 3 _ (sym (took .taken .ensures _ (took .before .before .pre .5)) ∙ short .enum-told .given .1) .0
 
 returns : tie.Need-returns
 unfolding saidBy FitsHeading widthsOf
 returns c =
-    let took = c .before .before .before in
+    let short = c .before .before .before in
+    let took = short .before .before in
     let s = took .before .before in
-    let e = sym (took .take-field .ensures) ∙ c .before .enum-told .given .1 in
+    let e = sym (took .taken .ensures _ (s .pre .5)) ∙ short .enum-told .given .1 in
     (λ v shows. ap (badly Refusal.Short) (c .short-by .ensures) ∙ sym (flags-short (s .pre .4) (s .args .under) (s .args .h) (skyIn v) e), tt)
 
 returns-2 : tie.Need-returns-2
 returns-2 c =
     let s = s (c .before) in
-    (λ v shows. c .by-flags .ensures .0 v shows ∙ sym (flags-there (s .pre .4) (s .args .under) (s .args .h) (skyIn v) (there (c .before))), c .by-flags .ensures .1)
+    let next : s .args .f .start + 40 ≡ s .args .f .start + 37 + 3 = omega arith in
+    let said = rw next at (c .by-flags .ensures .0) in
+    (λ v shows. said v shows ∙ sym (flags-there (s .pre .4) (s .args .under) (s .args .h) (skyIn v) (there (c .before))), c .by-flags .ensures .1)
 
 pub flagged-spec : {M : Type 1} → statement M
 flagged-spec =
     tie.close
-    (tie.spec (λ c κs. search needs) (λ c. search needs) (λ c. search needs) short-by-requires (λ c. search needs) (λ c. search needs) by-flags-requires returns returns-2)
+    (tie.spec (λ c κs. search needs) (λ c. search needs) (λ c. search needs) (λ c. search needs) short-by-requires (λ c. search needs) by-flags-requires returns returns-2)

@@ -86,7 +86,7 @@ returns-2 c =
 flagged-requires : tie.Need-flagged-requires
 flagged-requires c κs =
     let s = c .before .before .before .before .before .before .before in
-    (s .pre .0, s .pre .1, s .pre .2 .with-flags (c .if3 .taken) .1, s .pre .3, s .pre .4)
+    (s .pre .0, s .pre .1, s .pre .2 .with-flags (c .if3 .taken) .1, s .pre .3, s .pre .4, s .pre .5)
 
 returns-3 : tie.Need-returns-3
 returns-3 c =
@@ -100,21 +100,22 @@ returns-3 c =
 returns-4 : tie.Need-returns-4
 unfolding saidBy FitsHeading linesIn rowsAlone headWith
 returns-4 c =
-    let s = c .before .before .before .before .before .before .before .before .before in
+    let o = c .before in
+    let s = o .before .before .before .before .before .before .before .before .before in
     let x = s .args in (
       λ v shows.
           rw (
-            passed (x .under) (x .h) (skyIn v) (not-false (x .under .held) (c .before .before .before .before .before .before .if1 .left)) (c .before .before .before .if2 .left),
-            alone (x .under .subtype) (x .under .layout) (skyIn v) (commonOf (x .h)) (c .before .before .if3 .left),
-            c .before .head .ensures,
-            c .over .ensures,
+            passed (x .under) (x .h) (skyIn v) (not-false (x .under .held) (o .before .before .before .before .before .before .if1 .left)) (o .before .before .before .if2 .left),
+            alone (x .under .subtype) (x .under .layout) (skyIn v) (commonOf (x .h)) (o .before .before .if3 .left),
+            o .before .head .ensures,
+            o .over .ensures,
             alone-lines (x .under .layout) v (x .under .n) shows,
             done-end,
           ),
-      rw (c .over .ensures) (s .pre .2 .fits _),
+      rw (o .over .ensures) (s .pre .2 .fits _),
     )
 
 pub gated-spec : {M : Type 1} → statement M
 gated-spec =
     tie.close
-    (tie.spec returns (λ c. search needs) returns-2 flagged-requires returns-3 (λ c κs. search needs) (λ c κs. search needs) returns-4)
+    (tie.spec returns (λ c. search needs) returns-2 flagged-requires returns-3 (λ c κs. search needs) (λ c κs. search needs) (λ c. search needs) returns-4)

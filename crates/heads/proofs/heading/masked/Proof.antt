@@ -17,19 +17,22 @@ module _ (c : tie.After-known-told) where
   s = c .before .before .before .before .before
 
   whole : Read (s .pre .3) 12 (c .before .common2 .given .0 .0)
-  whole = common-whole (s .pre .3) 12 (omega arith) (sym (c .before .before .before .common .ensures) ∙ c .before .common2 .given .1)
+  whole = common-whole (s .pre .3) 12 (omega arith) (sym (c .before .before .before .common .ensures _ (s .pre .4)) ∙ c .before .common2 .given .1)
+
+common-requires : tie.Need-common-requires
+common-requires c κs = let p = c .before .pre in (record { bytes = _; opens = p .4 }, p .3 .room)
 
 gated-requires : tie.Need-gated-requires
 gated-requires c κs =
     let p = s c .pre in
-    (p .0, p .1, p .2, whole c .small, onward (p .3) (omega (arith, whole c .after)))
+    (p .0, p .1, p .2, whole c .small, onward (p .3) (omega (arith, whole c .after)), p .4)
 
 returns : tie.Need-returns
 unfolding underBy
 returns c =
     let p = c .before in
     let x = s p .args in
-    let next : x .place + 12 + 9 ≡ x .place + 21 = omega arith in
+    let next : x .f .start + 37 ≡ x .f .start + 16 + 21 = omega arith in
     let said = rw next at (c .gated .ensures .0) in
     (λ v shows. said v shows ∙ sym (then-well (s p .pre .3) (common 12) (gatedBy (x .under) (skyIn v)) (whole p .ran)), c .gated .ensures .1)
 
@@ -38,10 +41,10 @@ unfolding underBy saidBy FitsHeading
 returns-2 c =
     let took = c .before .before .before in
     let s = took .before .before in
-    let cut = common-short (s .pre .3) 12 (sym (took .common .ensures) ∙ c .before .common3 .given .1) in
+    let cut = common-short (s .pre .3) 12 (sym (took .common .ensures _ (s .pre .4)) ∙ c .before .common3 .given .1) in
     (λ v shows. sym (then-badly (s .pre .3) (common 12) (gatedBy (s .args .under) (skyIn v)) cut), tt)
 
 pub masked-spec : {M : Type 1} → statement M
 masked-spec =
     tie.close
-    (tie.spec (λ c κs. search needs) (λ c. search needs) (λ c. search needs) (λ c. search needs) gated-requires (λ c. search needs) returns returns-2)
+    (tie.spec common-requires (λ c. search needs) gated-requires (λ c. search needs) returns returns-2)

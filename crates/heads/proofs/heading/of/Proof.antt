@@ -14,11 +14,14 @@ laid : (l : Layout) → OfTable (Masked l) → LaidOut l
 unfolding OfTable
 laid l h = h
 
+packet-requires : tie.Need-packet-requires
+packet-requires c κs = let p = c .before .before .before .pre in (record { bytes = _; opens = p .4 }, p .3 .room)
+
 masked-requires : tie.Need-masked-requires
 masked-requires c κs =
     let pre = c .before .before .before .before .pre in
     let known = c .before .kind .given in
-    (pre .0, pre .1, laid (known .0 .0) (rw (known .1) at (pre .2)), pre .3)
+    (pre .0, pre .1, laid (known .0 .0) (rw (known .1) at (pre .2)), pre .3, pre .4)
 
 returns : tie.Need-returns
 unfolding saidBy FitsHeading headingFor endFrom run later
@@ -30,7 +33,7 @@ returns-2 c = (λ v shows. rw (c .enum-told2 .given .1), tt)
 
 returns-3 : tie.Need-returns-3
 unfolding headingFor
-returns-3 c = (λ v shows. rw (c .before .enum-told3 .given .1) (c .packet .ensures .0 v), c .packet .ensures .1)
+returns-3 c = (λ v shows. rw (c .before .enum-told3 .given .1) (c .packet .ensures .0 _ (c .before .before .before .before .pre .4) v), c .packet .ensures .1)
 
 returns-4 : tie.Need-returns-4
 unfolding headingFor
@@ -39,4 +42,4 @@ returns-4 c = (λ v shows. rw (c .before .before .kind .given .1) (c .masked .en
 pub of-spec : {M : Type 1} → statement M
 of-spec =
     tie.close
-    (tie.spec (λ c. search needs) (λ c. search needs) (λ c. search needs) (λ c κs. search needs) (λ c. search needs) masked-requires returns returns-2 returns-3 returns-4)
+    (tie.spec (λ c. search needs) (λ c. search needs) (λ c. search needs) packet-requires (λ c. search needs) masked-requires returns returns-2 returns-3 returns-4)

@@ -1,55 +1,69 @@
 -- `heads::heading::packet` meets its contract. Assumes nothing.
 use mathlib.Core.Path.{_≡_, _∙_, sym, ap, refl}
-use Prim.Native.Nat.{ℕ, _/_, _%_, _<_}
+use mathlib.Core.List.{List}
+use Prim.Native.Nat.{ℕ, _+_, _/_, _%_, _<_}
 use native.Mathlib.Numerals.{add-one}
 use native.Mathlib.Omega.{arith}
 use borrow.Author.Needs.{needs}
 use mir.Facts.{toZ-pos}
 use mir.Syntax.{w32}
-use Rattle.bits.specs.declared.read.Taken.the-variants.{Whole}
+use Rattle.bits.specs.declared.read.Taken.{Taken}
 use Rattle.bits.specs.Short.{takenAt, bitsOf, widthsOf}
 use Rattle.bits.proofs.Short.{field-short}
-use Rattle.format.proofs.Ends.{fits}
+use Rattle.format.proofs.Ends.{onward, fits}
+use Rattle.format.specs.Ends.{Within}
 use Rattle.format.specs.declared.Refusal.the-variants as Refusal
 use Rattle.format.specs.Programs.{badly}
 use Rattle.format.specs.Messages.{packetHeading}
+use Rattle.heads.specs.Fronts.{Opens}
 use Rattle.heads.specs.Headings.{saidBy, FitsHeading}
 use Rattle.heads.proofs.Headed.{packetOf, packet-there, packet-short}
 use Rattle.heads.proofs.heading.packet.Statement.{statement}
 use Rattle.heads.proofs.heading.packet.Tie as tie
 use Rattle.table.specs.Bodies.{linesIn, linesOver, FitsKeys}
 
+-- the six bits as they were taken, of any string with this front
+module _ (c : tie.After-taken) where
+  abbrev start : tie.Start
+  start = c .before .before
+
+  module _ {bs : List ℕ} (opens : Opens bs (start .args .f)) where
+    at : Within bs (start .args .f .end) (start .args .f .start + 16)
+    at = onward (opens .within) (start .pre .1)
+
+    is : {t : Taken} → c .taken .result ≡ t → takenAt bs (start .args .f .end) (start .args .f .start + 16) 6 ≡ t
+    is e = sym (c .taken .ensures bs opens) ∙ e
+
 short-by-requires : tie.Need-short-by-requires
 unfolding bitsOf widthsOf
-short-by-requires c κs = field-short _ _ _ 6 _ (sym (c .before .before .take-field .ensures) ∙ c .enum-told .given .1) .0
+short-by-requires c κs =
+    let took = c .before .before .before in
+    field-short _ _ _ 6 _ (is took (start took .pre .0 .opens) (c .before .enum-told .given .1)) .0
 
 returns : tie.Need-returns
 unfolding saidBy FitsHeading widthsOf
 returns c =
-    let took = c .before .before .before in
-    let cut = packet-short (took .before .before .pre) (sym (took .take-field .ensures) ∙ c .before .enum-told .given .1) in
-    (λ v. ap (badly Refusal.Short) (c .short-by .ensures) ∙ sym cut, tt)
+    let short = c .before .before in
+    let took = short .before .before in
+    (λ bs opens v. ap (badly Refusal.Short) (c .short-by .ensures) ∙ sym (packet-short (at took opens) (is took opens (short .enum-told .given .1))), tt)
 
--- the six bits, where they are there
+-- where they are there
 module _ (c : tie.After-known-told) where
-  abbrev took : tie.After-take-field
+  abbrev took : tie.After-taken
   took = c .before .before .before
 
   abbrev n : ℕ
-  n = c .before .taken .given .0 .0
-
-  there : takenAt (took .before .before .args .bytes .now) (took .before .before .args .end) (took .before .before .args .place) 6 ≡ Whole n
-  there = sym (took .take-field .ensures) ∙ c .before .taken .given .1
+  n = c .before .taken2 .given .0 .0
 
   small : n < 64
-  small = fits (took .before .before .pre) 6 there
+  small = let o = start took .pre .0 .opens in fits (at took o) 6 (is took o (c .before .taken2 .given .1))
 
 returns-2 : tie.Need-returns-2
 unfolding saidBy FitsHeading FitsKeys linesIn linesOver packetOf packetHeading
 returns-2 c = (
-  λ v.
+  λ bs opens v.
       rw (
-        packet-there (took c .before .before .pre) (there c),
+        packet-there (at (took c) opens) (is (took c) opens (c .before .taken2 .given .1)),
         toZ-pos w32 {n = n c / 32} (omega (arith, small c)),
         toZ-pos w32 {n = n c / 4 % 8} (omega arith),
         toZ-pos w32 {n = n c % 4} (omega arith),
@@ -61,5 +75,5 @@ returns-2 c = (
 pub packet-spec : {M : Type 1} → statement M
 packet-spec =
     tie.close
-    (tie.spec (λ c κs. search needs) (λ c. search needs) (λ c. search needs) short-by-requires (λ c. search needs) (λ c. record { sfits = omega (arith, small c) }) (λ c. search needs)
+    (tie.spec (λ c. search needs) (λ c κs. search needs) (λ c. search needs) (λ c. search needs) short-by-requires (λ c. search needs) (λ c. record { sfits = omega (arith, small c) }) (λ c. search needs)
     (λ c. search needs) (λ c. search needs) (λ c. search needs) returns returns-2)

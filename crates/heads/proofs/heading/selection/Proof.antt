@@ -24,12 +24,12 @@ module _ (c : tie.After-known-told2) where
   s = c .before .before .before .before .before
 
   abbrev n : ℕ
-  n = c .before .taken2 .given .0 .0
+  n = c .before .taken3 .given .0 .0
 
-  there : takenAt (s .args .bytes .now) (s .args .end) (s .args .place) 5 ≡ Whole n
-  there = sym (c .before .before .before .take-field .ensures) ∙ c .before .taken2 .given .1
+  there : takenAt (s .args .bytes .now) (s .args .f .end) (s .args .f .start + 40) 5 ≡ Whole n
+  there = sym (c .before .before .before .taken .ensures _ (s .pre .3)) ∙ c .before .taken3 .given .1
 
-  after : Within (s .args .bytes .now) (s .args .end) (s .args .place + 5)
+  after : Within (s .args .bytes .now) (s .args .f .end) (s .args .f .start + 40 + 5)
   after = after-field (s .pre .2) 5 there
 
   low : n < 32
@@ -44,10 +44,11 @@ returns c =
 returns-2 : tie.Need-returns-2
 unfolding saidBy FitsHeading
 returns-2 c =
-    let p = c .before .before in
+    let some = c .before .before .before .before in
+    let p = some .before in
     let x = s p .args in (
       λ v shows.
-          rw (network-cut (s p .pre .2) (v .satellites) (x .numbers) (shapeAt (x .shape)) (there p) (c .before .if1 .left) (rw (shows .count) (c .if2 .taken)))
+          rw (network-cut (s p .pre .2) (v .satellites) (x .numbers) (shapeAt (x .shape)) (there p) (some .if1 .left) (rw (shows .count) (c .before .if2 .taken)))
           (rw (shows .count)),
       tt,
     )
@@ -58,23 +59,24 @@ returns-3 c =
     let took = c .before .before .before in
     let s = took .before .before in
     let x = s .args in
-    (λ v shows. sym (network-short (s .pre .2) (v .satellites) (x .numbers) (shapeAt (x .shape)) (sym (took .take-field .ensures) ∙ c .before .taken .given .1)), tt)
+    (λ v shows. sym (network-short (s .pre .2) (v .satellites) (x .numbers) (shapeAt (x .shape)) (sym (took .taken .ensures _ (s .pre .3)) ∙ c .before .taken2 .given .1)), tt)
 
 returns-4 : tie.Need-returns-4
 unfolding saidBy FitsHeading FitsKeys linesIn linesOver chosenAt
 returns-4 c =
-    let p = c .before .before .before .before in
+    let some = c .before .before .before .before .before in
+    let p = some .before in
     let x = s p .args in
     let head = rw (toZ-pos w32 {n = n p} (omega (arith, low p))) at (c .before .with-network .ensures) in (
       λ v shows.
-          let whole = network-there (s p .pre .2) (v .satellites) (x .numbers) (shapeAt (x .shape)) (there p) (c .before .before .before .if1 .left) (rw (shows .count) (c .before .before .if2 .left)) in
-          rw (whole, shows .count, head, c .chosen .ensures, pick-front (x .n) (field (x .bytes .now) (x .place + 5) (x .n)) (v .satellites) (shows .few)),
+          let whole = network-there (s p .pre .2) (v .satellites) (x .numbers) (shapeAt (x .shape)) (there p) (some .if1 .left) (rw (shows .count) (c .before .before .if2 .left)) in
+          rw (whole, shows .count, head, c .chosen .ensures, pick-front (x .n) (field (x .bytes .now) (x .f .start + 40 + 5) (x .n)) (v .satellites) (shows .few)),
       s p .pre .1,
     )
 
 pub selection-spec : {M : Type 1} → statement M
 selection-spec =
     tie.close
-    (tie.spec (λ c κs. search needs) (λ c. search needs) (λ c. search needs) returns (λ c. search needs) (λ c. after (c .before) .room) (λ c. after (c .before .before) .room) (λ c. search needs)
-    returns-2 (λ c. record { sfits = omega (arith, low (c .before .before)) }) (λ c κs. search needs) (λ c κs. (omega (arith, after (c .before .before .before)), omega arith)) (λ c. search needs)
-    returns-3 returns-4)
+    (tie.spec (λ c κs. search needs) (λ c. search needs) (λ c. search needs) returns (λ c. search needs) (λ c. search needs) (λ c. after (c .before .before .before) .room)
+    (λ c. after (c .before .before .before .before .before) .room) (λ c. search needs) returns-2 (λ c. record { sfits = omega (arith, low (c .before .before .before .before)) }) (λ c κs. search needs)
+    (λ c κs. (omega (arith, after (c .before .before .before .before .before)), omega arith)) (λ c. search needs) returns-3 returns-4)

@@ -1,5 +1,6 @@
 -- `reader::message::find` meets its contract. Assumes nothing.
-use mathlib.Core.Path.{_≡_, _∙_, sym, ap, refl}
+use mathlib.Core.Path.{_≡_, _∙_, sym, ap, subst, refl}
+use mathlib.Core.List.{List}
 use mathlib.Core.Logic.{_⊎_, inl, inr}
 use Prim.Native.Nat.{ℕ, _+_}
 use native.Mathlib.Omega.{arith}
@@ -10,6 +11,8 @@ use Rattle.format.specs.Messages as Messages
 use Rattle.format.specs.Programs.{Ended, well}
 use Rattle.format.specs.Reading.{Outcome, answerOf, rowsAfter}
 use Rattle.format.specs.Table.{opening}
+use Rattle.heads.specs.declared.Front.{Front}
+use Rattle.heads.specs.Fronts.{frontAt, Opens}
 use Rattle.heads.specs.Heads.{openingBy}
 use Rattle.heads.specs.Headings.{saidBy}
 use Rattle.heads.specs.Sorting.{headingFor, headedAt}
@@ -19,7 +22,7 @@ use Rattle.holding.specs.Held.{skyIn, viewOf}
 use Rattle.holding.specs.Pictures.{maskOf}
 use Rattle.holding.proofs.Sounds.{sounds}
 use Rattle.reader.specs.declared.message.Found.the-variants.{Answered}
-use Rattle.reader.specs.Readings.{readAt, foundAs, foundBy}
+use Rattle.reader.specs.Readings.{readAt, unopenedAt, foundAs, foundBy}
 use Rattle.reader.proofs.Findings.{opened-well, opened-badly, begins, shows, sorted-headed, sorted-adopted, adopted-rows, read-sorted, read-stopped}
 use Rattle.reader.proofs.message.find.Statement.{statement}
 use Rattle.reader.proofs.message.find.Tie as tie
@@ -48,22 +51,41 @@ not-mask k keys e = go (rw e at keys)
 within : (s : tie.Start) → Within (s .args .bytes .now) (s .args .end) (s .args .start)
 within s = record { inside = s .pre .1; short = omega (arith, s .pre .2); room = s .pre .3 }
 
+-- the front is the message's
+module _ (c : tie.After-front-at) where
+  abbrev s : tie.Start
+  s = c .before .before
+
+  abbrev bs : List ℕ
+  bs = s .args .bytes .now
+
+  is : c .front-at .result ≡ frontAt bs (s .args .end) (s .args .start)
+  is = c .front-at .ensures
+
+  opens : Opens bs (c .front-at .result)
+  opens = subst (Opens bs) (sym is) (record { within = within s; bits = refl })
+
+opened : (c : tie.After-open) → c .open .result ≡ openingBy (endFrom opening (bs (c .before)) (s (c .before) .args .end) (s (c .before) .args .start))
+opened c =
+    let t = c .before in
+    c .open .ensures (bs t) (opens t) ∙ ap (λ (f : Front). openingBy (endFrom opening (bs t) (f .end) (f .start))) (is t)
+
 -- a sub type was read
 module _ (c : tie.After-kind-of) where
   abbrev o : tie.After-opening2
   o = c .before .before
 
-  abbrev s : tie.Start
-  s = o .before .before .before .before
+  abbrev t : tie.After-front-at
+  t = o .before .before .before
 
   abbrev n : ℕ
   n = o .opening2 .given .0 .0
 
-  ran : (next : ℕ) × (endFrom opening (s .args .bytes .now) (s .args .end) (s .args .start) ≡ well n next)
-  ran = opened-well _ n (sym (o .before .before .open .ensures) ∙ o .opening2 .given .1)
+  ran : (next : ℕ) × (endFrom opening (bs t) (s t .args .end) (s t .args .start) ≡ well n next)
+  ran = opened-well _ n (sym (opened (o .before .before)) ∙ o .opening2 .given .1)
 
-  told : TypeTaken (within s) n (ran .0)
-  told = type-taken (within s) (ran .1)
+  told : TypeTaken (within (s t)) n (ran .0)
+  told = type-taken (within (s t)) (ran .1)
 
   of-table : c .kind-of .result ≡ kindFor n
   of-table = c .kind-of .ensures
@@ -73,44 +95,47 @@ returns : tie.Need-returns
 unfolding openingBy foundBy foundAs
 returns c =
     let k = c .before .before in
-    let x = s k .args in
+    let s = s (t k) in
+    let x = s .args in
     let masked : kindFor (n k) ≡ Kinds.Mask = sym (of-table k) ∙ c .enum-told .given .1 in
-    let same = read-sorted (x .holding) (s k .pre .0) (within (s k)) (ran k .1) ∙ sorted-adopted (maskOf (x .holding)) (x .bytes .now) (x .end) (x .start + 16) (n k) masked in
+    let same = read-sorted (x .holding) (s .pre .0) (within s) (ran k .1) ∙ sorted-adopted (maskOf (x .holding)) (x .bytes .now) (x .end) (x .start + 16) (n k) masked in
     (rw (ran k .1, masked), adopted-rows (maskOf (x .holding)) (x .start + 16) _ (x .rows .now) ∙ ap (λ (w : Outcome). rowsAfter w (x .rows .now)) (sym same))
 
 -- any other message has a heading
 of-requires : tie.Need-of-requires
 of-requires c κs =
     let k = c .before in
-    let p = s k .pre in
-    (told k .small, sounds (s k .args .holding) (p .0) .few-satellites, rw (of-table k) (tabled (n k)), told k .after)
+    let after = subst (λ (f : Front). Within (bs (t k)) (f .end) (f .start + 16)) (sym (is (t k))) (told k .after) in
+    (told k .small, sounds (s (t k) .args .holding) (s (t k) .pre .0) .few-satellites, rw (of-table k) (tabled (n k)), after, opens (t k))
 
 module _ (c : tie.After-of) where
   abbrev k : tie.After-kind-of
   k = c .before .before
 
+  abbrev start : tie.Start
+  start = s (t k)
+
   abbrev h : Holding
-  h = s k .args .holding
+  h = start .args .holding
 
   other : kindFor (n k) ≡ Kinds.Mask → ⊥
   other e = not-mask (k .kind-of .result) (c .before .match2 .keys2) (of-table k ∙ e)
 
-  abbrev headed : Kind → Ended Messages.Heading
-  headed q =
-      endFrom (headingFor q (record { held = h .held; iod = h .iod; n = h .nsat; subtype = n k }) (skyIn (viewOf h))) (s k .args .bytes .now) (s k .args .end) (s k .args .start + 16)
+  abbrev headed : Front → Kind → Ended Messages.Heading
+  headed f q = endFrom (headingFor q (record { held = h .held; iod = h .iod; n = h .nsat; subtype = n k }) (skyIn (viewOf h))) (bs (t k)) (f .end) (f .start + 16)
 
-  said : saidBy (viewOf h) (c .of .result) ≡ headed (kindFor (n k))
-  said = c .of .ensures .0 (viewOf h) (shows h (s k .pre .0)) ∙ ap headed (of-table k)
+  said : saidBy (viewOf h) (c .of .result) ≡ headed (frontAt (bs (t k)) (start .args .end) (start .args .start)) (kindFor (n k))
+  said = c .of .ensures .0 (viewOf h) (shows h (start .pre .0)) ∙ (λ i. headed (is (t k) i) (of-table k i))
 
-  reads : headedAt (maskOf h) (s k .args .bytes .now) (s k .args .end) (saidBy (viewOf h) (c .of .result)) ≡ readAt h (s k .args .bytes .now) (s k .args .end) (s k .args .start)
+  reads : headedAt (maskOf h) (bs (t k)) (start .args .end) (saidBy (viewOf h) (c .of .result)) ≡ readAt h (bs (t k)) (start .args .end) (start .args .start)
   reads =
-      ap (headedAt (maskOf h) (s k .args .bytes .now) (s k .args .end)) said
-      ∙ sym (read-sorted h (s k .pre .0) (within (s k)) (ran k .1) ∙ sorted-headed h (s k .pre .0) (told k .after) (n k) other)
+      ap (headedAt (maskOf h) (bs (t k)) (start .args .end)) said
+      ∙ sym (read-sorted h (start .pre .0) (within start) (ran k .1) ∙ sorted-headed h (start .pre .0) (told k .after) (n k) other)
 
 body-of-requires : tie.Need-body-of-requires
 body-of-requires c κs =
     let q = c .before in
-    let p = s (k q) .pre in
+    let p = start q .pre in
     (p .0, q .of .ensures .1, rw (said q) (begins (told (k q) .after) _), p .1, p .2, p .4)
 
 -- refused before that: a stop
@@ -118,18 +143,19 @@ returns-2 : tie.Need-returns-2
 unfolding openingBy foundBy
 returns-2 c =
     let r = c .before .before in
-    let t = r .before .before .before .before in
-    let x = t .args in
-    let e = opened-badly _ _ _ (sym (r .before .before .open .ensures) ∙ r .opening .given .1) in
-    let stop = read-stopped (x .holding) (t .pre .0) (within t) e in
-    (ap Answered (c .unopened .ensures ∙ stop .0) ∙ rw e, stop .2 (x .rows .now))
+    let t = r .before .before .before in
+    let x = s t .args in
+    let e = opened-badly _ _ _ (sym (opened (r .before .before)) ∙ r .opening .given .1) in
+    let stop = read-stopped (x .holding) (s t .pre .0) (within (s t)) e in
+    let said = c .unopened .ensures ∙ ap (λ (f : Front). unopenedAt (bs t) (f .end) (f .start) (r .opening .given .0 .0) (r .opening .given .0 .1 .0)) (is t) in
+    (ap Answered (said ∙ stop .0) ∙ rw e, stop .2 (x .rows .now))
 
 returns-3 : tie.Need-returns-3
 unfolding openingBy foundBy
 returns-3 c =
     let b = c .before in
     let q = b .before .before in
-    let x = s (k q) .args in (
+    let x = start q .args in (
       ap Answered (b .body-of .ensures .0 ∙ ap answerOf (reads q)) ∙ other-found (kindFor (n (k q))) _ (other q) ∙ rw (ran (k q) .1),
       b .body-of .ensures .1 ∙ ap (λ (w : Outcome). rowsAfter w (x .rows .now)) (reads q),
     )
@@ -137,4 +163,5 @@ returns-3 c =
 pub find-spec : {M : Type 1} → statement M
 find-spec =
     tie.close
-    (tie.spec (λ c κs. within (c .before)) (λ c. search needs) (λ c κs. search needs) (λ c. search needs) (λ c κs. search needs) (λ c. search needs) returns (λ c. search needs) of-requires body-of-requires returns-2 (λ c. search needs) returns-3)
+    (tie.spec (λ c κs. search needs) (λ c κs. opens c .within .room) (λ c. search needs) (λ c κs. opens (c .before .before .before .before)) (λ c. search needs) (λ c κs. search needs) (λ c. search needs) returns
+    of-requires body-of-requires returns-2 (λ c. search needs) returns-3)

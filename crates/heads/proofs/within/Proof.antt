@@ -1,0 +1,17 @@
+-- `heads::within` meets its contract. Assumes nothing.
+use mathlib.Core.Path.{_∙_, ap}
+use Prim.Native.Nat.{ℕ, _+_, _-_, _/_, _%_, _^_}
+use native.Mathlib.Omega.{arith}
+use borrow.Author.Needs.{needs}
+use Rattle.bits.proofs.Windows.{in-field}
+use Rattle.heads.proofs.within.Statement.{statement}
+use Rattle.heads.proofs.within.Tie as tie
+
+returns : tie.Need-returns
+returns c =
+    let x = c .before .args in
+    let t : ℕ = 64 - (8 + x .first) - x .w in
+    λ bs opens. c .cut .ensures ∙ ap (λ (b : ℕ). b / 2 ^ t % 2 ^ x .w) (opens .bits) ∙ in-field bs (x .f .start) 56 (x .first) (x .w) t (omega (arith, c .before .pre))
+
+pub within-spec : {M : Type 1} → statement M
+within-spec = tie.close (tie.spec (λ c. search needs) (λ c κs. search needs) returns)
