@@ -6,6 +6,11 @@ use Rattle.format.specs.Masks.{Satellite, Cell, placesFrom, pick}
 use Rattle.format.specs.Messages.{satelliteLines, cellLines}
 use Rattle.format.specs.Rows.{Column, Line}
 use Rattle.holding.specs.Held.{cellsAt}
+use Rattle.body.specs.declared.Satellite.{Satellite as CodeSatellite}
+
+-- a satellite as the code has it
+abbrev pub satelliteOf : CodeSatellite → Satellite
+satelliteOf sat = record { system = sat .system; number = sat .number }
 
 -- one for each satellite
 unfoldable pub alone : (ℕ → List Column) → List Satellite → List (List Line)

@@ -21,6 +21,7 @@ ghost use Rattle.rows.specs.At.{rowsAt};
 ghost use Rattle.table.specs.declared.Keys.the-variants.{Satellites};
 ghost use Rattle.table.specs.Bodies.{linesIn, linesOver, Fits};
 use holding::Holding;
+use rows::shape::Shape;
 use rows::shapes;
 use table::ALL;
 use table::Body;
@@ -30,6 +31,19 @@ use table::Keys;
 pub struct Extent {
     pub bits: usize,
     pub rows: usize,
+}
+
+// A satellite: its system, and its number there.
+pub struct Satellite {
+    pub system: u8,
+    pub number: usize,
+}
+
+// Which rows are wanted: their shape, the satellites that are chosen, and the place where their bits begin.
+pub struct Wanted {
+    pub shape: Shape,
+    pub chosen: u64,
+    pub at: usize,
 }
 
 // Where writing rows ended: how many numbers they are, and the place behind their bits.

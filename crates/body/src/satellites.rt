@@ -16,6 +16,7 @@ use crate::End;
 use crate::Extent;
 use crate::FIRST;
 use crate::Passed;
+use crate::Wanted;
 use crate::alike;
 use holding::set_places;
 use rows::row;
@@ -37,24 +38,16 @@ fn width(s: Shape, system: u8) -> usize
 
 // The rows of one system's satellites that are chosen: its mask and the selection each begin at the highest of
 // 64 bits.
-fn slot(
-    id: u8,
-    word: u64,
-    chosen: u64,
-    s: Shape,
-    bytes: &[u8],
-    at: usize,
-    rows: &mut [i32],
-) -> Passed
-    requires { ⌜ FormedShape s × Laid s × Room (chosenLines chosen (alone (columnsIn s) (satellitesIn 64 id word))) (now bytes) at (now rows) ⌝ }
-    ensures { λ r. ⌜ Handed chosen (alone (columnsIn s) (satellitesIn 64 id word)) (now (bytes .entry)) at (now (rows .entry)) (now (rows .exit)) r ⌝ }
+fn slot(id: u8, word: u64, wanted: Wanted, bytes: &[u8], rows: &mut [i32]) -> Passed
+    requires { ⌜ FormedShape (wanted .shape) × Laid (wanted .shape) × Room (chosenLines (wanted .chosen) (alone (columnsIn (wanted .shape)) (satellitesIn 64 id word))) (now bytes) (wanted .at) (now rows) ⌝ }
+    ensures { λ r. ⌜ Handed (wanted .chosen) (alone (columnsIn (wanted .shape)) (satellitesIn 64 id word)) (now (bytes .entry)) (wanted .at) (now (rows .entry)) (now (rows .exit)) r ⌝ }
 {
-    let iode = shapes::iode(id);
+    let s = wanted.shape;
     let width = width(s, id);
     let mut left = word;
-    let mut marks = chosen;
+    let mut marks = wanted.chosen;
     let mut k = 0;
-    let mut place = at;
+    let mut place = wanted.at;
     while left > 0 {
         let number = set_places::first(left) + 1;
         let mark = marks;
@@ -62,7 +55,7 @@ fn slot(
         marks = marks << 1;
         if mark >= FIRST {
             let e = k + 8;
-            row::satellite(&mut rows[k..e], id, number as i32, bytes, place, iode, s);
+            row::satellite(&mut rows[k..e], id, number as i32, bytes, place, s);
             k = e;
             place += width;
         }
@@ -75,26 +68,24 @@ fn slot(
 }
 
 // The rows of all systems' satellites that are chosen.
-pub fn fill(
-    ids: &[u8],
-    masks: &[u64],
-    s: Shape,
-    chosen: u64,
-    bytes: &[u8],
-    at: usize,
-    rows: &mut [i32],
-)
-    requires { ⌜ (length (now ids) ≤ length (now masks)) × (narrow 40 (now masks) ≡ true) × FormedShape s × Laid s × Room (chosenLines chosen (alone (columnsIn s) (slotSatellites (now ids) (now masks)))) (now bytes) at (now rows) ⌝ }
-    ensures { λ _. ⌜ now (rows .exit) ≡ over (numbersAt (chosenLines chosen (alone (columnsIn s) (slotSatellites (now (ids .entry)) (now (masks .entry))))) (now (bytes .entry)) at) (now (rows .entry)) ⌝ }
+pub fn fill(ids: &[u8], masks: &[u64], wanted: Wanted, bytes: &[u8], rows: &mut [i32])
+    requires { ⌜ (length (now ids) ≤ length (now masks)) × (narrow 40 (now masks) ≡ true) × FormedShape (wanted .shape) × Laid (wanted .shape) × Room (chosenLines (wanted .chosen) (alone (columnsIn (wanted .shape)) (slotSatellites (now ids) (now masks)))) (now bytes) (wanted .at) (now rows) ⌝ }
+    ensures { λ _. ⌜ now (rows .exit) ≡ over (numbersAt (chosenLines (wanted .chosen) (alone (columnsIn (wanted .shape)) (slotSatellites (now (ids .entry)) (now (masks .entry))))) (now (bytes .entry)) (wanted .at)) (now (rows .entry)) ⌝ }
 {
-    let mut marks = chosen;
+    let shape = wanted.shape;
+    let mut marks = wanted.chosen;
     let mut k = 0;
-    let mut place = at;
+    let mut place = wanted.at;
     let mut i = 0;
     while i < ids.len() {
         let mask = masks[i];
         let id = ids[i];
-        let passed = slot(id, mask << 24, marks, s, bytes, place, &mut rows[k..]);
+        let left = Wanted {
+            shape,
+            chosen: marks,
+            at: place,
+        };
+        let passed = slot(id, mask << 24, left, bytes, &mut rows[k..]);
         let end = passed.end;
         k += end.filled;
         place = end.at;

@@ -12,6 +12,7 @@ ghost use Rattle.rows.specs.Shapes.{Laid, Narrow};
 ghost use Rattle.rows.specs.Table.{shapeFor};
 ghost use Rattle.table.specs.declared.Keys.the-variants.{Satellites, Cells};
 ghost use Rattle.table.specs.Bodies.{linesIn, linesOver, Fits};
+use crate::Wanted;
 use crate::cells;
 use crate::packet;
 use crate::satellites;
@@ -28,8 +29,12 @@ fn by_satellites(h: Holding, shape: usize, chosen: u64, bytes: &[u8], at: usize,
     let ids = h.ids;
     let masks = h.satellites;
     let count = h.count;
-    let s = shapes::shape_of(shape);
-    satellites::fill(&ids[..count], &masks, s, chosen, bytes, at, rows)
+    let wanted = Wanted {
+        shape: shapes::shape_of(shape),
+        chosen,
+        at,
+    };
+    satellites::fill(&ids[..count], &masks, wanted, bytes, rows)
 }
 
 // A row for each cell of the satellites that are chosen.
@@ -41,8 +46,12 @@ fn by_cells(h: Holding, shape: usize, chosen: u64, bytes: &[u8], at: usize, rows
     let masks = h.satellites;
     let strips = h.strips;
     let count = h.count;
-    let s = shapes::shape_of(shape);
-    cells::fill(&ids[..count], &masks, &strips, s, chosen, bytes, at, rows)
+    let wanted = Wanted {
+        shape: shapes::shape_of(shape),
+        chosen,
+        at,
+    };
+    cells::fill(&ids[..count], &masks, &strips, wanted, bytes, rows)
 }
 
 pub fn fill(h: Holding, body: Body, bytes: &[u8], at: usize, rows: &mut [i32])
