@@ -91,7 +91,7 @@ fn satellites_size(h: Holding, shape: usize, chosen: u64) -> Extent
     let ids = h.ids;
     let masks = h.satellites;
     let count = h.count;
-    satellites::size(&ids[..count], &masks, shape, chosen)
+    satellites::size(h.nsat, &ids[..count], &masks, shape, chosen)
 }
 
 // How many cells the satellites that are chosen have.

@@ -4,8 +4,10 @@ ghost use mathlib.Core.Bool.{true};
 ghost use Prim.Native.Nat.{_-_, _*_, _/_, _^_, _≤_, _<_};
 ghost use lib.Count.{ones};
 ghost use lib.ListN.{length};
-ghost use Rattle.body.specs.Chosen.{alone, chosenLines};
+ghost use Rattle.bits.specs.BitLists.{spell};
+ghost use Rattle.body.specs.Chosen.{galileos, alone, chosenLines};
 ghost use Rattle.body.specs.Written.{numbersAt, Room, Handed, Counts};
+ghost use Rattle.format.specs.Masks.{pick};
 ghost use Rattle.format.specs.Reading.{over};
 ghost use Rattle.format.specs.Rows.{shapeWidth};
 ghost use Rattle.holding.specs.Bounds.{narrow};
@@ -110,30 +112,43 @@ fn picked(chosen: u64, n: usize) -> usize
     set_places::count(first)
 }
 
-// How many bits and rows the satellites that are chosen have.
-pub fn size(ids: &[u8], masks: &[u64], shape: usize, chosen: u64) -> Extent
-    requires { ⌜ (length (now ids) ≤ length (now masks)) × (narrow 40 (now masks) ≡ true) × (length (slotSatellites (now ids) (now masks)) ≤ 64) ⌝ }
-    ensures { λ r. ⌜ Counts (chosenLines chosen (alone (shapeAt shape) (slotSatellites (now (ids .entry)) (now (masks .entry))))) r ⌝ }
-{
-    let mut marks = chosen;
-    let mut bits = 0;
-    let mut count = 0;
-    let mut i = 0;
-    while i < ids.len() {
-        let n = set_places::count(masks[i]);
-        let some = picked(marks, n);
-        bits += some * shapes::width_in(shape, ids[i]);
-        count += some;
-        marks = marks << n;
-        i += 1;
-    }
-    Extent { bits, rows: count }
-}
-
-// And where their rows are of one width: n satellites, by their selection alone.
+// How many bits and rows n satellites that are chosen have, where their rows are of one width: by their selection alone.
 pub fn size_alike(n: usize, width: usize, chosen: u64) -> Extent
     requires { ⌜ (n ≤ 64) × (width ≤ 71) ⌝ }
     ensures { λ r. ⌜ r ≡ record { bits = ones (chosen / 2 ^ (64 - n)) * width; rows = ones (chosen / 2 ^ (64 - n)) } ⌝ }
 {
     alike(picked(chosen, n), width)
+}
+
+// How many satellites of Galileo are chosen.
+fn galileo(ids: &[u8], masks: &[u64], chosen: u64) -> usize
+    requires { ⌜ (length (now ids) ≤ length (now masks)) × (narrow 40 (now masks) ≡ true) × (length (slotSatellites (now ids) (now masks)) ≤ 64) ⌝ }
+    ensures { λ r. ⌜ r ≡ galileos (pick (spell 64 chosen) (slotSatellites (now (ids .entry)) (now (masks .entry)))) ⌝ }
+{
+    let mut marks = chosen;
+    let mut sum = 0;
+    let mut i = 0;
+    while i < ids.len() {
+        let n = set_places::count(masks[i]);
+        if ids[i] == shapes::GALILEO {
+            sum += picked(marks, n);
+        }
+        marks = marks << n;
+        i += 1;
+    }
+    sum
+}
+
+// And where an IODE is in them: of one width but for Galileo's.
+pub fn size(n: usize, ids: &[u8], masks: &[u64], shape: usize, chosen: u64) -> Extent
+    requires { ⌜ (length (now ids) ≤ length (now masks)) × (narrow 40 (now masks) ≡ true) × (length (slotSatellites (now ids) (now masks)) ≡ n) × (n ≤ 64) ⌝ }
+    ensures { λ r. ⌜ Counts (chosenLines chosen (alone (shapeAt shape) (slotSatellites (now (ids .entry)) (now (masks .entry))))) r ⌝ }
+{
+    let width = shapes::width_of(shape);
+    let even = size_alike(n, width, chosen);
+    let more = shapes::width_in(shape, shapes::GALILEO) - width;
+    Extent {
+        bits: even.bits + galileo(ids, masks, chosen) * more,
+        rows: even.rows,
+    }
 }

@@ -9,7 +9,7 @@ use Rattle.format.specs.Rows.{Line}
 use Rattle.holding.specs.Held.{viewOf}
 use Rattle.rows.proofs.Table.{width-at}
 use Rattle.body.specs.Written.{Counts}
-use Rattle.body.proofs.Bodies.{counted, prefix, few, lends, by-shape, alike}
+use Rattle.body.proofs.Bodies.{counted, prefix, many, few, lends, by-shape, alike}
 use Rattle.body.proofs.satellites_size.Statement.{statement}
 use Rattle.body.proofs.satellites_size.Tie as tie
 
@@ -31,7 +31,7 @@ size-requires : tie.Need-size-requires
 size-requires c κs =
     let s = c .before .before .before .before .before .before in
     let lent = lends (s .args .h) (s .pre) in
-    (lent .masked, lent .thin, lent .satellites)
+    (lent .masked, lent .thin, many (s .args .h) (s .pre), few (s .args .h) (s .pre))
 
 returns-2 : tie.Need-returns-2
 returns-2 c =
