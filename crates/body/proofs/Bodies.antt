@@ -21,7 +21,7 @@ use Rattle.format.proofs.Spells.{packet-count}
 use Rattle.format.specs.Lengths.{total}
 use Rattle.format.specs.Masks.{Satellite, Cell, pick}
 use Rattle.format.specs.Messages.{satelliteLines, cellLines, packetLines, packetShape}
-use Rattle.format.specs.Rows.{Column, absent, widthOf, shapeWidth, bodyWidth}
+use Rattle.format.specs.Rows.{Column, Line, absent, widthOf, shapeWidth, bodyWidth}
 use Rattle.holding.proofs.Sounds.{Sounds, sounds}
 use Rattle.holding.specs.Bounds.{narrow, every}
 use Rattle.holding.specs.declared.Holding.{Holding}
@@ -29,7 +29,6 @@ use Rattle.holding.specs.Held.{View, stripCells, slotsOf, viewOf}
 use Rattle.holding.specs.Pictures.{maskOf, sound}
 use Rattle.rows.proofs.RowsAt.{Eights, rows-length}
 use Rattle.rows.proofs.Table.{five-at, columns-in, no-iode}
-use Rattle.rows.specs.declared.shape.Shape.{Shape}
 use Rattle.rows.specs.Shapes.{columnsIn, Laid, Narrow}
 use Rattle.rows.specs.Table.{shapes, listed, shapeAt, shapeFor}
 use Rattle.table.specs.declared.Body.{Body}
@@ -37,6 +36,7 @@ use Rattle.table.specs.declared.Keys.{Keys}
 use Rattle.table.specs.declared.Keys.the-variants.{Satellites, Cells, Parts}
 use Rattle.table.specs.Bodies.{linesOver, linesIn, FitsKeys, Fits}
 use Rattle.body.specs.Chosen.{alone, cellsIn, striped, chosenLines}
+use Rattle.body.specs.Lent.{viewBy, Lent}
 use Rattle.body.specs.Written.{Room, Counts}
 use Rattle.body.proofs.Groups.{no-cells, alone-chosen, striped-chosen}
 use Rattle.body.proofs.Sizes.{Few, few-satellites, total-most, satellites-alike}
@@ -52,8 +52,8 @@ one-shape system i bare =
     sym (columns-in system i) ∙ same ∙ columns-in 0 i
 
 -- as the code has it
-made-columns : (shape : ℕ) (t : Shape) → t ≡ shapeFor shape → columnsIn t ≡ shapeAt shape
-made-columns shape t made = ap columnsIn made ∙ (λ i system. columns-in system shape i)
+made-columns : (shape : ℕ) → columnsIn (shapeFor shape) ≡ shapeAt shape
+made-columns shape = λ i system. columns-in system shape i
 
 -- ---- the cells of satellites that are chosen
 
@@ -152,6 +152,40 @@ parts-alike v n shape width last wide =
     let w : width ≡ 40 = wide ∙ rw last in
     record { bits = rw w (omega (arith, packet-width 1 n)); rows = sym (packet-count 1 n) }
 
+-- ---- the lines of the satellites that are chosen, one after the other
+
+module _ (v : View) (chosen shape : ℕ) where
+  pub by-shape : chosenLines chosen (alone (shapeAt shape) (v .satellites)) ≡ linesOver v (Satellites chosen) shape
+  unfolding linesOver
+  by-shape = alone-chosen (shapeAt shape) chosen (v .satellites)
+
+  pub by-satellites : chosenLines chosen (alone (columnsIn (shapeFor shape)) (v .satellites)) ≡ linesOver v (Satellites chosen) shape
+  by-satellites = ap (λ (f : ℕ → List Column). chosenLines chosen (alone f (v .satellites))) (made-columns shape) ∙ by-shape
+
+  pub by-cells : chosenLines chosen (striped (columnsIn (shapeFor shape)) (v .satellites) (v .strips)) ≡ linesOver v (Cells chosen) shape
+  unfolding linesOver
+  by-cells =
+      ap (λ (f : ℕ → List Column). chosenLines chosen (striped f (v .satellites) (v .strips))) (made-columns shape) ∙ striped-chosen (shapeAt shape) chosen (v .satellites) (v .strips)
+
+-- ---- under what is lent
+
+module _ {ids masks strips : List ℕ} (lent : Lent ids masks strips) (body : Body) (fits : Fits body) where
+  abbrev lines : List Line
+  lines = linesIn (viewBy ids masks strips) body
+
+  pub few-in : Few lines
+  unfolding linesIn
+  few-in = few-lines (viewBy ids masks strips) (body .keys) (body .shape) (lent .satellites) (lent .cells) fits
+
+  -- 2048 numbers are room for every body
+  pub roomy : {keys : Keys} (bytes : List ℕ) (at bits : ℕ) (rows : List ℤ) → body .keys ≡ keys → bits ≡ bodyWidth lines → at + bits < 2 ^ 32 → 2048 ≤ length rows
+      → at + bits + 120 ≤ 8 * length bytes → Room (linesOver (viewBy ids masks strips) keys (body .shape)) bytes at rows
+  unfolding linesIn
+  roomy bytes at bits rows known wide near room whole =
+      let long = rows-length lines bytes at (eights (viewBy ids masks strips) (body .keys) (body .shape) fits) in
+      let short = few-in .rows in
+      rw (lines-known (viewBy ids masks strips) body known) (record { room = omega (arith, long, short); few = omega (arith, long, short); near = omega arith; whole = omega arith })
+
 -- ---- under a sound holding
 
 module _ (h : Holding) (e : sound h ≡ true) where
@@ -164,9 +198,6 @@ module _ (h : Holding) (e : sound h ≡ true) where
   pub prefix : h .count ≡ length (take (h .count) (h .ids))
   prefix = sym (length-take-le (h .count) (h .ids) counted)
 
-  pub masked : (length (take (h .count) (h .ids)) ≤ length (h .satellites)) × (narrow 40 (h .satellites) ≡ true)
-  masked = (omega (arith, prefix, s .few-systems, s .shaped .satellites), s .satellites-narrow)
-
   pub many : length (slotsOf h) ≡ h .nsat
   many = ap length (s .slots) ∙ sym (s .nsat)
 
@@ -176,11 +207,18 @@ module _ (h : Holding) (e : sound h ≡ true) where
   pub stripped : h .nsat ≤ length (h .strips)
   stripped = omega (arith, few, s .shaped .strips)
 
-  pub covered : length (slotsOf h) ≤ length (h .strips)
-  covered = omega (arith, many, stripped)
-
   all-cells : h .ncell ≡ length (stripCells (slotsOf h) (h .strips))
   all-cells = s .ncell ∙ ap length (sym (ap (λ (l : List Satellite). stripCells l (h .strips)) (s .slots) ∙ s .strips))
+
+  pub lends : Lent (take (h .count) (h .ids)) (h .satellites) (h .strips)
+  lends =
+      record {
+        masked = omega (arith, prefix, s .few-systems, s .shaped .satellites);
+        thin = s .satellites-narrow;
+        covered = omega (arith, many, stripped);
+        satellites = omega (arith, many, few);
+        cells = omega (arith, all-cells, s .few-cells);
+      }
 
   -- ---- the cells that are chosen
 
@@ -189,40 +227,10 @@ module _ (h : Holding) (e : sound h ≡ true) where
       rw (all, pick-all (slotsOf h) (omega (arith, many, few)), pick-all (h .strips) (omega (arith, s .shaped .strips))) all-cells
 
   pub some-cells : (chosen : ℕ) → total ones (pick (spell 64 chosen) (take (h .nsat) (h .strips))) ≡ length (stripCells (pick (spell 64 chosen) (slotsOf h)) (pick (spell 64 chosen) (h .strips)))
-  some-cells chosen = ap (λ (n : ℕ). total ones (pick (spell 64 chosen) (take n (h .strips)))) (sym many) ∙ sym (cells-count (spell 64 chosen) (slotsOf h) (h .strips) (s .shaped .strips-narrow) covered)
+  some-cells chosen = ap (λ (n : ℕ). total ones (pick (spell 64 chosen) (take n (h .strips)))) (sym many) ∙ sym (cells-count (spell 64 chosen) (slotsOf h) (h .strips) (s .shaped .strips-narrow) (lends .covered))
 
   pub few-chosen : (chosen : ℕ) → length (stripCells (pick (spell 64 chosen) (slotsOf h)) (pick (spell 64 chosen) (h .strips))) ≤ 256
   few-chosen chosen = omega (arith, all-cells, s .few-cells, cells-few (spell 64 chosen) (slotsOf h) (h .strips))
-
-  -- ---- the lines
-
-  pub by-shape : (chosen shape : ℕ) → chosenLines chosen (alone (shapeAt shape) (slotsOf h)) ≡ linesOver (viewOf h) (Satellites chosen) shape
-  unfolding linesOver
-  by-shape chosen shape = alone-chosen (shapeAt shape) chosen (slotsOf h)
-
-  pub by-satellites : (chosen shape : ℕ) (t : Shape) → t ≡ shapeFor shape → chosenLines chosen (alone (columnsIn t) (slotsOf h)) ≡ linesOver (viewOf h) (Satellites chosen) shape
-  by-satellites chosen shape t made = ap (λ (f : ℕ → List Column). chosenLines chosen (alone f (slotsOf h))) (made-columns shape t made) ∙ by-shape chosen shape
-
-  pub by-cells : (chosen shape : ℕ) (t : Shape) → t ≡ shapeFor shape → chosenLines chosen (striped (columnsIn t) (slotsOf h) (h .strips)) ≡ linesOver (viewOf h) (Cells chosen) shape
-  unfolding linesOver
-  by-cells chosen shape t made =
-      ap (λ (f : ℕ → List Column). chosenLines chosen (striped f (slotsOf h) (h .strips))) (made-columns shape t made) ∙ striped-chosen (shapeAt shape) chosen (slotsOf h) (h .strips)
-
-  -- ---- their bounds
-
-  pub few-in : (body : Body) → Fits body → Few (linesIn (viewOf h) body)
-  unfolding linesIn
-  few-in body fits = few-lines (viewOf h) (body .keys) (body .shape) (omega (arith, many, few)) (omega (arith, all-cells, s .few-cells)) fits
-
-  -- 2048 numbers are room for every body
-  pub roomy : (body : Body) {keys : Keys} (bytes : List ℕ) (at : ℕ) (rows : List ℤ) → body .keys ≡ keys → Fits body → at + bodyWidth (linesIn (viewOf h) body) < 2 ^ 32
-      → at + bodyWidth (linesIn (viewOf h) body) + 120 ≤ 8 * length bytes → 2048 ≤ length rows → Room (linesOver (viewOf h) keys (body .shape)) bytes at rows
-  unfolding linesIn
-  roomy body bytes at rows known fits near whole room =
-      let lines = linesIn (viewOf h) body in
-      let long = rows-length lines bytes at (eights (viewOf h) (body .keys) (body .shape) fits) in
-      let short = few-in body fits .rows in
-      rw (lines-known (viewOf h) body known) (record { room = omega (arith, long, short); few = omega (arith, long, short); near = near; whole = whole })
 
   -- ---- satellites whose rows have no IODE
 

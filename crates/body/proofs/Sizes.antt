@@ -1,29 +1,32 @@
 -- How many bits and rows the chosen satellites of slots have. Assumes nothing.
-use mathlib.Core.Path.{_≡_, sym, ap, _∙_}
-use mathlib.Core.List.{List, [], _∷_, map-map, _++_}
+use mathlib.Core.Path.{_≡_, refl, sym, ap, _∙_}
+use mathlib.Core.Bool.{Bool, true, false, cond}
+use mathlib.Core.List.{List, [], _∷_, map}
 use Prim.Native.Nat.{ℕ, suc, _+_, _-_, _*_, _/_, _%_, _^_, _≤_, _<_}
-use native.Mathlib.Nat.{mul-comm, mul-suc}
+use native.Mathlib.Nat.{add-mul, mul-comm, mul-suc, mul-zero, suc-mul, zero-mul}
 use native.Mathlib.Omega.{arith}
 use lib.Count.{ones, ones-le}
+use lib.Dec.{eqb}
 use lib.Pow.{shr-le}
-use lib.ListN.{length, getD, length-append, length-map}
+use lib.ListN.{length, getD, length-map}
 use Rattle.bits.specs.BitLists.{spell}
-use Rattle.format.proofs.Lengths.{satellite-width, total-same}
+use Rattle.format.proofs.Lengths.{satellite-width, total-append, total-same}
 use Rattle.format.specs.Lengths.{total}
-use Rattle.format.specs.Masks.{Satellite, pick}
+use Rattle.format.specs.Masks.{Satellite, placesFrom, pick}
 use Rattle.format.specs.Messages.{satelliteLines}
 use Rattle.format.specs.Rows.{Column, Line, shapeWidth, bodyWidth}
 use Rattle.holding.specs.Held.{satellitesIn}
-use Rattle.rows.proofs.RowsAt.{width-append}
-use Rattle.rows.proofs.Table.{width-at}
+use Rattle.rows.proofs.Table.{width-at, width-by}
 use Rattle.rows.specs.Table.{shapeAt}
-use Rattle.body.specs.Chosen.{alone, chosenLines}
+use Rattle.body.specs.Chosen.{galileos, alone, chosenLines}
 use Rattle.body.specs.Written.{Counts}
-use Rattle.body.proofs.Groups.{alone-length, alone-append, alone-chosen}
-use Rattle.body.proofs.Selected.{picked}
-use Rattle.format.proofs.Picks.{pick-few}
+use Rattle.body.proofs.Groups.{alone-chosen}
+use Rattle.body.proofs.Selected.{pick-split, picked}
+use Rattle.format.proofs.Picks.{pick-few, pick-map}
 use Rattle.body.proofs.Slots.{inSlot, fromSlot, Slot}
-use Rattle.body.proofs.Walking.{chosen-split}
+
+abbrev sat : ℕ → ℕ → Satellite
+sat id place = record { system = id; number = suc place }
 
 -- a selection of n satellites chooses at most 64
 pub few-ones : (c n : ℕ) → c < 2 ^ 64 → n ≤ 64 → ones (c / 2 ^ (64 - n)) ≤ 64
@@ -41,34 +44,6 @@ satellites-alike shape width c n some sats same small many few e =
       bits = ap (λ (k : ℕ). k * width) rows ∙ mul-comm (length chosen) width ∙ sym (satellite-width shape chosen ∙ total-same _ width chosen (λ s. same (s .system)));
       rows = rows ∙ sym (length-map chosen _);
     }
-
--- ---- those of one slot are of one system
-
-alone-system : (shape : ℕ → List Column) (id x : ℕ) → alone shape (satellitesIn 64 id x) ≡ alone (λ _. shape id) (satellitesIn 64 id x)
-unfolding alone satelliteLines satellitesIn
-alone-system shape id x = simp map-map
-
--- the bits and rows of the next slot and those of the others
-module _ (shape : ℕ → List Column) (ids masks : List ℕ) (i c n some width : ℕ) (slot : Slot ids masks i) (small : c < 2 ^ 64) (many : n ≡ ones (getD masks i 0))
-    (e : some ≡ ones (c / 2 ^ (64 - n))) (wide : width ≡ shapeWidth (shape (getD ids i 0))) where
-  here : Counts (chosenLines c (alone shape (inSlot ids masks i))) (record { bits = some * width; rows = some })
-  here =
-      let id : ℕ = getD ids i 0 in
-      let sats : List Satellite = inSlot ids masks i in
-      let one : chosenLines c (alone shape sats) ≡ satelliteLines (λ _. shape id) (pick (spell 64 c) sats) =
-      ap (chosenLines c) (alone-system shape id (getD masks i 0 * 2 ^ 24 % 2 ^ 64)) ∙ alone-chosen (λ _. shape id) c sats in
-      rw one (satellites-alike (λ _. shape id) width c n some sats (λ system. sym wide) small (slot .count ∙ sym many) (omega (arith, slot .few, slot .count)) e)
-
-  lines : chosenLines c (alone shape (fromSlot ids masks i)) ≡ chosenLines c (alone shape (inSlot ids masks i)) ++ chosenLines (c * 2 ^ n % 2 ^ 64) (alone shape (fromSlot ids masks (suc i)))
-  lines =
-      ap (chosenLines c) (alone-append shape _ _ (slot .both))
-      ∙ chosen-split c n (alone shape (inSlot ids masks i)) _ (alone-length shape (inSlot ids masks i) ∙ slot .count ∙ sym many) (omega (arith, slot .few, slot .count))
-
-  pub slot-bits : bodyWidth (chosenLines c (alone shape (fromSlot ids masks i))) ≡ some * width + bodyWidth (chosenLines (c * 2 ^ n % 2 ^ 64) (alone shape (fromSlot ids masks (suc i))))
-  slot-bits = ap bodyWidth lines ∙ width-append (chosenLines c (alone shape (inSlot ids masks i))) _ ∙ omega (arith, here .bits)
-
-  pub slot-rows : length (chosenLines c (alone shape (fromSlot ids masks i))) ≡ some + length (chosenLines (c * 2 ^ n % 2 ^ 64) (alone shape (fromSlot ids masks (suc i))))
-  slot-rows = ap length lines ∙ length-append (chosenLines c (alone shape (inSlot ids masks i))) _ ∙ omega (arith, here .rows)
 
 -- ---- at most 64 satellites of at most 71 bits
 
@@ -92,5 +67,57 @@ few-satellites shape c sats few =
       bits = omega (arith, satellite-width (shapeAt shape) chosen, total-most (λ (s : Satellite). shapeWidth (shapeAt shape (s .system))) 71 chosen (λ s. width-at (s .system) shape));
     }
 
-pub few-alone : (shape c : ℕ) (sats : List Satellite) → length sats ≤ 64 → Few (chosenLines c (alone (shapeAt shape) sats))
-few-alone shape c sats few = rw (alone-chosen (shapeAt shape) c sats) (few-satellites shape c sats few)
+-- ---- those of Galileo
+
+one-most : (b : Bool) → cond b 1 0 ≤ 1
+one-most true = omega arith
+one-most false = omega arith
+
+pub few-galileos : (sats : List Satellite) → galileos sats ≤ length sats
+unfolding galileos
+few-galileos sats = omega (arith, total-most (λ (s : Satellite). cond (eqb (s .system) 2) 1 0) 1 sats (λ s. one-most (eqb (s .system) 2)))
+
+-- of one system all are, or none is
+system-galileos : (id : ℕ) (places : List ℕ) → galileos (map (λ place. record { system = id; number = suc place }) places) ≡ cond (eqb id 2) 1 0 * length places
+unfolding galileos total
+system-galileos id [] = sym (mul-zero (cond (eqb id 2) 1 0))
+system-galileos id (place ∷ places) = omega (arith, system-galileos id places, mul-suc (cond (eqb id 2) 1 0) (length places))
+
+-- those of the next slot that are chosen, and those of the others
+module _ (ids masks : List ℕ) (i c n : ℕ) (slot : Slot ids masks i) (small : c < 2 ^ 64) (many : n ≡ ones (getD masks i 0)) where
+  here : galileos (pick (spell 64 c) (inSlot ids masks i)) ≡ cond (eqb (getD ids i 0) 2) 1 0 * ones (c / 2 ^ (64 - n))
+  unfolding satellitesIn
+  here =
+      let id : ℕ = getD ids i 0 in
+      let places : List ℕ = placesFrom 0 (spell 64 (getD masks i 0 * 2 ^ 24 % 2 ^ 64)) in
+      let long : length places ≡ n = sym (length-map places (λ (place : ℕ). sat id place)) ∙ slot .count ∙ sym many in
+      ap galileos (pick-map (λ (place : ℕ). sat id place) (spell 64 c) places)
+      ∙ system-galileos id (pick (spell 64 c) places)
+      ∙ ap (λ (k : ℕ). cond (eqb id 2) 1 0 * k) (picked c places small (omega (arith, slot .few, slot .count)) ∙ ap (λ (k : ℕ). ones (c / 2 ^ (64 - k))) long)
+
+  pub slot-galileos : galileos (pick (spell 64 c) (fromSlot ids masks i))
+      ≡ cond (eqb (getD ids i 0) 2) 1 0 * ones (c / 2 ^ (64 - n)) + galileos (pick (spell 64 (c * 2 ^ n % 2 ^ 64)) (fromSlot ids masks (suc i)))
+  unfolding galileos
+  slot-galileos =
+      let both = pick-split c n (inSlot ids masks i) (fromSlot ids masks (suc i)) (slot .count ∙ sym many) (omega (arith, slot .few, slot .count)) in
+      ap (λ (l : List Satellite). galileos (pick (spell 64 c) l)) (slot .both) ∙ ap galileos both
+      ∙ total-append _ (pick (spell 64 c) (inSlot ids masks i)) _ ∙ ap (λ (k : ℕ). k + galileos (pick (spell 64 (c * 2 ^ n % 2 ^ 64)) (fromSlot ids masks (suc i)))) here
+
+-- the bits of satellites are of one width but for Galileo's
+longer-width : (i : ℕ) (sats : List Satellite)
+    → bodyWidth (satelliteLines (shapeAt i) sats) ≡ length sats * shapeWidth (shapeAt i 0) + galileos sats * (shapeWidth (shapeAt i 2) - shapeWidth (shapeAt i 0))
+unfolding satelliteLines bodyWidth galileos total
+longer-width i [] = omega (arith, zero-mul (shapeWidth (shapeAt i 0)), zero-mul (shapeWidth (shapeAt i 2) - shapeWidth (shapeAt i 0)))
+longer-width i (s ∷ sats) =
+    let width : ℕ = shapeWidth (shapeAt i 0) in
+    let more : ℕ = shapeWidth (shapeAt i 2) - width in
+    omega (arith, width-by i (s .system) _ refl, longer-width i sats, suc-mul (length sats) width, add-mul (cond (eqb (s .system) 2) 1 0) (galileos sats) more)
+
+pub satellites-longer : (i c n width wide longer : ℕ) (sats : List Satellite) → c < 2 ^ 64 → length sats ≡ n → n ≤ 64 → width ≡ shapeWidth (shapeAt i 0) → wide ≡ shapeWidth (shapeAt i 2)
+    → longer ≡ galileos (pick (spell 64 c) sats)
+    → let some = ones (c / 2 ^ (64 - n)) in Counts (chosenLines c (alone (shapeAt i) sats)) (record { bits = some * width + longer * (wide - width); rows = some })
+unfolding satelliteLines
+satellites-longer i c n width wide longer sats small many few d e f =
+    let chosen : List Satellite = pick (spell 64 c) sats in
+    let rows : ones (c / 2 ^ (64 - n)) ≡ length chosen = ap (λ (k : ℕ). ones (c / 2 ^ (64 - k))) (sym many) ∙ sym (picked c sats small (omega arith)) in
+    rw (alone-chosen (shapeAt i) c sats, rows, d, e, f) (record { bits = sym (longer-width i chosen); rows = sym (length-map chosen _) })

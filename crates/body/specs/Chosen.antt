@@ -1,11 +1,23 @@
 -- The lines of a body satellite by satellite, and those of the satellites that a selection chooses.
+use mathlib.Core.Bool.{cond}
 use mathlib.Core.List.{List, [], _∷_, map, flatten}
 use Prim.Native.Nat.{ℕ}
+use lib.Dec.{eqb}
 use Rattle.bits.specs.BitLists.{spell}
+use Rattle.format.specs.Lengths.{total}
 use Rattle.format.specs.Masks.{Satellite, Cell, placesFrom, pick}
 use Rattle.format.specs.Messages.{satelliteLines, cellLines}
 use Rattle.format.specs.Rows.{Column, Line}
 use Rattle.holding.specs.Held.{cellsAt}
+use Rattle.body.specs.declared.Satellite.{Satellite as CodeSatellite}
+
+-- a satellite as the code has it
+abbrev pub satelliteOf : CodeSatellite → Satellite
+satelliteOf sat = record { system = sat .system; number = sat .number }
+
+-- how many are Galileo's
+unfoldable pub galileos : List Satellite → ℕ
+galileos sats = total (λ sat. cond (eqb (sat .system) 2) 1 0) sats
 
 -- one for each satellite
 unfoldable pub alone : (ℕ → List Column) → List Satellite → List (List Line)

@@ -1,2 +1,3 @@
 pub mod Chosen
+pub mod Lent
 pub mod Written

@@ -5,7 +5,7 @@ ghost use Prim.Native.Nat.{_≤_, _<_, _^_};
 ghost use lib.Count.{ones};
 ghost use lib.ListN.{length};
 ghost use Rattle.bits.specs.BitLists.{spell};
-ghost use Rattle.body.specs.Chosen.{cellsIn, striped, chosenLines};
+ghost use Rattle.body.specs.Chosen.{satelliteOf, cellsIn, striped, chosenLines};
 ghost use Rattle.body.specs.Written.{numbersAt, Room, Wrote, Handed};
 ghost use Rattle.format.specs.Lengths.{total};
 ghost use Rattle.format.specs.Masks.{pick};
@@ -17,34 +17,33 @@ ghost use Rattle.rows.specs.Shapes.{columnsIn, FormedShape, Narrow};
 use crate::End;
 use crate::FIRST;
 use crate::Passed;
+use crate::Satellite;
+use crate::Wanted;
 use holding::set_places;
 use rows::row;
+use rows::row::Key;
 use rows::shape;
 use rows::shape::Shape;
 
 // The rows of one satellite's cells, by its strip, which begins at the highest of 64 bits.
-fn satellite(
-    id: u8,
-    number: usize,
-    word: u64,
-    s: Shape,
-    bytes: &[u8],
-    at: usize,
-    rows: &mut [i32],
-) -> End
-    requires { ⌜ (number < 2 ^ 31) × FormedShape s × Narrow s × Room (cellLines (columnsIn s) (cellsIn 64 (record { system = id; number = number }) word)) (now bytes) at (now rows) ⌝ }
-    ensures { λ r. ⌜ Wrote (cellLines (columnsIn s) (cellsIn 64 (record { system = id; number = number }) word)) (now (bytes .entry)) at (now (rows .entry)) (now (rows .exit)) r ⌝ }
+fn satellite(sat: Satellite, word: u64, s: Shape, bytes: &[u8], at: usize, rows: &mut [i32]) -> End
+    requires { ⌜ (sat .number < 2 ^ 31) × FormedShape s × Narrow s × Room (cellLines (columnsIn s) (cellsIn 64 (satelliteOf sat) word)) (now bytes) at (now rows) ⌝ }
+    ensures { λ r. ⌜ Wrote (cellLines (columnsIn s) (cellsIn 64 (satelliteOf sat) word)) (now (bytes .entry)) at (now (rows .entry)) (now (rows .exit)) r ⌝ }
 {
-    let system = id as i32;
-    let satellite = number as i32;
+    let system = sat.system as i32;
+    let satellite = sat.number as i32;
     let width = shape::width(s);
     let mut left = word;
     let mut k = 0;
     let mut place = at;
     while left > 0 {
-        let signal = set_places::first(left) as i32;
+        let key = Key {
+            system,
+            satellite,
+            signal: set_places::first(left) as i32,
+        };
         let e = k + 8;
-        row::cell(&mut rows[k..e], system, satellite, signal, bytes, place, s);
+        row::cell(&mut rows[k..e], key, bytes, place, s);
         left = set_places::rest(left);
         k = e;
         place += width;
@@ -57,24 +56,16 @@ fn satellite(
 
 // The rows of one system's cells: the strips, in their order, of the satellites that are chosen. Its mask and the
 // selection each begin at the highest of 64 bits.
-fn slot(
-    id: u8,
-    word: u64,
-    strips: &[u16],
-    chosen: u64,
-    s: Shape,
-    bytes: &[u8],
-    at: usize,
-    rows: &mut [i32],
-) -> Passed
-    requires { ⌜ (length (satellitesIn 64 id word) ≤ length (now strips)) × FormedShape s × Narrow s × Room (chosenLines chosen (striped (columnsIn s) (satellitesIn 64 id word) (now strips))) (now bytes) at (now rows) ⌝ }
-    ensures { λ r. ⌜ Handed chosen (striped (columnsIn s) (satellitesIn 64 id word) (now (strips .entry))) (now (bytes .entry)) at (now (rows .entry)) (now (rows .exit)) r ⌝ }
+fn slot(id: u8, word: u64, strips: &[u16], wanted: Wanted, bytes: &[u8], rows: &mut [i32]) -> Passed
+    requires { ⌜ (length (satellitesIn 64 id word) ≤ length (now strips)) × FormedShape (wanted .shape) × Narrow (wanted .shape) × Room (chosenLines (wanted .chosen) (striped (columnsIn (wanted .shape)) (satellitesIn 64 id word) (now strips))) (now bytes) (wanted .at) (now rows) ⌝ }
+    ensures { λ r. ⌜ Handed (wanted .chosen) (striped (columnsIn (wanted .shape)) (satellitesIn 64 id word) (now (strips .entry))) (now (bytes .entry)) (wanted .at) (now (rows .entry)) (now (rows .exit)) r ⌝ }
 {
+    let s = wanted.shape;
     let mut left = word;
-    let mut marks = chosen;
+    let mut marks = wanted.chosen;
     let mut n = 0;
     let mut k = 0;
-    let mut place = at;
+    let mut place = wanted.at;
     while left > 0 {
         let number = set_places::first(left) + 1;
         let strip = strips[n] as u64;
@@ -83,7 +74,8 @@ fn slot(
         marks = marks << 1;
         n += 1;
         if mark >= FIRST {
-            let end = satellite(id, number, strip << 48, s, bytes, place, &mut rows[k..]);
+            let sat = Satellite { system: id, number };
+            let end = satellite(sat, strip << 48, s, bytes, place, &mut rows[k..]);
             k += end.filled;
             place = end.at;
         }
@@ -100,33 +92,28 @@ pub fn fill(
     ids: &[u8],
     masks: &[u64],
     strips: &[u16],
-    s: Shape,
-    chosen: u64,
+    wanted: Wanted,
     bytes: &[u8],
-    at: usize,
     rows: &mut [i32],
 )
-    requires { ⌜ (length (now ids) ≤ length (now masks)) × (narrow 40 (now masks) ≡ true) × (length (slotSatellites (now ids) (now masks)) ≤ length (now strips)) × FormedShape s × Narrow s × Room (chosenLines chosen (striped (columnsIn s) (slotSatellites (now ids) (now masks)) (now strips))) (now bytes) at (now rows) ⌝ }
-    ensures { λ _. ⌜ now (rows .exit) ≡ over (numbersAt (chosenLines chosen (striped (columnsIn s) (slotSatellites (now (ids .entry)) (now (masks .entry))) (now (strips .entry)))) (now (bytes .entry)) at) (now (rows .entry)) ⌝ }
+    requires { ⌜ (length (now ids) ≤ length (now masks)) × (narrow 40 (now masks) ≡ true) × (length (slotSatellites (now ids) (now masks)) ≤ length (now strips)) × FormedShape (wanted .shape) × Narrow (wanted .shape) × Room (chosenLines (wanted .chosen) (striped (columnsIn (wanted .shape)) (slotSatellites (now ids) (now masks)) (now strips))) (now bytes) (wanted .at) (now rows) ⌝ }
+    ensures { λ _. ⌜ now (rows .exit) ≡ over (numbersAt (chosenLines (wanted .chosen) (striped (columnsIn (wanted .shape)) (slotSatellites (now (ids .entry)) (now (masks .entry))) (now (strips .entry)))) (now (bytes .entry)) (wanted .at)) (now (rows .entry)) ⌝ }
 {
-    let mut marks = chosen;
+    let shape = wanted.shape;
+    let mut marks = wanted.chosen;
     let mut n = 0;
     let mut k = 0;
-    let mut place = at;
+    let mut place = wanted.at;
     let mut i = 0;
     while i < ids.len() {
         let mask = masks[i];
         let id = ids[i];
-        let passed = slot(
-            id,
-            mask << 24,
-            &strips[n..],
-            marks,
-            s,
-            bytes,
-            place,
-            &mut rows[k..],
-        );
+        let left = Wanted {
+            shape,
+            chosen: marks,
+            at: place,
+        };
+        let passed = slot(id, mask << 24, &strips[n..], left, bytes, &mut rows[k..]);
         let end = passed.end;
         n += set_places::count(mask);
         k += end.filled;

@@ -11,6 +11,7 @@ ghost use mathlib.Core.List.{flatten};
 ghost use Prim.Native.Nat.{_+_, _*_, _^_, _≤_, _<_};
 ghost use lib.ListN.{length};
 ghost use Rattle.bits.specs.BitLists.{spell};
+ghost use Rattle.body.specs.Lent.{viewBy, Lent};
 ghost use Rattle.body.specs.Written.{Counts};
 ghost use Rattle.format.specs.Masks.{pick};
 ghost use Rattle.format.specs.Reading.{rowRoom, over};
@@ -21,6 +22,7 @@ ghost use Rattle.rows.specs.At.{rowsAt};
 ghost use Rattle.table.specs.declared.Keys.the-variants.{Satellites};
 ghost use Rattle.table.specs.Bodies.{linesIn, linesOver, Fits};
 use holding::Holding;
+use rows::shape::Shape;
 use rows::shapes;
 use table::ALL;
 use table::Body;
@@ -30,6 +32,26 @@ use table::Keys;
 pub struct Extent {
     pub bits: usize,
     pub rows: usize,
+}
+
+// A body, how many bits it has, and the place where they begin.
+pub struct Placed {
+    pub body: Body,
+    pub bits: usize,
+    pub at: usize,
+}
+
+// A satellite: its system, and its number there.
+pub struct Satellite {
+    pub system: u8,
+    pub number: usize,
+}
+
+// Which rows are wanted: their shape, the satellites that are chosen, and the place where their bits begin.
+pub struct Wanted {
+    pub shape: Shape,
+    pub chosen: u64,
+    pub at: usize,
 }
 
 // Where writing rows ended: how many numbers they are, and the place behind their bits.
@@ -69,7 +91,7 @@ fn satellites_size(h: Holding, shape: usize, chosen: u64) -> Extent
     let ids = h.ids;
     let masks = h.satellites;
     let count = h.count;
-    satellites::size(&ids[..count], &masks, shape, chosen)
+    satellites::size(h.nsat, &ids[..count], &masks, shape, chosen)
 }
 
 // How many cells the satellites that are chosen have.
@@ -99,16 +121,26 @@ pub fn size(h: Holding, body: Body) -> Extent
     }
 }
 
-// The rows of the body whose bits begin at a place, into the row buffer. Where the string ends too soon behind the
-// body for windows, the rows are read from a copy with zeros behind it.
-pub fn fill(h: Holding, body: Body, bits: usize, bytes: &[u8], at: usize, rows: &mut [i32])
-    requires { ⌜ (sound h ≡ true) × Fits body × (bits ≡ bodyWidth (linesIn (viewOf h) body)) × (at + bits < 2 ^ 32) × (rowRoom ≤ length (now rows)) ⌝ }
-    ensures { λ _. ⌜ now (rows .exit) ≡ over (flatten (rowsAt (linesIn (viewOf h) body) (now (bytes .entry)) at)) (now (rows .entry)) ⌝ }
+// The rows of a body under the slots and strips that are lent, into the row buffer. Where the string ends too soon
+// behind the body for windows, the rows are read from a copy with zeros behind it.
+pub fn fill(
+    ids: &[u8],
+    masks: &[u64],
+    strips: &[u16],
+    placed: Placed,
+    bytes: &[u8],
+    rows: &mut [i32],
+)
+    requires { ⌜ Lent (now ids) (now masks) (now strips) × Fits (placed .body) × (placed .bits ≡ bodyWidth (linesIn (viewBy (now ids) (now masks) (now strips)) (placed .body))) × (placed .at + placed .bits < 2 ^ 32) × (rowRoom ≤ length (now rows)) ⌝ }
+    ensures { λ _. ⌜ now (rows .exit) ≡ over (flatten (rowsAt (linesIn (viewBy (now (ids .entry)) (now (masks .entry)) (now (strips .entry))) (placed .body)) (now (bytes .entry)) (placed .at))) (now (rows .entry)) ⌝ }
 {
-    if (at + bits + 127) / 8 <= bytes.len() {
-        whole::fill(h, body, bytes, at, rows);
+    let at = placed.at;
+    if (at + placed.bits + 127) / 8 <= bytes.len() {
+        whole::fill(ids, masks, strips, placed, bytes, rows);
         return;
     }
     let rest = tail::tail(bytes, at / 8);
-    whole::fill(h, body, &rest, at % 8, rows)
+    let mut moved = placed;
+    moved.at = at % 8;
+    whole::fill(ids, masks, strips, moved, &rest, rows)
 }

@@ -5,6 +5,7 @@ ghost use Rattle.format.specs.Messages.{packetLines};
 ghost use Rattle.format.specs.Reading.{over};
 use format::ABSENT;
 use rows::row;
+use rows::row::Key;
 use rows::shape;
 use rows::shapes;
 
@@ -20,7 +21,12 @@ pub fn fill(parts: usize, bytes: &[u8], at: usize, rows: &mut [i32])
     while i < parts {
         i += 1;
         let e = k + 8;
-        row::wide(&mut rows[k..e], ABSENT, ABSENT, i as i32, bytes, place, s);
+        let key = Key {
+            system: ABSENT,
+            satellite: ABSENT,
+            signal: i as i32,
+        };
+        row::wide(&mut rows[k..e], key, bytes, place, s);
         k = e;
         place += width;
     }

@@ -4,8 +4,10 @@ ghost use mathlib.Core.Bool.{true};
 ghost use Prim.Native.Nat.{_-_, _*_, _/_, _^_, _≤_, _<_};
 ghost use lib.Count.{ones};
 ghost use lib.ListN.{length};
-ghost use Rattle.body.specs.Chosen.{alone, chosenLines};
+ghost use Rattle.bits.specs.BitLists.{spell};
+ghost use Rattle.body.specs.Chosen.{galileos, alone, chosenLines};
 ghost use Rattle.body.specs.Written.{numbersAt, Room, Handed, Counts};
+ghost use Rattle.format.specs.Masks.{pick};
 ghost use Rattle.format.specs.Reading.{over};
 ghost use Rattle.format.specs.Rows.{shapeWidth};
 ghost use Rattle.holding.specs.Bounds.{narrow};
@@ -16,6 +18,7 @@ use crate::End;
 use crate::Extent;
 use crate::FIRST;
 use crate::Passed;
+use crate::Wanted;
 use crate::alike;
 use holding::set_places;
 use rows::row;
@@ -37,24 +40,16 @@ fn width(s: Shape, system: u8) -> usize
 
 // The rows of one system's satellites that are chosen: its mask and the selection each begin at the highest of
 // 64 bits.
-fn slot(
-    id: u8,
-    word: u64,
-    chosen: u64,
-    s: Shape,
-    bytes: &[u8],
-    at: usize,
-    rows: &mut [i32],
-) -> Passed
-    requires { ⌜ FormedShape s × Laid s × Room (chosenLines chosen (alone (columnsIn s) (satellitesIn 64 id word))) (now bytes) at (now rows) ⌝ }
-    ensures { λ r. ⌜ Handed chosen (alone (columnsIn s) (satellitesIn 64 id word)) (now (bytes .entry)) at (now (rows .entry)) (now (rows .exit)) r ⌝ }
+fn slot(id: u8, word: u64, wanted: Wanted, bytes: &[u8], rows: &mut [i32]) -> Passed
+    requires { ⌜ FormedShape (wanted .shape) × Laid (wanted .shape) × Room (chosenLines (wanted .chosen) (alone (columnsIn (wanted .shape)) (satellitesIn 64 id word))) (now bytes) (wanted .at) (now rows) ⌝ }
+    ensures { λ r. ⌜ Handed (wanted .chosen) (alone (columnsIn (wanted .shape)) (satellitesIn 64 id word)) (now (bytes .entry)) (wanted .at) (now (rows .entry)) (now (rows .exit)) r ⌝ }
 {
-    let iode = shapes::iode(id);
+    let s = wanted.shape;
     let width = width(s, id);
     let mut left = word;
-    let mut marks = chosen;
+    let mut marks = wanted.chosen;
     let mut k = 0;
-    let mut place = at;
+    let mut place = wanted.at;
     while left > 0 {
         let number = set_places::first(left) + 1;
         let mark = marks;
@@ -62,7 +57,7 @@ fn slot(
         marks = marks << 1;
         if mark >= FIRST {
             let e = k + 8;
-            row::satellite(&mut rows[k..e], id, number as i32, bytes, place, iode, s);
+            row::satellite(&mut rows[k..e], id, number as i32, bytes, place, s);
             k = e;
             place += width;
         }
@@ -75,26 +70,24 @@ fn slot(
 }
 
 // The rows of all systems' satellites that are chosen.
-pub fn fill(
-    ids: &[u8],
-    masks: &[u64],
-    s: Shape,
-    chosen: u64,
-    bytes: &[u8],
-    at: usize,
-    rows: &mut [i32],
-)
-    requires { ⌜ (length (now ids) ≤ length (now masks)) × (narrow 40 (now masks) ≡ true) × FormedShape s × Laid s × Room (chosenLines chosen (alone (columnsIn s) (slotSatellites (now ids) (now masks)))) (now bytes) at (now rows) ⌝ }
-    ensures { λ _. ⌜ now (rows .exit) ≡ over (numbersAt (chosenLines chosen (alone (columnsIn s) (slotSatellites (now (ids .entry)) (now (masks .entry))))) (now (bytes .entry)) at) (now (rows .entry)) ⌝ }
+pub fn fill(ids: &[u8], masks: &[u64], wanted: Wanted, bytes: &[u8], rows: &mut [i32])
+    requires { ⌜ (length (now ids) ≤ length (now masks)) × (narrow 40 (now masks) ≡ true) × FormedShape (wanted .shape) × Laid (wanted .shape) × Room (chosenLines (wanted .chosen) (alone (columnsIn (wanted .shape)) (slotSatellites (now ids) (now masks)))) (now bytes) (wanted .at) (now rows) ⌝ }
+    ensures { λ _. ⌜ now (rows .exit) ≡ over (numbersAt (chosenLines (wanted .chosen) (alone (columnsIn (wanted .shape)) (slotSatellites (now (ids .entry)) (now (masks .entry))))) (now (bytes .entry)) (wanted .at)) (now (rows .entry)) ⌝ }
 {
-    let mut marks = chosen;
+    let shape = wanted.shape;
+    let mut marks = wanted.chosen;
     let mut k = 0;
-    let mut place = at;
+    let mut place = wanted.at;
     let mut i = 0;
     while i < ids.len() {
         let mask = masks[i];
         let id = ids[i];
-        let passed = slot(id, mask << 24, marks, s, bytes, place, &mut rows[k..]);
+        let left = Wanted {
+            shape,
+            chosen: marks,
+            at: place,
+        };
+        let passed = slot(id, mask << 24, left, bytes, &mut rows[k..]);
         let end = passed.end;
         k += end.filled;
         place = end.at;
@@ -119,30 +112,43 @@ fn picked(chosen: u64, n: usize) -> usize
     set_places::count(first)
 }
 
-// How many bits and rows the satellites that are chosen have.
-pub fn size(ids: &[u8], masks: &[u64], shape: usize, chosen: u64) -> Extent
-    requires { ⌜ (length (now ids) ≤ length (now masks)) × (narrow 40 (now masks) ≡ true) × (length (slotSatellites (now ids) (now masks)) ≤ 64) ⌝ }
-    ensures { λ r. ⌜ Counts (chosenLines chosen (alone (shapeAt shape) (slotSatellites (now (ids .entry)) (now (masks .entry))))) r ⌝ }
-{
-    let mut marks = chosen;
-    let mut bits = 0;
-    let mut count = 0;
-    let mut i = 0;
-    while i < ids.len() {
-        let n = set_places::count(masks[i]);
-        let some = picked(marks, n);
-        bits += some * shapes::width_in(shape, ids[i]);
-        count += some;
-        marks = marks << n;
-        i += 1;
-    }
-    Extent { bits, rows: count }
-}
-
-// And where their rows are of one width: n satellites, by their selection alone.
+// How many bits and rows n satellites that are chosen have, where their rows are of one width: by their selection alone.
 pub fn size_alike(n: usize, width: usize, chosen: u64) -> Extent
     requires { ⌜ (n ≤ 64) × (width ≤ 71) ⌝ }
     ensures { λ r. ⌜ r ≡ record { bits = ones (chosen / 2 ^ (64 - n)) * width; rows = ones (chosen / 2 ^ (64 - n)) } ⌝ }
 {
     alike(picked(chosen, n), width)
+}
+
+// How many satellites of Galileo are chosen.
+fn galileo(ids: &[u8], masks: &[u64], chosen: u64) -> usize
+    requires { ⌜ (length (now ids) ≤ length (now masks)) × (narrow 40 (now masks) ≡ true) × (length (slotSatellites (now ids) (now masks)) ≤ 64) ⌝ }
+    ensures { λ r. ⌜ r ≡ galileos (pick (spell 64 chosen) (slotSatellites (now (ids .entry)) (now (masks .entry)))) ⌝ }
+{
+    let mut marks = chosen;
+    let mut sum = 0;
+    let mut i = 0;
+    while i < ids.len() {
+        let n = set_places::count(masks[i]);
+        if ids[i] == shapes::GALILEO {
+            sum += picked(marks, n);
+        }
+        marks = marks << n;
+        i += 1;
+    }
+    sum
+}
+
+// And where an IODE is in them: of one width but for Galileo's.
+pub fn size(n: usize, ids: &[u8], masks: &[u64], shape: usize, chosen: u64) -> Extent
+    requires { ⌜ (length (now ids) ≤ length (now masks)) × (narrow 40 (now masks) ≡ true) × (length (slotSatellites (now ids) (now masks)) ≡ n) × (n ≤ 64) ⌝ }
+    ensures { λ r. ⌜ Counts (chosenLines chosen (alone (shapeAt shape) (slotSatellites (now (ids .entry)) (now (masks .entry))))) r ⌝ }
+{
+    let width = shapes::width_of(shape);
+    let even = size_alike(n, width, chosen);
+    let more = shapes::width_in(shape, shapes::GALILEO) - width;
+    Extent {
+        bits: even.bits + galileo(ids, masks, chosen) * more,
+        rows: even.rows,
+    }
 }

@@ -1,59 +1,63 @@
 // The rows of a body behind which the string goes on far enough for windows.
 ghost use mathlib.Core.Path.{_≡_};
-ghost use mathlib.Core.Bool.{true};
 ghost use Prim.Native.Nat.{_+_, _*_, _^_, _≤_, _<_};
 ghost use lib.ListN.{length};
-ghost use Rattle.body.specs.Written.{numbersAt, Room};
+ghost use Rattle.body.specs.Lent.{viewBy, Lent};
+ghost use Rattle.body.specs.Written.{numbersAt};
 ghost use Rattle.format.specs.Reading.{rowRoom, over};
 ghost use Rattle.format.specs.Rows.{bodyWidth};
-ghost use Rattle.holding.specs.Held.{viewOf};
-ghost use Rattle.holding.specs.Pictures.{sound};
-ghost use Rattle.rows.specs.Shapes.{Laid, Narrow};
 ghost use Rattle.rows.specs.Table.{shapeFor};
-ghost use Rattle.table.specs.declared.Keys.the-variants.{Satellites, Cells};
-ghost use Rattle.table.specs.Bodies.{linesIn, linesOver, Fits};
+ghost use Rattle.table.specs.Bodies.{linesIn, Fits};
+use crate::Placed;
+use crate::Wanted;
 use crate::cells;
 use crate::packet;
 use crate::satellites;
-use holding::Holding;
 use rows::shapes;
-use table::Body;
 use table::Keys;
 
-// A row for each satellite that is chosen.
-fn by_satellites(h: Holding, shape: usize, chosen: u64, bytes: &[u8], at: usize, rows: &mut [i32])
-    requires { ⌜ (sound h ≡ true) × Laid (shapeFor shape) × Room (linesOver (viewOf h) (Satellites chosen) shape) (now bytes) at (now rows) ⌝ }
-    ensures { λ _. ⌜ now (rows .exit) ≡ over (numbersAt (linesOver (viewOf h) (Satellites chosen) shape) (now (bytes .entry)) at) (now (rows .entry)) ⌝ }
+// The rows of a shape, by its number, that the satellites that are chosen have from a place on.
+fn wanted(shape: usize, chosen: u64, at: usize) -> Wanted
+    ensures { λ r. ⌜ r ≡ record { shape = shapeFor shape; chosen = chosen; at = at } ⌝ }
 {
-    let ids = h.ids;
-    let masks = h.satellites;
-    let count = h.count;
-    let s = shapes::shape_of(shape);
-    satellites::fill(&ids[..count], &masks, s, chosen, bytes, at, rows)
+    Wanted {
+        shape: shapes::shape_of(shape),
+        chosen,
+        at,
+    }
 }
 
-// A row for each cell of the satellites that are chosen.
-fn by_cells(h: Holding, shape: usize, chosen: u64, bytes: &[u8], at: usize, rows: &mut [i32])
-    requires { ⌜ (sound h ≡ true) × Narrow (shapeFor shape) × Room (linesOver (viewOf h) (Cells chosen) shape) (now bytes) at (now rows) ⌝ }
-    ensures { λ _. ⌜ now (rows .exit) ≡ over (numbersAt (linesOver (viewOf h) (Cells chosen) shape) (now (bytes .entry)) at) (now (rows .entry)) ⌝ }
+pub fn fill(
+    ids: &[u8],
+    masks: &[u64],
+    strips: &[u16],
+    placed: Placed,
+    bytes: &[u8],
+    rows: &mut [i32],
+)
+    requires { ⌜ Lent (now ids) (now masks) (now strips) × Fits (placed .body) × (placed .bits ≡ bodyWidth (linesIn (viewBy (now ids) (now masks) (now strips)) (placed .body))) × (placed .at + placed .bits < 2 ^ 32) × (rowRoom ≤ length (now rows)) × (placed .at + placed .bits + 120 ≤ 8 * length (now bytes)) ⌝ }
+    ensures { λ _. ⌜ now (rows .exit) ≡ over (numbersAt (linesIn (viewBy (now (ids .entry)) (now (masks .entry)) (now (strips .entry))) (placed .body)) (now (bytes .entry)) (placed .at)) (now (rows .entry)) ⌝ }
 {
-    let ids = h.ids;
-    let masks = h.satellites;
-    let strips = h.strips;
-    let count = h.count;
-    let s = shapes::shape_of(shape);
-    cells::fill(&ids[..count], &masks, &strips, s, chosen, bytes, at, rows)
-}
-
-pub fn fill(h: Holding, body: Body, bytes: &[u8], at: usize, rows: &mut [i32])
-    requires { ⌜ (sound h ≡ true) × Fits body × (at + bodyWidth (linesIn (viewOf h) body) < 2 ^ 32) × (at + bodyWidth (linesIn (viewOf h) body) + 120 ≤ 8 * length (now bytes)) × (rowRoom ≤ length (now rows)) ⌝ }
-    ensures { λ _. ⌜ now (rows .exit) ≡ over (numbersAt (linesIn (viewOf h) body) (now (bytes .entry)) at) (now (rows .entry)) ⌝ }
-{
+    let body = placed.body;
+    let at = placed.at;
     let keys = body.keys;
     let shape = body.shape;
     match keys {
-        Keys::Satellites(chosen) => by_satellites(h, shape, chosen, bytes, at, rows),
-        Keys::Cells(chosen) => by_cells(h, shape, chosen, bytes, at, rows),
+        Keys::Satellites(chosen) => satellites::fill(
+            ids,
+            masks,
+            wanted(shape, chosen, at),
+            bytes,
+            rows,
+        ),
+        Keys::Cells(chosen) => cells::fill(
+            ids,
+            masks,
+            strips,
+            wanted(shape, chosen, at),
+            bytes,
+            rows,
+        ),
         Keys::Parts(parts) => packet::fill(parts, bytes, at, rows),
     }
 }

@@ -15,6 +15,7 @@ ghost use Rattle.reader.specs.Readings.{readingOf, readAt, unopenedAt, f
 use crate::Reading;
 use adoption::Made;
 use bits::rest::zero_from;
+use body::Placed;
 use format::Answer;
 use format::Refusal;
 use heads::FRONT;
@@ -27,7 +28,8 @@ use holding::Holding;
 use table::Kind;
 use table::kind_of;
 
-// The body that a heading says: its length is tested once, and only then are its rows written.
+// The body that a heading says: its length is tested once, and only then are its rows written, and the slots and strips
+// lent for them: a message without rows copies none.
 fn body_of(holding: Holding, heading: Heading, bytes: &[u8], end: usize, rows: &mut [i32]) -> Answer
     requires { ⌜ (sound holding ≡ true) × FitsHeading heading × Begins end (saidBy (viewOf holding) heading) × (end ≤ 8 * length (now bytes)) × (end ≤ stretchLimit) × (rowRoom ≤ length (now rows)) ⌝ }
     ensures { λ r. ⌜ r ≡ answerOf (headedAt (maskOf holding) (now (bytes .entry)) end (saidBy (viewOf holding) heading)) ⌝ }
@@ -44,7 +46,16 @@ fn body_of(holding: Holding, heading: Heading, bytes: &[u8], end: usize, rows: &
             if size.rows == 0 {
                 return Answer::Message(head, at + size.bits, 0);
             }
-            body::fill(holding, body, size.bits, bytes, at, rows);
+            let ids = holding.ids;
+            let masks = holding.satellites;
+            let strips = holding.strips;
+            let count = holding.count;
+            let placed = Placed {
+                body,
+                bits: size.bits,
+                at,
+            };
+            body::fill(&ids[..count], &masks, &strips, placed, bytes, rows);
             Answer::Message(head, at + size.bits, size.rows)
         }
     }

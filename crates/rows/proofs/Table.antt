@@ -4,9 +4,11 @@ use mathlib.Core.Path.{_≡_, refl, sym, ap, _∙_}
 use mathlib.Core.Bool.{Bool, true, false, cond}
 use mathlib.Core.List.{List, [], _∷_}
 use mathlib.Core.Logic.{inl, inr}
-use Prim.Native.Nat.{ℕ, zero, suc, _+_, _≤_, _<_}
+use Prim.Native.Nat.{ℕ, zero, suc, _+_, _-_, _*_, _≤_, _<_}
 use native.Mathlib.Nat.{zero-add}
 use native.Mathlib.Omega.{arith}
+use borrow.Author.Tests.{eqb-true}
+use lib.Dec.{eqb}
 use lib.ListN.{length}
 use Rattle.format.proofs.Tables.{Each, end, then, each-at, NoneOf, none-of}
 use Rattle.format.specs.Messages.{iodeWidth, clockShape, codeShape, phaseShape, combinedShape, packetShape, named}
@@ -156,6 +158,24 @@ five-at system i = ap length (sym (columns-in system i))
 
 pub width-at : (system i : ℕ) → shapeWidth (shapeAt i system) ≤ 71
 width-at system i = rw columns-in at (columns-width (shapeFor i) system (formed i))
+
+-- only an IODE's goes by the system, and Galileo's is the longest
+longest : (s : Shape) (iode : Bool) → s .iode ≡ iode → shapeWidth (columnsIn s 0) ≤ shapeWidth (columnsIn s 2)
+unfolding columnsIn shapeWidth widthOf iodeWidth
+longest s true e = rw e (omega arith)
+longest s false e = rw e (omega arith)
+
+module _ (i : ℕ) where
+  pub width-longest : shapeWidth (shapeAt i 0) ≤ shapeWidth (shapeAt i 2)
+  width-longest = rw (← (columns-in 0 i), ← (columns-in 2 i)) (longest (shapeFor i) _ refl)
+
+  pub width-by : (system : ℕ) (galileo : Bool) → eqb system 2 ≡ galileo
+      → shapeWidth (shapeAt i system) ≡ shapeWidth (shapeAt i 0) + cond galileo 1 0 * (shapeWidth (shapeAt i 2) - shapeWidth (shapeAt i 0))
+  unfolding columnsIn iodeWidth
+  width-by system true e = rw (eqb-true system 2 e) (omega (arith, width-longest))
+  width-by system false e =
+      let same : columnsIn (shapeFor i) system ≡ columnsIn (shapeFor i) 0 = rw e in
+      ap shapeWidth (sym (columns-in system i) ∙ same ∙ columns-in 0 i) ∙ omega arith
 
 -- ---- layouts
 

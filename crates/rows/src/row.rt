@@ -8,7 +8,6 @@ ghost use lib.Dec.{eqb, ltb};
 ghost use lib.IntN.{pos};
 ghost use lib.ListN.{length};
 ghost use Rattle.bits.specs.Places.{field};
-ghost use Rattle.format.specs.Messages.{iodeWidth};
 ghost use Rattle.format.specs.Rows.{absent, valueOf};
 ghost use Rattle.rows.specs.At.{valuesAt};
 ghost use Rattle.rows.specs.Shapes.{columnOf, columnsOf, columnsIn, Formed, FormedShape, Laid, Narrow};
@@ -19,19 +18,41 @@ use crate::shapes;
 use bits::window;
 use format::ABSENT;
 
+// The three keys of a row (document 01, "What is handed out").
+pub struct Key {
+    pub system: i32,
+    pub satellite: i32,
+    pub signal: i32,
+}
+
+// And its five values.
+pub struct Values {
+    pub v1: i32,
+    pub v2: i32,
+    pub v3: i32,
+    pub v4: i32,
+    pub v5: i32,
+}
+
 // Eight numbers, stored.
-fn store(row: &mut [i32], a: i32, b: i32, c: i32, d: i32, e: i32, f: i32, g: i32, h: i32)
+fn store(row: &mut [i32], key: Key, v: Values)
     requires { ⌜ length (now row) ≡ 8 ⌝ }
-    ensures { λ _. ⌜ now (row .exit) ≡ a ∷ b ∷ c ∷ d ∷ e ∷ f ∷ g ∷ h ∷ [] ⌝ }
+    ensures { λ _. ⌜ now (row .exit) ≡ key .system ∷ key .satellite ∷ key .signal ∷ v .v1 ∷ v .v2 ∷ v .v3 ∷ v .v4 ∷ v .v5 ∷ [] ⌝ }
 {
-    row[0] = a;
-    row[1] = b;
-    row[2] = c;
-    row[3] = d;
-    row[4] = e;
-    row[5] = f;
-    row[6] = g;
-    row[7] = h;
+    let Key {
+        system,
+        satellite,
+        signal,
+    } = key;
+    let Values { v1, v2, v3, v4, v5 } = v;
+    row[0] = system;
+    row[1] = satellite;
+    row[2] = signal;
+    row[3] = v1;
+    row[4] = v2;
+    row[5] = v3;
+    row[6] = v4;
+    row[7] = v5;
 }
 
 // The value of one column, from the front of a window of its own: half of it holds every column, and is one load where
@@ -68,115 +89,84 @@ fn paired(s: Shape) -> bool
 
 // A row of five columns: four values are cut from one window, moved so that the last of them is lowest, and the fifth
 // from the window behind them.
-pub fn wide(
-    row: &mut [i32],
-    system: i32,
-    satellite: i32,
-    signal: i32,
-    bytes: &[u8],
-    at: usize,
-    s: Shape,
-)
+pub fn wide(row: &mut [i32], key: Key, bytes: &[u8], at: usize, s: Shape)
     requires { ⌜ (length (now row) ≡ 8) × (at < 2 ^ 32) × FormedShape s × (at + 120 ≤ 8 * length (now bytes)) ⌝ }
-    ensures { λ _. ⌜ now (row .exit) ≡ system ∷ satellite ∷ signal ∷ valuesAt (columnsOf s) (now (bytes .entry)) at ⌝ }
+    ensures { λ _. ⌜ now (row .exit) ≡ key .system ∷ key .satellite ∷ key .signal ∷ valuesAt (columnsOf s) (now (bytes .entry)) at ⌝ }
 {
     let second = s.v3.width + s.v4.width;
     let first = s.v2.width + second;
     let front = s.v1.width + first;
     let half = window::eight(bytes, at / 8) >> 1;
     let four = half >> (63 - at % 8 - front);
-    store(
-        row,
-        system,
-        satellite,
-        signal,
-        shape::value(four >> first, s.v1),
-        shape::value(four >> second, s.v2),
-        shape::value(four >> s.v4.width, s.v3),
-        shape::value(four, s.v4),
-        alone(bytes, at + front, s.v5),
-    );
+    let v = Values {
+        v1: shape::value(four >> first, s.v1),
+        v2: shape::value(four >> second, s.v2),
+        v3: shape::value(four >> s.v4.width, s.v3),
+        v4: shape::value(four, s.v4),
+        v5: alone(bytes, at + front, s.v5),
+    };
+    store(row, key, v);
 }
 
 // A row of a cell. Document 01's have at most two columns: those are cut from one window, moved up so that the first of
 // them is highest.
-pub fn cell(
-    row: &mut [i32],
-    system: i32,
-    satellite: i32,
-    signal: i32,
-    bytes: &[u8],
-    at: usize,
-    s: Shape,
-)
+pub fn cell(row: &mut [i32], key: Key, bytes: &[u8], at: usize, s: Shape)
     requires { ⌜ (length (now row) ≡ 8) × (at < 2 ^ 32) × FormedShape s × Narrow s × (at + 120 ≤ 8 * length (now bytes)) ⌝ }
-    ensures { λ _. ⌜ now (row .exit) ≡ system ∷ satellite ∷ signal ∷ valuesAt (columnsOf s) (now (bytes .entry)) at ⌝ }
+    ensures { λ _. ⌜ now (row .exit) ≡ key .system ∷ key .satellite ∷ key .signal ∷ valuesAt (columnsOf s) (now (bytes .entry)) at ⌝ }
 {
     if paired(s) {
         let up = window::eight(bytes, at / 8) << (at % 8);
         let first = 64 - s.v1.width;
         let second = first - s.v2.width;
-        store(
-            row,
-            system,
-            satellite,
-            signal,
-            shape::value(up >> first, s.v1),
-            shape::value(up >> second, s.v2),
-            ABSENT,
-            ABSENT,
-            ABSENT,
-        );
+        let v = Values {
+            v1: shape::value(up >> first, s.v1),
+            v2: shape::value(up >> second, s.v2),
+            v3: ABSENT,
+            v4: ABSENT,
+            v5: ABSENT,
+        };
+        store(row, key, v);
     } else {
-        wide(row, system, satellite, signal, bytes, at, s);
+        wide(row, key, bytes, at, s);
     }
 }
 
 // A row of gaps but for its first or its last column.
-fn ends(row: &mut [i32], system: i32, satellite: i32, bytes: &[u8], at: usize, s: Shape)
+fn ends(row: &mut [i32], key: Key, bytes: &[u8], at: usize, s: Shape)
     requires { ⌜ (length (now row) ≡ 8) × FormedShape s × Laid s × (s .iode ≡ false) × (s .v2 .width + s .v3 .width ≡ 0) × (at + 64 ≤ 8 * length (now bytes)) ⌝ }
-    ensures { λ _. ⌜ now (row .exit) ≡ system ∷ satellite ∷ absent ∷ valuesAt (columnsOf s) (now (bytes .entry)) at ⌝ }
+    ensures { λ _. ⌜ now (row .exit) ≡ key .system ∷ key .satellite ∷ key .signal ∷ valuesAt (columnsOf s) (now (bytes .entry)) at ⌝ }
 {
-    store(
-        row,
-        system,
-        satellite,
-        ABSENT,
-        sole(bytes, at, s.v1),
-        ABSENT,
-        ABSENT,
-        ABSENT,
-        sole(bytes, at, s.v5),
-    );
+    let v = Values {
+        v1: sole(bytes, at, s.v1),
+        v2: ABSENT,
+        v3: ABSENT,
+        v4: ABSENT,
+        v5: sole(bytes, at, s.v5),
+    };
+    store(row, key, v);
 }
 
-// A row of a satellite, an IODE in it of so many bits.
-pub fn satellite(
-    row: &mut [i32],
-    system: u8,
-    number: i32,
-    bytes: &[u8],
-    at: usize,
-    iode: usize,
-    s: Shape,
-)
-    requires { ⌜ (length (now row) ≡ 8) × (at < 2 ^ 32) × (iode ≡ iodeWidth system) × FormedShape s × Laid s × (at + 120 ≤ 8 * length (now bytes)) ⌝ }
+// A row of a satellite.
+pub fn satellite(row: &mut [i32], system: u8, number: i32, bytes: &[u8], at: usize, s: Shape)
+    requires { ⌜ (length (now row) ≡ 8) × (at < 2 ^ 32) × FormedShape s × Laid s × (at + 120 ≤ 8 * length (now bytes)) ⌝ }
     ensures { λ _. ⌜ now (row .exit) ≡ pos system ∷ number ∷ absent ∷ valuesAt (columnsIn s system) (now (bytes .entry)) at ⌝ }
 {
-    let id = system as i32;
+    let key = Key {
+        system: system as i32,
+        satellite: number,
+        signal: ABSENT,
+    };
     if s.iode {
         wide(
             row,
-            id,
-            number,
-            ABSENT,
+            key,
             bytes,
             at,
-            shapes::orbit(iode, s.v5),
+            shapes::orbit(shapes::iode(system), s.v5),
         );
     } else if s.v2.width + s.v3.width == 0 {
-        ends(row, id, number, bytes, at, s);
+        ends(row, key, bytes, at, s);
     } else {
-        wide(row, id, number, ABSENT, bytes, at, s);
+        wide(row, key, bytes, at, s);
     }
 }

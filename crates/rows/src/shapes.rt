@@ -35,11 +35,14 @@ pub const PHASE: usize = 6;
 // A packet's part.
 pub const PACKET: usize = 7;
 
-// How many bits an IODE has: 10 for Galileo.
+// The system whose IODE is longer.
+pub const GALILEO: u8 = 2;
+
+// How many bits an IODE has.
 pub fn iode(system: u8) -> usize
     ensures { λ r. ⌜ r ≡ iodeWidth system ⌝ }
 {
-    if system == 2 { 10 } else { 8 }
+    if system == GALILEO { 10 } else { 8 }
 }
 
 // An orbit, its IODE of so many bits, and one column more.

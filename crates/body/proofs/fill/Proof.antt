@@ -13,18 +13,19 @@ use Rattle.body.proofs.fill.Tie as tie
 
 fill-requires-2 : tie.Need-fill-requires-2
 fill-requires-2 c κs =
-    let s = c .before .before .before .before .before in
-    let narrow = few-in (s .args .h) (s .pre .0) (s .args .body) (s .pre .1) .bits in
+    let s = c .before .before .before .before .before .before .before .before .before in
+    let p = s .pre in
+    let narrow = few-in (p .0) (s .args .placed .body) (p .1) .bits in
     let long : length (c .before .before .tail .result) ≡ 584 = search needs in
-    (s .pre .0, s .pre .1, omega (arith, narrow), omega (arith, narrow, long), s .pre .4)
+    (p .0, p .1, p .2, omega (arith, narrow), p .4, omega (arith, narrow, long))
 
 returns-2 : tie.Need-returns-2
 returns-2 c =
     let t = c .before .before .before .before in
-    let s = t .before .before .before in
-    let narrow = few-in (s .args .h) (s .pre .0) (s .args .body) (s .pre .1) .bits in
+    let s = t .before .before .before .before .before .before .before in
+    let narrow = few-in (s .pre .0) (s .args .placed .body) (s .pre .1) .bits in
     c .before .fill2 .ensures
-    ∙ ap (λ (l : List (List ℤ)). over (flatten l) (s .args .rows .now)) (copied-rows (s .args .bytes .now) (t .tail .result) 584 (s .args .at) _ (t .tail .ensures) (omega (arith, narrow)))
+    ∙ ap (λ (l : List (List ℤ)). over (flatten l) (s .args .rows .now)) (copied-rows (s .args .bytes .now) (t .tail .result) 584 (s .args .placed .at) _ (t .tail .ensures) (omega (arith, narrow)))
 
 pub fill-spec : {M : Type 1} → statement M
 fill-spec =

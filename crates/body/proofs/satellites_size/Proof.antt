@@ -6,9 +6,10 @@ use native.Mathlib.Omega.{arith}
 use borrow.Author.Needs.{needs}
 use borrow.Author.Tests.{ltb-true}
 use Rattle.format.specs.Rows.{Line}
+use Rattle.holding.specs.Held.{viewOf}
 use Rattle.rows.proofs.Table.{width-at}
 use Rattle.body.specs.Written.{Counts}
-use Rattle.body.proofs.Bodies.{counted, prefix, masked, many, few, by-shape, alike}
+use Rattle.body.proofs.Bodies.{counted, prefix, many, few, lends, by-shape, alike}
 use Rattle.body.proofs.satellites_size.Statement.{statement}
 use Rattle.body.proofs.satellites_size.Tie as tie
 
@@ -29,13 +30,13 @@ returns c =
 size-requires : tie.Need-size-requires
 size-requires c κs =
     let s = c .before .before .before .before .before .before in
-    let fit = masked (s .args .h) (s .pre) in
-    (fit .0, fit .1, omega (arith, many (s .args .h) (s .pre), few (s .args .h) (s .pre)))
+    let lent = lends (s .args .h) (s .pre) in
+    (lent .masked, lent .thin, many (s .args .h) (s .pre), few (s .args .h) (s .pre))
 
 returns-2 : tie.Need-returns-2
 returns-2 c =
     let s = c .before .before .before .before .before .before .before in
-    subst (λ (l : List Line). Counts l (c .size .result)) (by-shape (s .args .h) (s .pre) (s .args .chosen) (s .args .shape)) (c .size .ensures)
+    subst (λ (l : List Line). Counts l (c .size .result)) (by-shape (viewOf (s .args .h)) (s .args .chosen) (s .args .shape)) (c .size .ensures)
 
 pub satellites-size-spec : {M : Type 1} → statement M
 satellites-size-spec =

@@ -20,16 +20,16 @@ use Rattle.body.proofs.cells.fill.Statement.{statement}
 use Rattle.body.proofs.cells.fill.Tie as tie
 
 abbrev Inv-loop : tie.InvT-loop
-Inv-loop ids masks strips s chosen bytes at rows₀ marks₀ n₀ k₀ place₀ i₀ rows marks n k place i =
+Inv-loop ids masks strips bytes rows₀ s marks₀ n₀ k₀ place₀ i₀ rows marks n k place i =
     (n + length (fromSlot ids masks i) ≤ length strips)
-    × Going bytes (chosenLines chosen (striped (columnsIn s) (slotSatellites ids masks) strips)) at rows₀ (chosenLines marks (striped (columnsIn s) (fromSlot ids masks i) (drop n strips))) k place rows
+    × Going bytes (chosenLines marks₀ (striped (columnsIn s) (slotSatellites ids masks) strips)) place₀ rows₀ (chosenLines marks (striped (columnsIn s) (fromSlot ids masks i) (drop n strips))) k place rows
 
 abbrev μ-loop : tie.MeasureT-loop
-μ-loop ids masks strips s chosen bytes at rows₀ marks₀ n₀ k₀ place₀ i₀ rows marks n k place i = length ids - i
+μ-loop ids masks strips bytes rows₀ s marks₀ n₀ k₀ place₀ i₀ rows marks n k place i = length ids - i
 
 module _ (c : tie.After-shared-slice-known6 Inv-loop μ-loop) where
   abbrev start : tie.Start Inv-loop μ-loop
-  start = c .before .before .before .before .before .before .before .before
+  start = c .before .before .before .before .before .before .before .before .before
 
   abbrev i : ℕ
   i = c .before .before .before .loop .i
@@ -41,7 +41,7 @@ module _ (c : tie.After-shared-slice-known6 Inv-loop μ-loop) where
   marks = c .before .before .before .loop .marks
 
   abbrev columns : ℕ → List Column
-  columns = columnsIn (start .args .s)
+  columns = columnsIn (start .args .wanted .shape)
 
   abbrev strips : List ℕ
   strips = start .args .strips .now
@@ -94,14 +94,14 @@ loop-again c =
 
 returns : tie.Need-returns Inv-loop μ-loop
 returns c =
-    let x = c .before .before .before .before .before .before .args in
+    let x = c .before .before .before .before .before .before .before .args in
     let s = c .before .loop in
-    slots-end (s .marks) (striped-nil (columnsIn (x .s)) (drop (s .n) (x .strips .now)) (no-slot (x .ids .now) (x .masks .now) (s .i) (omega arith))) (s .inv .1)
+    slots-end (s .marks) (striped-nil (columnsIn (x .wanted .shape)) (drop (s .n) (x .strips .now)) (no-slot (x .ids .now) (x .masks .now) (s .i) (omega arith))) (s .inv .1)
 
 pub fill-spec : {M : Type 1} → statement M
 fill-spec =
     tie.close
-    (tie.spec Inv-loop μ-loop (λ c. let s = c .before .before .before .before in (omega (arith, s .pre .2), going-start (s .pre .5)))
+    (tie.spec Inv-loop μ-loop (λ c. let s = c .before .before .before .before .before in (omega (arith, s .pre .2), going-start (s .pre .5)))
     (λ c. search needs) (λ c. search needs) (λ c. search needs) (λ c. search needs) (λ c. search needs) (λ c. search needs) (λ c. search needs)
     (λ c. search needs) (λ c. search needs) (λ c. search needs) (λ c. search needs) slot-requires (λ c κs. search needs) add-n add-k
     (λ c. omega arith) (λ c. omega arith) loop-again (λ c. c .before .loop .inv .1 .same) returns)

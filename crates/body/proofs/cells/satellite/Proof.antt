@@ -11,7 +11,7 @@ use Rattle.format.specs.Messages.{cellLines}
 use Rattle.format.specs.Rows.{Column, Line, shapeWidth}
 use Rattle.rows.specs.At.{valuesAt}
 use Rattle.rows.specs.Shapes.{columnsOf, columnsIn}
-use Rattle.body.specs.Chosen.{cellsIn}
+use Rattle.body.specs.Chosen.{satelliteOf, cellsIn}
 use Rattle.body.proofs.Going.{Going, going-start, Row, going-row, going-end}
 use Rattle.body.proofs.Groups.{five-in, narrow-in}
 use Rattle.body.proofs.Keys.{key, keyed}
@@ -19,26 +19,23 @@ use Rattle.body.proofs.Slots.{Next, next, next-of, none-of}
 use Rattle.body.proofs.cells.satellite.Statement.{statement}
 use Rattle.body.proofs.cells.satellite.Tie as tie
 
-abbrev satelliteOf : ℕ → ℕ → Satellite
-satelliteOf id number = record { system = id; number = number }
-
 abbrev Inv-loop : tie.InvT-loop
-Inv-loop id number word s bytes at rows₀ system satellite width left₀ k₀ place₀ rows left k place =
-    (left < 2 ^ 64)
-    × Going bytes (cellLines (columnsIn s) (cellsIn 64 (satelliteOf id number) word)) at rows₀ (cellLines (columnsIn s) (cellsIn 64 (satelliteOf id number) left)) k place rows
+Inv-loop word s bytes at rows₀ system number width left₀ k₀ place₀ rows left k place =
+    let sat : Satellite = record { system = system; number = number } in
+    (left < 2 ^ 64) × Going bytes (cellLines (columnsIn s) (cellsIn 64 sat word)) at rows₀ (cellLines (columnsIn s) (cellsIn 64 sat left)) k place rows
 
 abbrev μ-loop : tie.MeasureT-loop
-μ-loop id number word s bytes at rows₀ system satellite width left₀ k₀ place₀ rows left k place = left
+μ-loop word s bytes at rows₀ system number width left₀ k₀ place₀ rows left k place = left
 
 module _ (c : tie.After-first Inv-loop μ-loop) where
   abbrev start : tie.Start Inv-loop μ-loop
-  start = c .before .before .before .before .before
+  start = c .before .before .before .before .before .before .before
 
   abbrev left : ℕ
   left = c .before .before .loop .left
 
   abbrev sat : Satellite
-  sat = satelliteOf (start .args .id) (start .args .number)
+  sat = satelliteOf (start .args .sat)
 
   abbrev columns : ℕ → List Column
   columns = columnsIn (start .args .s)
@@ -76,23 +73,24 @@ loop-again c =
     let f = c .before .before .before .before in
     let x = start f in
     let r = c .rest in
-    let system = key (x .args .id) (x .args .id) (omega (arith, x .fits .id)) refl in
-    let number = key (x .args .number) (x .args .number) (x .pre .0) refl in
+    let id = x .args .sat .system in
+    let system = key id id (omega arith) refl in
+    let number = key (x .args .sat .number) (x .args .sat .number) (x .pre .0) refl in
     let signal = key (f .first .result) (leadingZeros 64 (left f)) (omega (arith, fewer f _ refl .inside, f .first .ensures)) (f .first .ensures) in
-    let new = c .before .before .cell .ensures ∙ keyed _ system number signal ∙ ap (λ (cs : List Column). pos (x .args .id) ∷ pos (x .args .number) ∷ pos (leadingZeros 64 (left f)) ∷ valuesAt cs (x .args .bytes .now) (f .before .before .loop .place)) (same f) in
+    let new = c .before .before .cell .ensures ∙ keyed _ system number signal ∙ ap (λ (cs : List Column). pos id ∷ pos (x .args .sat .number) ∷ pos (leadingZeros 64 (left f)) ∷ valuesAt cs (x .args .bytes .now) (f .before .before .loop .place)) (same f) in
     (omega (arith, fewer f (r .result) (r .ensures) .fewer), row f (r .result) (r .ensures) .written _ _ (wide f) new)
 
 returns : tie.Need-returns Inv-loop μ-loop
 unfolding cellLines
 returns c =
-    let x = c .before .before .before .before .args in
-    going-end (ap (cellLines (columnsIn (x .s))) (none-of (satelliteOf (x .id) (x .number)) (omega arith))) (c .before .loop .inv .1)
+    let x = c .before .before .before .before .before .before .args in
+    going-end (ap (cellLines (columnsIn (x .s))) (none-of (satelliteOf (x .sat)) (omega arith))) (c .before .loop .inv .1)
 
 pub satellite-spec : {M : Type 1} → statement M
 satellite-spec =
     tie.close
-    (tie.spec Inv-loop μ-loop (λ c. search needs) (λ c. record { sfits = c .before .pre .0 }) (λ c κs. c .before .pre .1)
-    (λ c. (omega arith, going-start (c .before .before .pre .3))) (λ c κs. search needs)
+    (tie.spec Inv-loop μ-loop (λ c. search needs) (λ c. record { sfits = c .before .before .before .pre .0 }) (λ c κs. c .before .before .before .pre .1)
+    (λ c. (omega arith, going-start (c .before .before .before .before .pre .3))) (λ c κs. search needs)
     (λ c. record { sfits = omega (arith, fewer c _ refl .inside, c .first .ensures) }) (λ c. omega (arith, row c _ refl .room))
     (λ c. omega (arith, row c _ refl .room)) (λ c. omega arith) (λ c. search needs) (λ c. row c _ refl .room) cell-requires (λ c κs. search needs)
     (λ c. let f = c .before .before .before .before in omega (arith, row f _ refl .near, wide f))

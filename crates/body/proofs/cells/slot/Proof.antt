@@ -22,16 +22,16 @@ use Rattle.body.proofs.cells.slot.Statement.{statement}
 use Rattle.body.proofs.cells.slot.Tie as tie
 
 abbrev Inv-loop : tie.InvT-loop
-Inv-loop id word strips chosen s bytes at rows₀ left₀ marks₀ n₀ k₀ place₀ rows left marks n k place =
+Inv-loop id word strips bytes rows₀ s left₀ marks₀ n₀ k₀ place₀ rows left marks n k place =
     (left < 2 ^ 64) × (n + length (satellitesIn 64 id left) ≤ length strips)
-    × Walk bytes chosen (striped (columnsIn s) (satellitesIn 64 id word) strips) at rows₀ (striped (columnsIn s) (satellitesIn 64 id left) (drop n strips)) marks k place rows
+    × Walk bytes marks₀ (striped (columnsIn s) (satellitesIn 64 id word) strips) place₀ rows₀ (striped (columnsIn s) (satellitesIn 64 id left) (drop n strips)) marks k place rows
 
 abbrev μ-loop : tie.MeasureT-loop
-μ-loop id word strips chosen s bytes at rows₀ left₀ marks₀ n₀ k₀ place₀ rows left marks n k place = left
+μ-loop id word strips bytes rows₀ s left₀ marks₀ n₀ k₀ place₀ rows left marks n k place = left
 
 module _ (c : tie.After-first Inv-loop μ-loop) where
   abbrev start : tie.Start Inv-loop μ-loop
-  start = c .before .before .before .before .before
+  start = c .before .before .before .before .before .before
 
   abbrev left : ℕ
   left = c .before .before .loop .left
@@ -67,7 +67,7 @@ module _ (c : tie.After-rest Inv-loop μ-loop) where
   x = start f
 
   abbrev columns : ℕ → List Column
-  columns = columnsIn (x .args .s)
+  columns = columnsIn (x .args .wanted .shape)
 
   -- the lines of this satellite, and those of the satellites behind it
   abbrev here : List Line
@@ -87,7 +87,7 @@ call : (c : tie.Then1 Inv-loop μ-loop)
     → let r = c .before in
     let y = x r .args in
     let s = f r .before .before .loop in
-    Part (y .bytes .now) (chosenLines (y .chosen) (striped (columns r) (satellitesIn 64 (y .id) (y .word)) (y .strips .now))) (y .at) (y .rows .now) (here r)
+    Part (y .bytes .now) (chosenLines (y .wanted .chosen) (striped (columns r) (satellitesIn 64 (y .id) (y .word)) (y .strips .now))) (y .wanted .at) (y .rows .now) (here r)
     (chosenLines (s .marks * 2 ^ 1 % 2 ^ 64) (behind r)) (s .k) (s .place) (s .rows)
 call c = let r = c .before in going-call (here r) _ (walk-here (f r .before .before .loop .inv .2) _ _ (all-left r) (omega (arith, c .if1 .taken)))
 
@@ -113,14 +113,14 @@ loop-again-2 c = let r = c .before in (again r .0, again r .1, rw (add-one (n (f
 
 returns : tie.Need-returns Inv-loop μ-loop
 returns c =
-    let x = c .before .before .before .before .args in
+    let x = c .before .before .before .before .before .args in
     let s = c .before .loop in
-    walk-end (s .inv .2) (striped-nil (columnsIn (x .s)) (drop (s .n) (x .strips .now)) (none-in (x .id) (omega arith)))
+    walk-end (s .inv .2) (striped-nil (columnsIn (x .wanted .shape)) (drop (s .n) (x .strips .now)) (none-in (x .id) (omega arith)))
 
 pub slot-spec : {M : Type 1} → statement M
 slot-spec =
     tie.close
-    (tie.spec Inv-loop μ-loop (λ c. let s = c .before .before in (omega arith, omega (arith, s .pre .0), walk-start (omega arith) (s .pre .3)))
+    (tie.spec Inv-loop μ-loop (λ c. let s = c .before .before .before in (omega arith, omega (arith, s .pre .0), walk-start (omega arith) (s .pre .3)))
     (λ c κs. search needs) (λ c. omega (arith, fewer c _ refl .inside, c .first .ensures)) (λ c. omega (arith, inside c))
     (λ c. omega (arith, inside (c .before))) (λ c. omega (arith, c .shared-slice-known3 .given (n (c .before)))) (λ c κs. search needs)
     (λ c. omega (arith, inside (f c))) (λ c. omega (arith, call c .start)) (λ c. call c .start) (λ c. call c .start) (λ c. search needs)

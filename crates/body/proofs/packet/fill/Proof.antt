@@ -91,7 +91,7 @@ pub fill-spec : {M : Type 1} → statement M
 fill-spec =
     tie.close
     (tie.spec Inv-loop μ-loop (λ c κs. search needs) (λ c κs. made-formed 0 7 (c .packet .ensures)) loop-holds (λ c. omega arith)
-    (λ c. omega (arith, row c .room)) (λ c. omega (arith, row c .room)) (λ c. omega arith) (λ c. search needs) (λ c. row c .room)
-    (λ c. record { sfits = omega (arith, few (c .before)) }) wide-requires
+    (λ c. omega (arith, row c .room)) (λ c. record { sfits = omega (arith, few c) }) (λ c. omega (arith, row c .room)) (λ c. omega arith)
+    (λ c. search needs) (λ c. row c .room) wide-requires
     (λ c. let p = c .before .before .before in omega (arith, row p .near, wide p)) (λ c. omega (arith, c .before .before .before .loop-test .taken))
     loop-again (λ c. c .before .loop .inv .2 .same) returns)

@@ -19,15 +19,15 @@ use Rattle.body.proofs.satellites.fill.Statement.{statement}
 use Rattle.body.proofs.satellites.fill.Tie as tie
 
 abbrev Inv-loop : tie.InvT-loop
-Inv-loop ids masks s chosen bytes at rows₀ marks₀ k₀ place₀ i₀ rows marks k place i =
-    Going bytes (chosenLines chosen (alone (columnsIn s) (slotSatellites ids masks))) at rows₀ (chosenLines marks (alone (columnsIn s) (fromSlot ids masks i))) k place rows
+Inv-loop ids masks bytes rows₀ s marks₀ k₀ place₀ i₀ rows marks k place i =
+    Going bytes (chosenLines marks₀ (alone (columnsIn s) (slotSatellites ids masks))) place₀ rows₀ (chosenLines marks (alone (columnsIn s) (fromSlot ids masks i))) k place rows
 
 abbrev μ-loop : tie.MeasureT-loop
-μ-loop ids masks s chosen bytes at rows₀ marks₀ k₀ place₀ i₀ rows marks k place i = length ids - i
+μ-loop ids masks bytes rows₀ s marks₀ k₀ place₀ i₀ rows marks k place i = length ids - i
 
 module _ (c : tie.After-shared-slice-known5 Inv-loop μ-loop) where
   abbrev start : tie.Start Inv-loop μ-loop
-  start = c .before .before .before .before .before .before .before
+  start = c .before .before .before .before .before .before .before .before
 
   abbrev i : ℕ
   i = c .before .before .before .loop .i
@@ -36,7 +36,7 @@ module _ (c : tie.After-shared-slice-known5 Inv-loop μ-loop) where
   marks = c .before .before .before .loop .marks
 
   abbrev columns : ℕ → List Column
-  columns = columnsIn (start .args .s)
+  columns = columnsIn (start .args .wanted .shape)
 
   slot : Slot (start .args .ids .now) (start .args .masks .now) i
   slot = slot-at _ _ i (start .pre .0) (start .pre .1) (c .before .before .loop-test .taken)
@@ -72,13 +72,13 @@ loop-again c =
 
 returns : tie.Need-returns Inv-loop μ-loop
 returns c =
-    let x = c .before .before .before .before .before .args in
+    let x = c .before .before .before .before .before .before .args in
     let s = c .before .loop in
-    slots-end (s .marks) (alone-nil (columnsIn (x .s)) (no-slot (x .ids .now) (x .masks .now) (s .i) (omega arith))) (s .inv)
+    slots-end (s .marks) (alone-nil (columnsIn (x .wanted .shape)) (no-slot (x .ids .now) (x .masks .now) (s .i) (omega arith))) (s .inv)
 
 pub fill-spec : {M : Type 1} → statement M
 fill-spec =
     tie.close
-    (tie.spec Inv-loop μ-loop (λ c. going-start (c .before .before .before .pre .4)) (λ c. search needs) (λ c. search needs) (λ c. search needs)
+    (tie.spec Inv-loop μ-loop (λ c. going-start (c .before .before .before .before .pre .4)) (λ c. search needs) (λ c. search needs) (λ c. search needs)
     (λ c. search needs) (λ c. search needs) (λ c. search needs) (λ c. search needs) slot-requires add-k (λ c. omega arith) (λ c. omega arith)
     loop-again (λ c. c .before .loop .inv .same) returns)

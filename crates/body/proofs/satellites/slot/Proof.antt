@@ -22,11 +22,11 @@ use Rattle.body.proofs.satellites.slot.Statement.{statement}
 use Rattle.body.proofs.satellites.slot.Tie as tie
 
 abbrev Inv-loop : tie.InvT-loop
-Inv-loop id word chosen s bytes at rows₀ iode width left₀ marks₀ k₀ place₀ rows left marks k place =
-    (left < 2 ^ 64) × Walk bytes chosen (alone (columnsIn s) (satellitesIn 64 id word)) at rows₀ (alone (columnsIn s) (satellitesIn 64 id left)) marks k place rows
+Inv-loop id word bytes rows₀ s width left₀ marks₀ k₀ place₀ rows left marks k place =
+    (left < 2 ^ 64) × Walk bytes marks₀ (alone (columnsIn s) (satellitesIn 64 id word)) place₀ rows₀ (alone (columnsIn s) (satellitesIn 64 id left)) marks k place rows
 
 abbrev μ-loop : tie.MeasureT-loop
-μ-loop id word chosen s bytes at rows₀ iode width left₀ marks₀ k₀ place₀ rows left marks k place = left
+μ-loop id word bytes rows₀ s width left₀ marks₀ k₀ place₀ rows left marks k place = left
 
 add-number : tie.Need-add-number Inv-loop μ-loop
 add-number c = omega (arith, next-place (c .before .before .loop .left) (c .before .loop-test .taken) (c .before .before .loop .inv .0) .0)
@@ -42,7 +42,7 @@ module _ (c : tie.After-rest Inv-loop μ-loop) where
   left = c .before .before .before .loop .left
 
   abbrev columns : ℕ → List Column
-  columns = columnsIn (start .args .s)
+  columns = columnsIn (start .args .wanted .shape)
 
   -- the next satellite's line, and those that may come behind it
   abbrev line : Line
@@ -63,7 +63,7 @@ row : (c : tie.Then1 Inv-loop μ-loop)
     → let r = c .before in
     let x = start r .args in
     let s = r .before .before .before .loop in
-    Row (x .bytes .now) (chosenLines (x .chosen) (alone (columns r) (satellitesIn 64 (id r) (x .word)))) (x .at) (x .rows .now) (line r) (chosenLines (s .marks * 2 ^ 1 % 2 ^ 64) (behind r)) (s .k) (s .place) (s .rows)
+    Row (x .bytes .now) (chosenLines (x .wanted .chosen) (alone (columns r) (satellitesIn 64 (id r) (x .word)))) (x .wanted .at) (x .rows .now) (line r) (chosenLines (s .marks * 2 ^ 1 % 2 ^ 64) (behind r)) (s .k) (s .place) (s .rows)
 row c =
     let r = c .before in
     going-row (line r) _ refl (five-in _ (id r)) (walk-here (r .before .before .before .loop .inv .1) _ _ (all-left r) (omega (arith, c .if1 .taken)))
@@ -73,7 +73,7 @@ satellite-requires c κs =
     let r = c .before .before in
     let x = start r in
     let w = row (c .before) in
-    (w .part, omega (arith, w .near), r .before .before .before .before .before .iode .ensures, x .pre .0, x .pre .1, omega (arith, w .whole))
+    (w .part, omega (arith, w .near), x .pre .0, x .pre .1, omega (arith, w .whole))
 
 loop-again : tie.Need-loop-again Inv-loop μ-loop
 loop-again c =
@@ -88,12 +88,12 @@ loop-again-2 c = let r = c .before in (omega (arith, fewer r .fewer), walk-past 
 returns : tie.Need-returns Inv-loop μ-loop
 returns c =
     let x = c .before .before .before .before .before .args in
-    walk-end (c .before .loop .inv .1) (alone-nil (columnsIn (x .s)) (none-in (x .id) (omega arith)))
+    walk-end (c .before .loop .inv .1) (alone-nil (columnsIn (x .wanted .shape)) (none-in (x .id) (omega arith)))
 
 pub slot-spec : {M : Type 1} → statement M
 slot-spec =
     tie.close
-    (tie.spec Inv-loop μ-loop (λ c κs. search needs) (λ c κs. c .before .before .pre .0)
+    (tie.spec Inv-loop μ-loop (λ c κs. c .before .before .pre .0)
     (λ c. (omega arith, walk-start (omega arith) (c .before .before .before .pre .2))) (λ c κs. search needs) add-number (λ c κs. search needs)
     (λ c. omega (arith, row c .room)) (λ c. omega (arith, row c .room)) (λ c. omega arith) (λ c. search needs) (λ c. row c .room)
     (λ c. record { sfits = omega (arith, fewer (c .before .before) .inside, c .before .before .before .first .ensures) }) satellite-requires

@@ -1,63 +1,86 @@
 -- `body::whole::fill` meets its contract. Assumes nothing.
-use mathlib.Core.Path.{ap, _∙_}
+use mathlib.Core.Path.{_≡_, refl, ap, _∙_}
 use mathlib.Core.List.{List}
 use borrow.Author.Needs.{needs}
 use lib.IntN.{ℤ}
 use Rattle.format.specs.Reading.{over}
 use Rattle.format.specs.Rows.{Line}
-use Rattle.holding.specs.Held.{viewOf}
-use Rattle.table.specs.Bodies.{linesOver}
-use Rattle.body.specs.Written.{numbersAt}
-use Rattle.body.proofs.Bodies.{satellites-fit, cells-fit, lines-known, roomy}
+use Rattle.holding.specs.Held.{View}
+use Rattle.rows.proofs.Table.{made-formed}
+use Rattle.table.specs.declared.Body.{Body}
+use Rattle.table.specs.declared.Keys.{Keys}
+use Rattle.table.specs.Bodies.{linesIn, linesOver}
+use Rattle.body.specs.Lent.{viewBy}
+use Rattle.body.specs.Written.{numbersAt, Room}
+use Rattle.body.proofs.Bodies.{satellites-fit, cells-fit, lines-known, by-satellites, by-cells, roomy}
 use Rattle.body.proofs.whole.fill.Statement.{statement}
 use Rattle.body.proofs.whole.fill.Tie as tie
 
-by-satellites-requires : tie.Need-by-satellites-requires
-by-satellites-requires c κs =
-    let k = c .before .before in
-    let s = k .before .before .before in
-    let known = k .keys .given .1 in
-    (s .pre .0, satellites-fit (s .args .body) (s .pre .1) known, roomy (s .args .h) (s .pre .0) (s .args .body) _ _ _ known (s .pre .1) (s .pre .2) (s .pre .3) (s .pre .4))
+module _ (s : tie.Start) where
+  abbrev view : View
+  view = viewBy (s .args .ids .now) (s .args .masks .now) (s .args .strips .now)
 
-by-cells-requires : tie.Need-by-cells-requires
-by-cells-requires c κs =
-    let k = c .before .before in
-    let s = k .before .before .before in
-    let known = k .keys2 .given .1 in
-    (s .pre .0, cells-fit (s .args .body) (s .pre .1) known .0, roomy (s .args .h) (s .pre .0) (s .args .body) _ _ _ known (s .pre .1) (s .pre .2) (s .pre .3) (s .pre .4))
+  abbrev body : Body
+  body = s .args .placed .body
+
+  room : {keys : Keys} → body .keys ≡ keys → Room (linesOver view keys (body .shape)) (s .args .bytes .now) (s .args .placed .at) (s .args .rows .now)
+  room known = roomy (s .pre .0) body (s .pre .1) _ _ _ _ known (s .pre .2) (s .pre .3) (s .pre .4) (s .pre .5)
+
+  -- the rows of the lines of known keys are the body's
+  abbrev Rows : List Line → List ℤ
+  Rows l = over (numbersAt l (s .args .bytes .now) (s .args .placed .at)) (s .args .rows .now)
+
+  whole : {keys : Keys} → body .keys ≡ keys → Rows (linesOver view keys (body .shape)) ≡ Rows (linesIn view body)
+  whole known = ap Rows (lines-known view body known)
 
 fill-requires : tie.Need-fill-requires
-unfolding linesOver
 fill-requires c κs =
-    let k = c .before .before in
-    let s = k .before .before .before in
-    roomy (s .args .h) (s .pre .0) (s .args .body) _ _ _ (k .keys3 .given .1) (s .pre .1) (s .pre .2) (s .pre .3) (s .pre .4)
+    let k = c .before .before .before in
+    let s = k .before .before .before .before .before .before .before in
+    let known = k .keys .given in
+    let lent = s .pre .0 in
+    rw (c .before .wanted .ensures)
+    (lent .masked, lent .thin, made-formed 0 _ refl, satellites-fit (body s) (s .pre .1) (known .1), rw (by-satellites (view s) (known .0 .0) (body s .shape)) (room s (known .1)))
 
--- the rows of the lines of known keys are the body's
-abbrev Rows : tie.Start → List Line → List ℤ
-Rows s l = over (numbersAt l (s .args .bytes .now) (s .args .at)) (s .args .rows .now)
+fill-requires-2 : tie.Need-fill-requires-2
+fill-requires-2 c κs =
+    let k = c .before .before .before in
+    let s = k .before .before .before .before .before .before .before in
+    let known = k .keys2 .given in
+    let lent = s .pre .0 in
+    rw (c .before .wanted2 .ensures)
+    (lent .masked, lent .thin, lent .covered, made-formed 0 _ refl, cells-fit (body s) (s .pre .1) (known .1) .0, rw (by-cells (view s) (known .0 .0) (body s .shape)) (room s (known .1)))
+
+fill-requires-3 : tie.Need-fill-requires-3
+unfolding linesOver
+fill-requires-3 c κs =
+    let k = c .before .before in
+    room (k .before .before .before .before .before .before .before) (k .keys3 .given .1)
 
 returns : tie.Need-returns
 returns c =
-    let k = c .before .before .before .before in
-    let s = k .before .before .before in
-    c .before .by-satellites .ensures ∙ ap (Rows s) (lines-known (viewOf (s .args .h)) (s .args .body) (k .keys .given .1))
+    let w = c .before .before .before in
+    let k = w .before .before in
+    let s = k .before .before .before .before .before .before .before in
+    let known = k .keys .given in
+    (rw (w .wanted .ensures) at (c .before .fill .ensures)) ∙ ap (Rows s) (by-satellites (view s) (known .0 .0) (body s .shape)) ∙ whole s (known .1)
 
 returns-2 : tie.Need-returns-2
 returns-2 c =
-    let k = c .before .before .before .before in
-    let s = k .before .before .before in
-    c .before .by-cells .ensures ∙ ap (Rows s) (lines-known (viewOf (s .args .h)) (s .args .body) (k .keys2 .given .1))
+    let w = c .before .before .before in
+    let k = w .before .before in
+    let s = k .before .before .before .before .before .before .before in
+    let known = k .keys2 .given in
+    (rw (w .wanted2 .ensures) at (c .before .fill2 .ensures)) ∙ ap (Rows s) (by-cells (view s) (known .0 .0) (body s .shape)) ∙ whole s (known .1)
 
 returns-3 : tie.Need-returns-3
 unfolding linesOver
 returns-3 c =
     let k = c .before .before .before .before in
-    let s = k .before .before .before in
-    c .before .fill .ensures ∙ ap (Rows s) (lines-known (viewOf (s .args .h)) (s .args .body) (k .keys3 .given .1))
+    c .before .fill3 .ensures ∙ whole (k .before .before .before .before .before .before .before) (k .keys3 .given .1)
 
 pub fill-spec : {M : Type 1} → statement M
 fill-spec =
     tie.close
-    (tie.spec (λ c. search needs) by-satellites-requires (λ c. search needs) by-cells-requires (λ c. search needs) fill-requires (λ c. search needs)
-    returns (λ c. search needs) returns-2 (λ c. search needs) returns-3)
+    (tie.spec (λ c. search needs) (λ c κs. search needs) fill-requires (λ c. search needs) (λ c κs. search needs) fill-requires-2
+    (λ c. search needs) fill-requires-3 (λ c. search needs) returns (λ c. search needs) returns-2 (λ c. search needs) returns-3)

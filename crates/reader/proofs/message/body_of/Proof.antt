@@ -1,10 +1,12 @@
 -- `reader::message::body_of` meets its contract. Assumes nothing.
 use mathlib.Core.Path.{_≡_, _∙_, sym, ap, subst, refl}
+use mathlib.Core.Bool.{true}
 use mathlib.Core.List.{List, flatten}
 use Prim.Native.Nat.{ℕ, _+_, _-_, _≤_}
 use native.Mathlib.Omega.{arith}
 use borrow.Author.Needs.{needs}
 use lib.ListN.{length}
+use Rattle.body.proofs.Bodies.{counted, prefix, lends}
 use Rattle.format.specs.declared.Answer.the-variants as Answers
 use Rattle.format.specs.Masks.{Held}
 use Rattle.format.specs.Reading.{Outcome, accepted, answerOf, over, rowsAfter}
@@ -12,8 +14,10 @@ use Rattle.format.specs.Rows.{Line, bodyWidth}
 use Rattle.heads.specs.declared.heading.Heading.{Heading}
 use Rattle.heads.specs.Headings.{saidBy, FitsHeading}
 use Rattle.heads.specs.Sorting.{headedAt}
+use Rattle.holding.proofs.Sounds.{sounds}
+use Rattle.holding.specs.declared.Holding.{Holding}
 use Rattle.holding.specs.Held.{viewOf}
-use Rattle.holding.specs.Pictures.{maskOf}
+use Rattle.holding.specs.Pictures.{maskOf, sound}
 use Rattle.reader.specs.Readings.{Begins}
 use Rattle.reader.proofs.Bodied.{bodyOf, headed-there, body-said, headed-short, none-at}
 use Rattle.reader.proofs.message.body_of.Statement.{statement}
@@ -92,11 +96,22 @@ returns-2 c =
     let none = sym (c .before .if2 .taken) ∙ z e .size .ensures .rows in
     (said e 0 none, rw (there e, none-at (lines (t e)) (s (t e) .args .bytes .now) (at (t e)) (sym none)) refl)
 
+-- slots and strips are lent
+abbrev lending : tie.After-strips → tie.Else1
+lending c = c .before .before .before .before .before
+
+abbrev h : tie.After-strips → Holding
+h c = s (t (lending c)) .args .holding
+
+firm : (c : tie.After-strips) → sound (h c) ≡ true
+firm c = s (t (lending c)) .pre .0
+
 fill-requires : tie.Need-fill-requires
 fill-requires c κs =
-    let e = c .before .before .before in
+    let l = c .before .before .before .before in
+    let e = lending l in
     let p = s (t e) .pre in
-    (p .0, fits (t e), z e .size .ensures .bits, omega (arith, begins (t e), p .4, e .if1 .left), p .5)
+    (lends (h l) (firm l), fits (t e), z e .size .ensures .bits, omega (arith, begins (t e), p .4, e .if1 .left), p .5)
 
 returns-3 : tie.Need-returns-3
 unfolding saidBy answerOf rowsAfter headedAt
@@ -105,11 +120,12 @@ returns-3 c = rw (c .before .heading .given .1) (refl, refl)
 returns-4 : tie.Need-returns-4
 unfolding rowsAfter
 returns-4 c =
-    let e = c .before .before .before .before .before .before in
+    let e = lending (c .before .before .before .before .before .before .before) in
     (said e _ (z e .size .ensures .rows), rw (there e) (c .before .before .fill .ensures))
 
 pub body-of-spec : {M : Type 1} → statement M
 body-of-spec =
     tie.close
-    (tie.spec (λ c. search needs) (λ c. search needs) size-requires sub-left (λ c. search needs) returns (λ c. search needs) returns-2 fill-requires
-    (λ c. search needs) returns-3 (λ c. search needs) returns-4)
+    (tie.spec (λ c. search needs) (λ c. search needs) size-requires sub-left (λ c. search needs) returns (λ c. search needs) returns-2
+    (λ c. counted (h c) (firm c)) (λ c. let l = c .before in prefix (h l) (firm l)) (λ c. let l = c .before .before in sym (sounds (h l) (firm l) .shaped .satellites))
+    (λ c. let l = c .before .before .before in sym (sounds (h l) (firm l) .shaped .strips)) fill-requires (λ c. search needs) returns-3 (λ c. search needs) returns-4)

@@ -26,36 +26,31 @@ two w =
 
 value-requires : tie.Need-value-requires
 value-requires c κs =
-    let w = c .before .before .before in
+    let w = c .before .before in
     let s = start w in
     (up-lt (s .args .bytes .now) (s .args .at) (w .eight .ensures) _ (omega (arith, s .pre .2 .first .narrow)), s .pre .2 .first)
 
 value-requires-2 : tie.Need-value-requires-2
 value-requires-2 c κs =
-    let w = c .before .before .before .before in
+    let w = c .before .before .before in
     let s = start w in
     (up-lt (s .args .bytes .now) (s .args .at) (w .eight .ensures) _ (omega (arith, s .pre .2 .window)), s .pre .2 .second)
 
 returns : tie.Need-returns
 returns c =
-    let v2 = c .before .before in
+    let v2 = c .before .before .before in
     let v1 = v2 .before in
-    let w = v1 .before .before .before .before in
+    let w = v1 .before .before .before in
     let s = start w in
     let x = s .args in
     c .before .store .ensures
-    ∙ rw (toZ-ofZ (s .fits .system), toZ-ofZ (s .fits .satellite), toZ-ofZ (s .fits .signal), toZ-ofZ {w = w32} (record { sfits = v1 .value .ok }), toZ-ofZ {w = w32} (record { sfits = v2 .value2 .ok }))
-    (ap (λ (l : List ℤ). x .system ∷ x .satellite ∷ x .signal ∷ l)
+    ∙ rw (toZ-ofZ {w = w32} (record { sfits = v1 .value .ok }), toZ-ofZ {w = w32} (record { sfits = v2 .value2 .ok }))
+    (ap (λ (l : List ℤ). x .key .system ∷ x .key .satellite ∷ x .key .signal ∷ l)
     (values-pair (x .bytes .now) (x .at) (x .s) (w .eight .ensures) (s .pre .2) (s .pre .3) (two w .1) (v1 .value .ensures) (v2 .value2 .ensures)))
-
-returns-2 : tie.Need-returns-2
-returns-2 c =
-    let s = c .before .before .before .before .before .before in
-    c .before .wide .ensures ∙ rw (toZ-ofZ (s .fits .system), toZ-ofZ (s .fits .satellite), toZ-ofZ (s .fits .signal))
 
 pub cell-spec : {M : Type 1} → statement M
 cell-spec =
     tie.close
     (tie.spec (λ c κs. search needs) (λ c κs. search needs) (λ c. search needs) (λ c. search needs) (λ c. search needs)
-    (λ c. omega (arith, two (c .before .before .before) .0)) value-requires (λ c. omega (arith, two (c .before .before .before .before) .0)) value-requires-2
-    (λ c κs. search needs) (λ c κs. search needs) (λ c. search needs) returns (λ c. search needs) returns-2)
+    (λ c. omega (arith, two (c .before .before) .0)) value-requires (λ c. omega (arith, two (c .before .before .before) .0)) value-requires-2
+    (λ c κs. search needs) (λ c κs. search needs) (λ c. search needs) returns (λ c. search needs) (λ c. search needs))

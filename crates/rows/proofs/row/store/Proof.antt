@@ -4,16 +4,30 @@ use native.Mathlib.Omega.{arith}
 use borrow.Author.Needs.{needs}
 use lib.ListN.{length-set}
 use mir.Facts.{toZ-ofZ}
+use mir.Syntax.{w32}
 use Rattle.bits.proofs.Lists.{stored-all}
 use Rattle.rows.proofs.row.store.Statement.{statement}
 use Rattle.rows.proofs.row.store.Tie as tie
 
 returns : tie.Need-returns
 returns c =
-    let x = c .args in
-    let f = c .fits in
-    rw (toZ-ofZ (f .a), toZ-ofZ (f .b), toZ-ofZ (f .c), toZ-ofZ (f .d), toZ-ofZ (f .e), toZ-ofZ (f .f), toZ-ofZ (f .g), toZ-ofZ (f .h))
-    (stored-all (x .row .now) (x .a ∷ x .b ∷ x .c ∷ x .d ∷ x .e ∷ x .f ∷ x .g ∷ x .h ∷ []) (c .pre))
+    let f = c .before .before .before .before .before in
+    let s = f .before .before .before in
+    let k = s .args .key in
+    let v = s .args .v in
+    let key = f .struct-told3 .given in
+    let told = c .struct-told8 .given in
+    rw (
+      toZ-ofZ {w = w32} {z = k .system} (record { sfits = key .0 .1 }),
+      toZ-ofZ {w = w32} {z = k .satellite} (record { sfits = key .1 .0 .1 }),
+      toZ-ofZ {w = w32} {z = k .signal} (record { sfits = key .1 .1 .0 .1 }),
+      toZ-ofZ {w = w32} {z = v .v1} (record { sfits = told .0 .1 }),
+      toZ-ofZ {w = w32} {z = v .v2} (record { sfits = told .1 .0 .1 }),
+      toZ-ofZ {w = w32} {z = v .v3} (record { sfits = told .1 .1 .0 .1 }),
+      toZ-ofZ {w = w32} {z = v .v4} (record { sfits = told .1 .1 .1 .0 .1 }),
+      toZ-ofZ {w = w32} {z = v .v5} (record { sfits = told .1 .1 .1 .1 .0 .1 }),
+    )
+    (stored-all (s .args .row .now) (k .system ∷ k .satellite ∷ k .signal ∷ v .v1 ∷ v .v2 ∷ v .v3 ∷ v .v4 ∷ v .v5 ∷ []) (s .pre))
 
 pub store-spec : {M : Type 1} → statement M
 store-spec =

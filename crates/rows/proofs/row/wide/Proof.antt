@@ -19,41 +19,40 @@ below s = let h = s .args .s in 63 - s .args .at % 8 - (h .v1 .width + (h .v2 .w
 
 value-requires : tie.Need-value-requires
 value-requires c κs =
-    let w = c .before in
-    let s = start w in
-    (moved-lt (s .args .bytes .now) (s .args .at) (w .eight .ensures) (below s) _, s .pre .2 .first)
+    let s = start c in
+    (moved-lt (s .args .bytes .now) (s .args .at) (c .eight .ensures) (below s) _, s .pre .2 .first)
 
 value-requires-2 : tie.Need-value-requires-2
 value-requires-2 c κs =
-    let w = c .before .before in
+    let w = c .before in
     let s = start w in
     (moved-lt (s .args .bytes .now) (s .args .at) (w .eight .ensures) (below s) _, s .pre .2 .second)
 
 value-requires-3 : tie.Need-value-requires-3
 value-requires-3 c κs =
-    let w = c .before .before .before in
+    let w = c .before .before in
     let s = start w in
     (moved-lt (s .args .bytes .now) (s .args .at) (w .eight .ensures) (below s) _, s .pre .2 .third)
 
 value-requires-4 : tie.Need-value-requires-4
 value-requires-4 c κs =
-    let w = c .before .before .before .before in
+    let w = c .before .before .before in
     let s = start w in
     (half-lt (s .args .bytes .now) (s .args .at) (w .eight .ensures) _, s .pre .2 .fourth)
 
 returns : tie.Need-returns
 returns c =
-    let v5 = c .before .before in
+    let v5 = c .before .before .before in
     let v4 = v5 .before in
     let v3 = v4 .before in
     let v2 = v3 .before in
     let v1 = v2 .before in
-    let w = v1 .before .before in
+    let w = v1 .before in
     let s = start w in
     let x = s .args in
     c .before .store .ensures
-    ∙ rw (toZ-ofZ (s .fits .system), toZ-ofZ (s .fits .satellite), toZ-ofZ (s .fits .signal), toZ-ofZ {w = w32} (record { sfits = v1 .value .ok }), toZ-ofZ {w = w32} (record { sfits = v2 .value2 .ok }), toZ-ofZ {w = w32} (record { sfits = v3 .value3 .ok }), toZ-ofZ {w = w32} (record { sfits = v4 .value4 .ok }), toZ-ofZ {w = w32} (record { sfits = v5 .alone .ok }))
-    (ap (λ (l : List ℤ). x .system ∷ x .satellite ∷ x .signal ∷ l)
+    ∙ rw (toZ-ofZ {w = w32} (record { sfits = v1 .value .ok }), toZ-ofZ {w = w32} (record { sfits = v2 .value2 .ok }), toZ-ofZ {w = w32} (record { sfits = v3 .value3 .ok }), toZ-ofZ {w = w32} (record { sfits = v4 .value4 .ok }), toZ-ofZ {w = w32} (record { sfits = v5 .alone .ok }))
+    (ap (λ (l : List ℤ). x .key .system ∷ x .key .satellite ∷ x .key .signal ∷ l)
     (values-wide (x .bytes .now) (x .at) (x .s) (w .eight .ensures) (s .pre .2) (below s) refl (v1 .value .ensures) (v2 .value2 .ensures) (v3 .value3 .ensures) (v4 .value4 .ensures) (v5 .alone .ensures)))
 
 pub wide-spec : {M : Type 1} → statement M

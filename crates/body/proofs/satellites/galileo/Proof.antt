@@ -1,0 +1,89 @@
+-- `body::satellites::galileo` meets its contract. The loop's invariant: with those of the slots that are left it is the whole.
+-- Assumes nothing.
+use mathlib.Core.Path.{_≡_, ap, _∙_}
+use mathlib.Core.Bool.{Bool, true, false, cond}
+use mathlib.Core.List.{List}
+use mathlib.Core.Logic.{⊎-elim}
+use Prim.Native.Nat.{ℕ, suc, _+_, _-_, _*_, _/_, _%_, _^_, _≤_, _<_}
+use native.Mathlib.Nat.{mod-lt}
+use native.Mathlib.Numerals.{add-one}
+use native.Mathlib.Omega.{arith}
+use borrow.Author.Needs.{needs}
+use borrow.Author.Tests.{eq-eqb, ne-eqb}
+use lib.Count.{ones}
+use lib.Dec.{eqb}
+use lib.ListN.{length, getD}
+use Rattle.bits.specs.BitLists.{spell}
+use Rattle.format.proofs.Picks.{pick-few, pick-nil}
+use Rattle.format.specs.Lengths.{total}
+use Rattle.format.specs.Masks.{Satellite, pick}
+use Rattle.body.specs.Chosen.{galileos}
+use Rattle.body.proofs.Sizes.{few-galileos, slot-galileos}
+use Rattle.body.proofs.Slots.{fromSlot, Slot, slot-at, no-slot}
+use Rattle.body.proofs.satellites.galileo.Statement.{statement}
+use Rattle.body.proofs.satellites.galileo.Tie as tie
+
+-- those of the slots from the i-th on
+abbrev from : List ℕ → List ℕ → ℕ → ℕ → ℕ
+from ids masks marks i = galileos (pick (spell 64 marks) (fromSlot ids masks i))
+
+abbrev Inv-loop : tie.InvT-loop
+Inv-loop ids masks chosen marks₀ sum₀ i₀ marks sum i = (marks < 2 ^ 64) × (sum + from ids masks marks i ≡ from ids masks chosen 0)
+
+abbrev μ-loop : tie.MeasureT-loop
+μ-loop ids masks chosen marks₀ sum₀ i₀ marks sum i = length ids - i
+
+slot : (c : tie.In-loop Inv-loop μ-loop) → let x = c .before .before .before .before .args in Slot (x .ids .now) (x .masks .now) (c .before .loop .i)
+slot c = let s = c .before .before .before .before in slot-at _ _ (c .before .loop .i) (s .pre .0) (s .pre .1) (c .loop-test .taken)
+
+module _ (c : tie.After-shared-slice-known4 Inv-loop μ-loop) where
+  abbrev p : tie.In-loop Inv-loop μ-loop
+  p = c .before .before .before
+
+  abbrev s : tie.Start Inv-loop μ-loop
+  s = p .before .before .before .before
+
+  abbrev marks : ℕ
+  marks = p .before .loop .marks
+
+  abbrev n : ℕ
+  n = c .before .count .result
+
+  few : n ≤ 40
+  few = omega (arith, slot p .few, slot p .count, c .before .count .ensures)
+
+  next : (galileo : Bool) → eqb (getD (s .args .ids .now) (p .before .loop .i) 0) 2 ≡ galileo
+      → from (s .args .ids .now) (s .args .masks .now) marks (p .before .loop .i)
+      ≡ cond galileo 1 0 * ones (marks / 2 ^ (64 - n)) + from (s .args .ids .now) (s .args .masks .now) (marks * 2 ^ n % 2 ^ 64) (suc (p .before .loop .i))
+  next galileo e = rw (← e) (slot-galileos (s .args .ids .now) (s .args .masks .now) (p .before .loop .i) marks n (slot p) (p .before .loop .inv .0) (c .before .count .ensures))
+
+add-sum : tie.Need-add-sum Inv-loop μ-loop
+add-sum c =
+    let q = c .before .before in
+    let x = s q .args in
+    let most = few-galileos (pick (spell 64 (x .chosen)) (fromSlot (x .ids .now) (x .masks .now) 0)) in
+    let fewer = pick-few (spell 64 (x .chosen)) (fromSlot (x .ids .now) (x .masks .now) 0) in
+    omega (arith, most, fewer, s q .pre .2, p q .before .loop .inv .1, next q true (eq-eqb _ 2 (c .before .if1 .taken)), c .picked .ensures)
+
+loop-again : tie.Need-loop-again Inv-loop μ-loop
+loop-again c =
+    let q = c .before in
+    let l = p q .before .loop in
+    rw (add-one (l .i)) (
+      mod-lt _ (omega arith),
+      ⊎-elim (λ w. omega (arith, l .inv .1, next q true (eq-eqb _ 2 (w .0 .taken)), w .1 .ensures, w .2)) (λ w. omega (arith, l .inv .1, next q false (ne-eqb _ 2 (w .0 .left)), w .1)) (c .if1 .came),
+    )
+
+returns : tie.Need-returns Inv-loop μ-loop
+unfolding galileos total
+returns c =
+    let x = c .before .before .before .before .args in
+    let l = c .before .loop in
+    let gone = ap (λ (sats : List Satellite). galileos (pick (spell 64 (l .marks)) sats)) (no-slot (x .ids .now) (x .masks .now) (l .i) (omega arith)) ∙ ap galileos (pick-nil (spell 64 (l .marks))) in
+    omega (arith, l .inv .1, gone)
+
+pub galileo-spec : {M : Type 1} → statement M
+galileo-spec =
+    tie.close
+    (tie.spec Inv-loop μ-loop (λ c. (omega arith, omega arith)) (λ c. omega (arith, slot c .inside)) (λ c. slot (c .before) .inside) (λ c κs. search needs)
+    (λ c. search needs) (λ c κs. omega (arith, few (c .before))) add-sum (λ c. omega (arith, few (c .before))) (λ c. omega arith) (λ c. omega arith) loop-again returns)

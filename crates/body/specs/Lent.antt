@@ -1,0 +1,20 @@
+-- What a holding lends to a body: the IDs of its slots, their masks, and the strips of their satellites.
+use mathlib.Core.Path.{_≡_}
+use mathlib.Core.Bool.{true}
+use mathlib.Core.List.{List}
+use Prim.Native.Nat.{ℕ, _≤_}
+use lib.ListN.{length}
+use Rattle.holding.specs.Bounds.{narrow}
+use Rattle.holding.specs.Held.{View, slotSatellites, stripCells}
+
+-- what they show to a message
+abbrev pub viewBy : List ℕ → List ℕ → List ℕ → View
+viewBy ids masks strips = record { satellites = slotSatellites ids masks; strips = strips }
+
+-- there is a mask for each ID and a strip for each satellite, and they are no more than document 01's limits
+pub record Lent (ids masks strips : List ℕ) : Type 0 where
+  pub masked : length ids ≤ length masks
+  pub thin : narrow 40 masks ≡ true
+  pub covered : length (slotSatellites ids masks) ≤ length strips
+  pub satellites : length (slotSatellites ids masks) ≤ 64
+  pub cells : length (stripCells (slotSatellites ids masks) strips) ≤ 256
