@@ -36,7 +36,7 @@ use Rattle.table.specs.declared.Keys.{Keys}
 use Rattle.table.specs.declared.Keys.the-variants.{Satellites, Cells, Parts}
 use Rattle.table.specs.Bodies.{linesOver, linesIn, FitsKeys, Fits}
 use Rattle.body.specs.Chosen.{alone, cellsIn, striped, chosenLines}
-use Rattle.body.specs.Lent.{viewBy, Lent}
+use Rattle.body.specs.Lent.{viewBy, Lent, Lends}
 use Rattle.body.specs.Written.{Room, Counts}
 use Rattle.body.proofs.Groups.{no-cells, alone-chosen, striped-chosen}
 use Rattle.body.proofs.Sizes.{Few, few-satellites, total-most, satellites-alike}
@@ -239,3 +239,12 @@ module _ (h : Holding) (e : sound h ≡ true) where
   unfolding linesOver
   alike chosen shape width small not-orbit not-both wide =
       satellites-alike (shapeAt shape) width chosen (h .nsat) _ (slotsOf h) (λ system. ap shapeWidth (one-shape system shape (no-iode shape not-orbit not-both)) ∙ sym wide) small many few refl
+
+-- ---- what is lent is the holding's
+
+module _ {h : Holding} {ids masks strips : List ℕ} (l : Lends h ids masks strips) where
+  pub lent-view : viewBy ids masks strips ≡ viewOf h
+  lent-view = λ i. viewBy (l .named i) (l .masked i) (l .striped i)
+
+  pub lent-well : sound h ≡ true → Lent ids masks strips
+  lent-well e = rw (l .named, l .masked, l .striped) (lends h e)

@@ -3,7 +3,8 @@ use mathlib.Core.Path.{_≡_}
 use mathlib.Core.Bool.{true}
 use mathlib.Core.List.{List}
 use Prim.Native.Nat.{ℕ, _≤_}
-use lib.ListN.{length}
+use lib.ListN.{length, take}
+use Rattle.holding.specs.declared.Holding.{Holding}
 use Rattle.holding.specs.Bounds.{narrow}
 use Rattle.holding.specs.Held.{View, slotSatellites, stripCells}
 
@@ -18,3 +19,9 @@ pub record Lent (ids masks strips : List ℕ) : Type 0 where
   pub covered : length (slotSatellites ids masks) ≤ length strips
   pub satellites : length (slotSatellites ids masks) ≤ 64
   pub cells : length (stripCells (slotSatellites ids masks) strips) ≤ 256
+
+-- they are a holding's: the IDs of its slots, and its masks and strips whole
+pub record Lends (h : Holding) (ids masks strips : List ℕ) : Type 0 where
+  pub named : ids ≡ take (h .count) (h .ids)
+  pub masked : masks ≡ h .satellites
+  pub striped : strips ≡ h .strips

@@ -11,7 +11,7 @@ ghost use mathlib.Core.List.{flatten};
 ghost use Prim.Native.Nat.{_+_, _*_, _^_, _≤_, _<_};
 ghost use lib.ListN.{length};
 ghost use Rattle.bits.specs.BitLists.{spell};
-ghost use Rattle.body.specs.Lent.{viewBy, Lent};
+ghost use Rattle.body.specs.Lent.{viewBy, Lent, Lends};
 ghost use Rattle.body.specs.Written.{Counts};
 ghost use Rattle.format.specs.Masks.{pick};
 ghost use Rattle.format.specs.Reading.{rowRoom, over};
@@ -81,42 +81,38 @@ fn alike(rows: usize, width: usize) -> Extent
 }
 
 // How long the rows of the satellites that are chosen are: of one width, unless an IODE is in them.
-fn satellites_size(h: Holding, shape: usize, chosen: u64) -> Extent
-    requires { ⌜ sound h ≡ true ⌝ }
+fn satellites_size(h: Holding, ids: &[u8], masks: &[u64], shape: usize, chosen: u64) -> Extent
+    requires { ⌜ (sound h ≡ true) × Lends h (now ids) (now masks) (h .strips) ⌝ }
     ensures { λ r. ⌜ Counts (linesOver (viewOf h) (Satellites chosen) shape) r ⌝ }
 {
     if shape < shapes::ORBIT || shape > shapes::COMBINED {
         return satellites::size_alike(h.nsat, shapes::width_of(shape), chosen);
     }
-    let ids = h.ids;
-    let masks = h.satellites;
-    let count = h.count;
-    satellites::size(h.nsat, &ids[..count], &masks, shape, chosen)
+    satellites::size(h.nsat, ids, masks, shape, chosen)
 }
 
 // How many cells the satellites that are chosen have.
-fn cells_chosen(h: Holding, chosen: u64) -> usize
-    requires { ⌜ sound h ≡ true ⌝ }
+fn cells_chosen(h: Holding, strips: &[u16], chosen: u64) -> usize
+    requires { ⌜ (sound h ≡ true) × (now strips ≡ h .strips) ⌝ }
     ensures { λ r. ⌜ r ≡ length (stripCells (pick (spell 64 chosen) (slotsOf h)) (pick (spell 64 chosen) (h .strips))) ⌝ }
 {
     if chosen == ALL {
         return h.ncell;
     }
-    let strips = h.strips;
     let n = h.nsat;
     cells::count(&strips[..n], chosen)
 }
 
 // How long the body is.
-pub fn size(h: Holding, body: Body) -> Extent
-    requires { ⌜ (sound h ≡ true) × Fits body ⌝ }
+pub fn size(h: Holding, ids: &[u8], masks: &[u64], strips: &[u16], body: Body) -> Extent
+    requires { ⌜ (sound h ≡ true) × Lends h (now ids) (now masks) (now strips) × Fits body ⌝ }
     ensures { λ r. ⌜ Counts (linesIn (viewOf h) body) r ⌝ }
 {
     let keys = body.keys;
     let shape = body.shape;
     match keys {
-        Keys::Satellites(chosen) => satellites_size(h, shape, chosen),
-        Keys::Cells(chosen) => alike(cells_chosen(h, chosen), shapes::width_of(shape)),
+        Keys::Satellites(chosen) => satellites_size(h, ids, masks, shape, chosen),
+        Keys::Cells(chosen) => alike(cells_chosen(h, strips, chosen), shapes::width_of(shape)),
         Keys::Parts(parts) => alike(parts, shapes::width_of(shape)),
     }
 }

@@ -1,9 +1,11 @@
 -- What the code answers to a reading, by crate format's outcome of it.
-use mathlib.Core.Bool.{cond}
+use mathlib.Core.Path.{_≡_}
+use mathlib.Core.Bool.{true, cond}
 use mathlib.Core.List.{List}
-use Prim.Native.Nat.{ℕ, _-_, _≤_}
+use Prim.Native.Nat.{ℕ, _-_, _*_, _≤_}
 use lib.Dec.{eqb}
 use lib.IntN.{ℤ}
+use lib.ListN.{length}
 use Rattle.bits.specs.Places.{field}
 use Rattle.format.specs.declared.Answer.{Answer}
 use Rattle.format.specs.declared.Answer.the-variants as Answers
@@ -13,7 +15,7 @@ use Rattle.format.specs.Good.{isHolding}
 use Rattle.format.specs.Masks.{Held, Lent, stray, lent}
 use Rattle.format.specs.Messages.{Heading}
 use Rattle.format.specs.Programs.{Ended, well, badly, run}
-use Rattle.format.specs.Reading.{Outcome, bitsFrom, endedAt, readFrom, lentTests, placed, lentAfter, answerOf, reading}
+use Rattle.format.specs.Reading.{stretchLimit, rowRoom, Outcome, bitsFrom, endedAt, readFrom, lentTests, placed, lentAfter, answerOf, reading}
 use Rattle.format.specs.Table.{table, byKind, opening}
 use Rattle.format.specs.Tests.{Test, verdict}
 use Rattle.heads.specs.declared.Opening.{Opening}
@@ -92,6 +94,14 @@ soughtBy (Tests.Refused r) found = Answered (Answers.Refused r 0)
 
 abbrev pub soughtAt : Holding → List ℕ → ℕ → ℕ → ℕ → Found
 soughtAt h bytes end start room = soughtBy (testedBy (testsOf h bytes end start room)) (foundAt h bytes end start)
+
+-- ---- what a message is read under: a sound holding, a stretch within its limit and the bytes lent, room for the rows
+
+pub record Ready (h : Holding) (bytes : List ℕ) (end : ℕ) (rows : List ℤ) : Type 0 where
+  pub held : sound h ≡ true
+  pub lent : end ≤ 8 * length bytes
+  pub limit : end ≤ stretchLimit
+  pub room : rowRoom ≤ length rows
 
 -- ---- a heading's body begins within the stretch
 

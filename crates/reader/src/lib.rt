@@ -68,7 +68,11 @@ pub fn read(holding: Holding, bytes: &[u8], end: usize, start: usize, rows: &mut
         let answer = Answer::Refused(r, 0);
         return Reading { answer, holding };
     }
-    let found = find(holding, bytes, end, start, rows);
+    let ids = holding.ids;
+    let masks = holding.satellites;
+    let strips = holding.strips;
+    let count = holding.count;
+    let found = find(holding, &ids[..count], &masks, &strips, bytes, end, start, rows);
     match found {
         Found::Mask => adopted(holding, bytes, end, start + OPENING),
         Found::Answered(answer) => Reading { answer, holding },

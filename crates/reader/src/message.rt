@@ -3,15 +3,16 @@ ghost use mathlib.Core.Path.{_≡_};
 ghost use mathlib.Core.Bool.{true};
 ghost use Prim.Native.Nat.{_*_, _≤_};
 ghost use lib.ListN.{length};
+ghost use Rattle.body.specs.Lent.{Lends};
 ghost use Rattle.format.specs.Messages.{maskMessage};
 ghost use Rattle.format.specs.Programs.{run};
-ghost use Rattle.format.specs.Reading.{stretchLimit, rowRoom, answerOf, rowsAfter, bitsFrom};
+ghost use Rattle.format.specs.Reading.{stretchLimit, answerOf, rowsAfter, bitsFrom};
 ghost use Rattle.heads.specs.Fronts.{Opens};
 ghost use Rattle.heads.specs.Headings.{saidBy, FitsHeading};
 ghost use Rattle.heads.specs.Sorting.{headedAt, adoptedBy};
 ghost use Rattle.holding.specs.Held.{viewOf};
 ghost use Rattle.holding.specs.Pictures.{maskOf, sound};
-ghost use Rattle.reader.specs.Readings.{readingOf, readAt, unopenedAt, foundAt, Begins};
+ghost use Rattle.reader.specs.Readings.{readingOf, readAt, unopenedAt, foundAt, Ready, Begins};
 use crate::Reading;
 use adoption::Made;
 use bits::rest::zero_from;
@@ -30,15 +31,24 @@ use table::kind_of;
 
 // The body that a heading says: its length is tested once, and only then are its rows written, and the slots and strips
 // lent for them: a message without rows copies none.
-fn body_of(holding: Holding, heading: Heading, bytes: &[u8], end: usize, rows: &mut [i32]) -> Answer
-    requires { ⌜ (sound holding ≡ true) × FitsHeading heading × Begins end (saidBy (viewOf holding) heading) × (end ≤ 8 * length (now bytes)) × (end ≤ stretchLimit) × (rowRoom ≤ length (now rows)) ⌝ }
+fn body_of(
+    holding: Holding,
+    ids: &[u8],
+    masks: &[u64],
+    strips: &[u16],
+    heading: Heading,
+    bytes: &[u8],
+    end: usize,
+    rows: &mut [i32],
+) -> Answer
+    requires { ⌜ Ready holding (now bytes) end (now rows) × Lends holding (now ids) (now masks) (now strips) × FitsHeading heading × Begins end (saidBy (viewOf holding) heading) ⌝ }
     ensures { λ r. ⌜ r ≡ answerOf (headedAt (maskOf holding) (now (bytes .entry)) end (saidBy (viewOf holding) heading)) ⌝ }
     ensures { λ _. ⌜ now (rows .exit) ≡ rowsAfter (headedAt (maskOf holding) (now (bytes .entry)) end (saidBy (viewOf holding) heading)) (now (rows .entry)) ⌝ }
 {
     match heading {
         Heading::Refused(r, missing) => Answer::Refused(r, missing),
         Heading::Rows(head, body, at) => {
-            let size = body::size(holding, body);
+            let size = body::size(holding, ids, masks, strips, body);
             let left = end - at;
             if left < size.bits {
                 return Answer::Refused(Refusal::Short, size.bits - left);
@@ -46,16 +56,12 @@ fn body_of(holding: Holding, heading: Heading, bytes: &[u8], end: usize, rows: &
             if size.rows == 0 {
                 return Answer::Message(head, at + size.bits, 0);
             }
-            let ids = holding.ids;
-            let masks = holding.satellites;
-            let strips = holding.strips;
-            let count = holding.count;
             let placed = Placed {
                 body,
                 bits: size.bits,
                 at,
             };
-            body::fill(&ids[..count], &masks, &strips, placed, bytes, rows);
+            body::fill(ids, masks, strips, placed, bytes, rows);
             Answer::Message(head, at + size.bits, size.rows)
         }
     }
@@ -104,8 +110,17 @@ pub enum Found {
 
 // Reads any message but a mask. Number and sub type come first: where they are read, some bit is set. What was held is
 // held after it, so that it is handed to the body alone: each step more would be a copy.
-pub fn find(holding: Holding, bytes: &[u8], end: usize, start: usize, rows: &mut [i32]) -> Found
-    requires { ⌜ (sound holding ≡ true) × (end ≤ 8 * length (now bytes)) × (end ≤ stretchLimit) × (start ≤ end) × (rowRoom ≤ length (now rows)) ⌝ }
+pub fn find(
+    holding: Holding,
+    ids: &[u8],
+    masks: &[u64],
+    strips: &[u16],
+    bytes: &[u8],
+    end: usize,
+    start: usize,
+    rows: &mut [i32],
+) -> Found
+    requires { ⌜ Ready holding (now bytes) end (now rows) × Lends holding (now ids) (now masks) (now strips) × (start ≤ end) ⌝ }
     ensures { λ r. ⌜ r ≡ foundAt holding (now (bytes .entry)) end start ⌝ }
     ensures { λ _. ⌜ now (rows .exit) ≡ rowsAfter (readAt holding (now (bytes .entry)) end start) (now (rows .entry)) ⌝ }
 {
@@ -125,7 +140,9 @@ pub fn find(holding: Holding, bytes: &[u8], end: usize, start: usize, rows: &mut
                 subtype: n,
             };
             let heading = heading::of(kind, seen, front, bytes);
-            Found::Answered(body_of(holding, heading, bytes, end, rows))
+            Found::Answered(body_of(
+                holding, ids, masks, strips, heading, bytes, end, rows,
+            ))
         }
     }
 }

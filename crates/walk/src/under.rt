@@ -25,9 +25,14 @@ pub fn under(
     requires { ⌜ Stands (now bytes) end (standAt holding from (now rows)) ⌝ }
     ensures { λ r. ⌜ CameBy once (now (bytes .entry)) end (standAt holding from (now (rows .entry))) r (now (rows .exit)) ⌝ }
 {
+    let ids = holding.ids;
+    let masks = holding.satellites;
+    let strips = holding.strips;
+    let count = holding.count;
     let mut tally = from;
     loop {
-        let found = find(holding, bytes, end, tally.place, rows);
+        let place = tally.place;
+        let found = find(holding, &ids[..count], &masks, &strips, bytes, end, place, rows);
         let Found::Answered(answer) = found else {
             return Pause { found, tally };
         };

@@ -1,10 +1,15 @@
 -- `reader::read` meets its contract. Assumes nothing.
-use mathlib.Core.Path.{_≡_, _∙_, sym, ap}
+use mathlib.Core.Path.{_≡_, refl, _∙_, sym, ap}
+use mathlib.Core.Bool.{true}
 use native.Mathlib.Omega.{arith}
 use lib.ListN.{length}
 use borrow.Author.Needs.{needs}
 use denote.Enum.Declared.{tagOf}
+use Rattle.body.proofs.Bodies.{counted, prefix}
 use Rattle.format.specs.Reading.{Outcome, rowsAfter}
+use Rattle.holding.specs.declared.Holding.{Holding}
+use Rattle.holding.specs.Pictures.{sound}
+use Rattle.holding.proofs.Sounds.{sounds}
 use Rattle.reader.specs.declared.Verdict.the-variants.{Good}
 use Rattle.reader.specs.Readings.{structOf, readingOf, outcomeAt, testsOf, testedBy, soughtBy, soughtAt}
 use Rattle.reader.proofs.Lents.{lent-back}
@@ -34,22 +39,35 @@ module _ (c : tie.After-enum-told) where
   good : testedBy (testsOf (s .args .holding) (s .args .bytes .now) (s .args .end) (s .args .start) (length (s .args .rows .now))) ≡ Good
   good = sym (t .tested .ensures) ∙ c .enum-told .given .1
 
+-- the holding's slots, masks and strips are lent
+abbrev h : tie.After-strips → Holding
+h c = s (c .before .before .before) .args .holding
+
+firm : (c : tie.After-strips) → sound (h c) ≡ true
+firm c =
+    let e = c .before .before .before in
+    let x = s e .args in
+    good-lent (x .holding) (x .bytes .now) (x .end) (x .start) (x .rows .now) (good e) .held
+
 find-requires : tie.Need-find-requires
 find-requires c κs =
-    let e = c .before in
+    let e = c .before .before .before .before .before .before .before in
     let x = s e .args in
-    let fine = good-lent (x .holding) (x .bytes .now) (x .end) (x .start) (x .rows .now) (good e) in
-    (fine .held, fine .inside .lent, fine .inside .limit, fine .inside .there, fine .rows)
+    let fine = good-lent (x .holding) (x .bytes .now) (x .end) (x .start) (x .rows .now) (good e) in (
+      record { held = fine .held; lent = fine .inside .lent; limit = fine .inside .limit; room = fine .rows },
+      record { named = refl; masked = refl; striped = refl },
+      fine .inside .there,
+    )
 
 module _ (f : tie.After-find) where
   abbrev g : tie.After-enum-told
-  g = f .before .before
+  g = f .before .before .before .before .before .before .before .before
 
   said : f .find .result ≡ soughtAt (s g .args .holding) (s g .args .bytes .now) (s g .args .end) (s g .args .start) (length (s g .args .rows .now))
   unfolding soughtBy
   said = f .find .ensures .0 ∙ rw (good g)
 
-  numbers : f .find .last .1 .1 .1 .1 .0 ≡ rowsAfter (outcomeAt (s g .args .holding) (s g .args .bytes .now) (s g .args .end) (s g .args .start) (s g .args .rows .now)) (s g .args .rows .now)
+  numbers : f .find .last .1 .1 .1 .1 .1 .1 .1 .0 ≡ rowsAfter (outcomeAt (s g .args .holding) (s g .args .bytes .now) (s g .args .end) (s g .args .start) (s g .args .rows .now)) (s g .args .rows .now)
   numbers =
       f .find .ensures .1
       ∙ sym (ap (λ (o : Outcome). rowsAfter o (s g .args .rows .now)) (good-reads (s g .args .holding) (s g .args .bytes .now) (s g .args .end) (s g .args .start) (s g .args .rows .now) (good g)))
@@ -90,5 +108,7 @@ returns-3 c =
 pub read-spec : {M : Type 1} → statement M
 read-spec =
     tie.close
-    (tie.spec (λ c κs. search needs) (λ c. search needs) returns (λ c. search needs) find-requires (λ c. search needs) add-adopted
+    (tie.spec (λ c κs. search needs) (λ c. search needs) returns (λ c. search needs)
+    (λ c. counted (h c) (firm c)) (λ c. let l = c .before in prefix (h l) (firm l)) (λ c. let l = c .before .before in sym (sounds (h l) (firm l) .shaped .satellites))
+    (λ c. let l = c .before .before .before in sym (sounds (h l) (firm l) .shaped .strips)) find-requires (λ c. search needs) add-adopted
     adopted-requires (λ c. search needs) (λ c. search needs) returns-2 (λ c. search needs) returns-3)

@@ -1,12 +1,11 @@
 -- `reader::message::body_of` meets its contract. Assumes nothing.
 use mathlib.Core.Path.{_≡_, _∙_, sym, ap, subst, refl}
-use mathlib.Core.Bool.{true}
 use mathlib.Core.List.{List, flatten}
 use Prim.Native.Nat.{ℕ, _+_, _-_, _≤_}
 use native.Mathlib.Omega.{arith}
 use borrow.Author.Needs.{needs}
 use lib.ListN.{length}
-use Rattle.body.proofs.Bodies.{counted, prefix, lends}
+use Rattle.body.proofs.Bodies.{lent-view, lent-well}
 use Rattle.format.specs.declared.Answer.the-variants as Answers
 use Rattle.format.specs.Masks.{Held}
 use Rattle.format.specs.Reading.{Outcome, accepted, answerOf, over, rowsAfter}
@@ -14,21 +13,20 @@ use Rattle.format.specs.Rows.{Line, bodyWidth}
 use Rattle.heads.specs.declared.heading.Heading.{Heading}
 use Rattle.heads.specs.Headings.{saidBy, FitsHeading}
 use Rattle.heads.specs.Sorting.{headedAt}
-use Rattle.holding.proofs.Sounds.{sounds}
-use Rattle.holding.specs.declared.Holding.{Holding}
-use Rattle.holding.specs.Held.{viewOf}
-use Rattle.holding.specs.Pictures.{maskOf, sound}
+use Rattle.holding.specs.Held.{View, viewOf}
+use Rattle.holding.specs.Pictures.{maskOf}
 use Rattle.reader.specs.Readings.{Begins}
 use Rattle.reader.proofs.Bodied.{bodyOf, headed-there, body-said, headed-short, none-at}
 use Rattle.reader.proofs.message.body_of.Statement.{statement}
 use Rattle.reader.proofs.message.body_of.Tie as tie
+use Rattle.rows.specs.At.{rowsAt}
 use Rattle.table.specs.declared.Body.{Body}
 use Rattle.table.specs.Bodies.{linesIn, Fits}
 
 -- rows begin at a place
 module _ (c : tie.After-heading2) where
   abbrev s : tie.Start
-  s = c .before .before .before
+  s = c .before .before .before .before .before .before
 
   abbrev body : Body
   body = c .heading2 .given .0 .1 .0
@@ -44,18 +42,20 @@ module _ (c : tie.After-heading2) where
 
   fits : Fits body
   unfolding FitsHeading
-  fits = rw (c .heading2 .given .1) at (s .pre .1)
+  fits = rw (c .heading2 .given .1) at (s .pre .2)
 
   begins : at ≤ s .args .end
   unfolding saidBy Begins
-  begins = subst (λ (d : Heading). Begins (s .args .end) (saidBy (viewOf (s .args .holding)) d)) (c .heading2 .given .1) (s .pre .2)
+  begins = subst (λ (d : Heading). Begins (s .args .end) (saidBy (viewOf (s .args .holding)) d)) (c .heading2 .given .1) (s .pre .3)
 
   -- what it comes to
   abbrev whole : Outcome
   whole = headedAt held (s .args .bytes .now) (s .args .end) (saidBy (viewOf (s .args .holding)) (s .args .heading))
 
 size-requires : tie.Need-size-requires
-size-requires c κs = (s (c .before) .pre .0, fits (c .before))
+size-requires c κs =
+    let p = s (c .before) .pre in
+    (p .0 .held, p .1, fits (c .before))
 
 sub-left : tie.Need-sub-left
 sub-left c = begins (c .before .before)
@@ -84,10 +84,20 @@ module _ (c : tie.Else1) where
   unfolding saidBy
   there =
       ap (λ (d : Heading). headedAt (held t) (s t .args .bytes .now) (s t .args .end) (saidBy (viewOf (s t .args .holding)) d)) (t .heading2 .given .1)
-      ∙ headed-there (held t) (s t .args .bytes .now) (s t .args .end) (t .heading2 .given .0 .0) (lines t) (at t) (omega (arith, z .size .ensures .bits, begins t, c .if1 .left)) (s t .pre .3)
+      ∙ headed-there (held t) (s t .args .bytes .now) (s t .args .end) (t .heading2 .given .0 .0) (lines t) (at t) (omega (arith, z .size .ensures .bits, begins t, c .if1 .left)) (s t .pre .0 .lent)
 
   said : (rows : ℕ) → rows ≡ length (lines t) → Answers.Message (t .heading2 .given .0 .0) (at t + z .size .result .bits) rows ≡ answerOf (whole t)
   said rows e = body-said (held t) (s t .args .bytes .now) (s t .args .end) _ (lines t) (at t) _ rows (z .size .ensures .bits) e ∙ ap answerOf (sym there)
+
+add-none : tie.Need-add-t21
+add-none c =
+    let e = c .before .before .before in
+    omega (arith, begins (t e), s (t e) .pre .0 .limit, e .if1 .left)
+
+add-rows : tie.Need-add-t25
+add-rows c =
+    let e = c .before .before .before .before .before .before in
+    omega (arith, begins (t e), s (t e) .pre .0 .limit, e .if1 .left)
 
 returns-2 : tie.Need-returns-2
 unfolding rowsAfter over flatten
@@ -96,22 +106,13 @@ returns-2 c =
     let none = sym (c .before .if2 .taken) ∙ z e .size .ensures .rows in
     (said e 0 none, rw (there e, none-at (lines (t e)) (s (t e) .args .bytes .now) (at (t e)) (sym none)) refl)
 
--- slots and strips are lent
-abbrev lending : tie.After-strips → tie.Else1
-lending c = c .before .before .before .before .before
-
-abbrev h : tie.After-strips → Holding
-h c = s (t (lending c)) .args .holding
-
-firm : (c : tie.After-strips) → sound (h c) ≡ true
-firm c = s (t (lending c)) .pre .0
-
+-- slots and strips that are lent are the holding's
 fill-requires : tie.Need-fill-requires
 fill-requires c κs =
-    let l = c .before .before .before .before in
-    let e = lending l in
+    let e = c .before .before .before in
     let p = s (t e) .pre in
-    (lends (h l) (firm l), fits (t e), z e .size .ensures .bits, omega (arith, begins (t e), p .4, e .if1 .left), p .5)
+    let bits = z e .size .ensures .bits ∙ ap (λ (v : View). bodyWidth (linesIn v (body (t e)))) (sym (lent-view (p .1))) in
+    (lent-well (p .1) (p .0 .held), fits (t e), bits, omega (arith, begins (t e), p .0 .limit, e .if1 .left), p .0 .room)
 
 returns-3 : tie.Need-returns-3
 unfolding saidBy answerOf rowsAfter headedAt
@@ -120,12 +121,13 @@ returns-3 c = rw (c .before .heading .given .1) (refl, refl)
 returns-4 : tie.Need-returns-4
 unfolding rowsAfter
 returns-4 c =
-    let e = lending (c .before .before .before .before .before .before .before) in
-    (said e _ (z e .size .ensures .rows), rw (there e) (c .before .before .fill .ensures))
+    let e = c .before .before .before .before .before .before in
+    let x = s (t e) .args in
+    let same = ap (λ (v : View). over (flatten (rowsAt (linesIn v (body (t e))) (x .bytes .now) (at (t e)))) (x .rows .now)) (lent-view (s (t e) .pre .1)) in
+    (said e _ (z e .size .ensures .rows), rw (there e) (c .before .before .fill .ensures ∙ same))
 
 pub body-of-spec : {M : Type 1} → statement M
 body-of-spec =
     tie.close
-    (tie.spec (λ c. search needs) (λ c. search needs) size-requires sub-left (λ c. search needs) returns (λ c. search needs) returns-2
-    (λ c. counted (h c) (firm c)) (λ c. let l = c .before in prefix (h l) (firm l)) (λ c. let l = c .before .before in sym (sounds (h l) (firm l) .shaped .satellites))
-    (λ c. let l = c .before .before .before in sym (sounds (h l) (firm l) .shaped .strips)) fill-requires (λ c. search needs) returns-3 (λ c. search needs) returns-4)
+    (tie.spec (λ c. search needs) (λ c. search needs) size-requires sub-left (λ c. search needs) returns add-none returns-2 fill-requires
+    add-rows returns-3 (λ c. search needs) returns-4)

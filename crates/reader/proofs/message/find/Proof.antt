@@ -49,12 +49,12 @@ not-mask k keys e = go (rw e at keys)
     go (inr (inr z)) = omega arith
 
 within : (s : tie.Start) → Within (s .args .bytes .now) (s .args .end) (s .args .start)
-within s = record { inside = s .pre .1; short = omega (arith, s .pre .2); room = s .pre .3 }
+within s = record { inside = s .pre .0 .lent; short = omega (arith, s .pre .0 .limit); room = s .pre .2 }
 
 -- the front is the message's
 module _ (c : tie.After-front-at) where
   abbrev s : tie.Start
-  s = c .before .before
+  s = c .before .before .before .before .before
 
   abbrev bs : List ℕ
   bs = s .args .bytes .now
@@ -98,7 +98,7 @@ returns c =
     let s = s (t k) in
     let x = s .args in
     let masked : kindFor (n k) ≡ Kinds.Mask = sym (of-table k) ∙ c .enum-told .given .1 in
-    let same = read-sorted (x .holding) (s .pre .0) (within s) (ran k .1) ∙ sorted-adopted (maskOf (x .holding)) (x .bytes .now) (x .end) (x .start + 16) (n k) masked in
+    let same = read-sorted (x .holding) (s .pre .0 .held) (within s) (ran k .1) ∙ sorted-adopted (maskOf (x .holding)) (x .bytes .now) (x .end) (x .start + 16) (n k) masked in
     (rw (ran k .1, masked), adopted-rows (maskOf (x .holding)) (x .start + 16) _ (x .rows .now) ∙ ap (λ (w : Outcome). rowsAfter w (x .rows .now)) (sym same))
 
 -- any other message has a heading
@@ -106,7 +106,7 @@ of-requires : tie.Need-of-requires
 of-requires c κs =
     let k = c .before in
     let after = subst (λ (f : Front). Within (bs (t k)) (f .end) (f .start + 16)) (sym (is (t k))) (told k .after) in
-    (told k .small, sounds (s (t k) .args .holding) (s (t k) .pre .0) .few-satellites, rw (of-table k) (tabled (n k)), after, opens (t k))
+    (told k .small, sounds (s (t k) .args .holding) (s (t k) .pre .0 .held) .few-satellites, rw (of-table k) (tabled (n k)), after, opens (t k))
 
 module _ (c : tie.After-of) where
   abbrev k : tie.After-kind-of
@@ -125,18 +125,18 @@ module _ (c : tie.After-of) where
   headed f q = endFrom (headingFor q (record { held = h .held; iod = h .iod; n = h .nsat; subtype = n k }) (skyIn (viewOf h))) (bs (t k)) (f .end) (f .start + 16)
 
   said : saidBy (viewOf h) (c .of .result) ≡ headed (frontAt (bs (t k)) (start .args .end) (start .args .start)) (kindFor (n k))
-  said = c .of .ensures .0 (viewOf h) (shows h (start .pre .0)) ∙ (λ i. headed (is (t k) i) (of-table k i))
+  said = c .of .ensures .0 (viewOf h) (shows h (start .pre .0 .held)) ∙ (λ i. headed (is (t k) i) (of-table k i))
 
   reads : headedAt (maskOf h) (bs (t k)) (start .args .end) (saidBy (viewOf h) (c .of .result)) ≡ readAt h (bs (t k)) (start .args .end) (start .args .start)
   reads =
       ap (headedAt (maskOf h) (bs (t k)) (start .args .end)) said
-      ∙ sym (read-sorted h (start .pre .0) (within start) (ran k .1) ∙ sorted-headed h (start .pre .0) (told k .after) (n k) other)
+      ∙ sym (read-sorted h (start .pre .0 .held) (within start) (ran k .1) ∙ sorted-headed h (start .pre .0 .held) (told k .after) (n k) other)
 
 body-of-requires : tie.Need-body-of-requires
 body-of-requires c κs =
     let q = c .before in
     let p = start q .pre in
-    (p .0, q .of .ensures .1, rw (said q) (begins (told (k q) .after) _), p .1, p .2, p .4)
+    (p .0, p .1, q .of .ensures .1, rw (said q) (begins (told (k q) .after) _))
 
 -- refused before that: a stop
 returns-2 : tie.Need-returns-2
@@ -146,7 +146,7 @@ returns-2 c =
     let t = r .before .before .before in
     let x = s t .args in
     let e = opened-badly _ _ _ (sym (opened (r .before .before)) ∙ r .opening .given .1) in
-    let stop = read-stopped (x .holding) (s t .pre .0) (within (s t)) e in
+    let stop = read-stopped (x .holding) (s t .pre .0 .held) (within (s t)) e in
     let said = c .unopened .ensures ∙ ap (λ (f : Front). unopenedAt (bs t) (f .end) (f .start) (r .opening .given .0 .0) (r .opening .given .0 .1 .0)) (is t) in
     (ap Answered (said ∙ stop .0) ∙ rw e, stop .2 (x .rows .now))
 
