@@ -72,7 +72,16 @@ pub fn read(holding: Holding, bytes: &[u8], end: usize, start: usize, rows: &mut
     let masks = holding.satellites;
     let strips = holding.strips;
     let count = holding.count;
-    let found = find(holding, &ids[..count], &masks, &strips, bytes, end, start, rows);
+    let found = find(
+        holding,
+        &ids[..count],
+        &masks,
+        &strips,
+        bytes,
+        end,
+        start,
+        rows,
+    );
     match found {
         Found::Mask => adopted(holding, bytes, end, start + OPENING),
         Found::Answered(answer) => Reading { answer, holding },

@@ -140,9 +140,7 @@ pub fn find(
                 subtype: n,
             };
             let heading = heading::of(kind, seen, front, bytes);
-            Found::Answered(body_of(
-                holding, ids, masks, strips, heading, bytes, end, rows,
-            ))
+            Found::Answered(body_of(holding, ids, masks, strips, heading, bytes, end, rows))
         }
     }
 }

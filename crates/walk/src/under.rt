@@ -32,7 +32,16 @@ pub fn under(
     let mut tally = from;
     loop {
         let place = tally.place;
-        let found = find(holding, &ids[..count], &masks, &strips, bytes, end, place, rows);
+        let found = find(
+            holding,
+            &ids[..count],
+            &masks,
+            &strips,
+            bytes,
+            end,
+            place,
+            rows,
+        );
         let Found::Answered(answer) = found else {
             return Pause { found, tally };
         };
