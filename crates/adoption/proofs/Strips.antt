@@ -1,18 +1,18 @@
 -- The strips of a system: where each comes from, how many ones it has, and the array that they are stored in. Assumes nothing.
-use mathlib.Core.Path.{_≡_, refl, sym, ap, _∙_}
+use mathlib.Core.Path.{_≡_, refl, sym, ap, ap₂, _∙_}
 use mathlib.Core.Bool.{Bool, true, false}
 use mathlib.Core.List.{List, [], _∷_}
 use Prim.Native.Nat.{ℕ, zero, suc, _+_, _-_, _*_, _/_, _%_, _^_, _≤_, _<_}
-use native.Mathlib.Nat.{le-of-suc-le-suc, suc-mul, add-comm, mod-eq-of-lt}
+use native.Mathlib.Nat.{le-of-suc-le-suc, suc-mul, mul-le-mul, add-comm, mod-eq-of-lt}
 use native.Mathlib.Omega.{arith}
-use lib.Count.{ones}
+use lib.Count.{ones, ones-le}
 use lib.ListN.{length, take, drop, set, replicate, length-drop, length-set}
 use lib.Seq.{drop-drop, sets}
 use Rattle.adoption.specs.declared.cells.Masks.{Masks}
 use Rattle.adoption.specs.declared.grow.Window.{Window}
 use Rattle.adoption.specs.Growing.{Sees}
 use Rattle.adoption.specs.Spreading.{stripOf}
-use Rattle.adoption.specs.Stages.{systemAt}
+use Rattle.adoption.specs.Stages.{cellBits, systemAt}
 use Rattle.bits.proofs.BitLists.{number-spell, length-spell, length-bits}
 use Rattle.bits.proofs.Bridge.{spell-field}
 use Rattle.bits.proofs.Windows.{in-window}
@@ -57,27 +57,35 @@ seen-field bs window at w n sees fits e =
 
 -- ---- the strips of a system by its numbers
 
+-- the cell mask has few
+pub few-bits : (m : Masks) → m .satellites < 2 ^ 40 → m .signals < 2 ^ 16 → ones (m .satellites) * ones (m .signals) ≤ 40 * 16
+few-bits m whole long = mul-le-mul (ones-le 40 (m .satellites) whole) (ones-le 16 (m .signals) long)
+
 -- n strips of the bits from a place on
 abbrev pub stripsAt : List ℕ → ℕ → ℕ → ℕ → List ℕ
 stripsAt bs place n signals = stripsFrom n (spell 16 signals) (drop place (bits bs))
+
+pub flag-bits : (m : Masks) {flag : Bool} → flag ≡ true → cellBits m flag ≡ ones (m .satellites) * ones (m .signals)
+flag-bits m on = rw on
 
 module _ (bs : List ℕ) (m : Masks) (place : ℕ) (whole : m .satellites < 2 ^ 40) (long : m .signals < 2 ^ 16) where
   satellites-are : length (placesFrom 0 (spell 40 (m .satellites))) ≡ ones (m .satellites)
   satellites-are = sym (ones-places 40 (m .satellites) 0 whole)
 
   -- flag 0: every strip is the signal mask
-  pub plain-strips : stripsOf (systemAt bs m false place) ≡ replicate (ones (m .satellites)) (m .signals)
+  pub plain-strips : {flag : Bool} → flag ≡ false → stripsOf (systemAt bs m flag place) ≡ replicate (ones (m .satellites)) (m .signals)
   unfolding stripsOf systemAt
-  plain-strips = rw (satellites-are, number-spell 16 (m .signals), mod-eq-of-lt long)
+  plain-strips off = rw (off, satellites-are, number-spell 16 (m .signals), mod-eq-of-lt long)
 
   -- flag 1: those of the next bits
-  pub flagged-strips : place + ones (m .satellites) * ones (m .signals) ≤ 8 * length bs → stripsOf (systemAt bs m true place) ≡ stripsAt bs place (ones (m .satellites)) (m .signals)
+  pub flagged-strips : {flag : Bool} → flag ≡ true → place + cellBits m flag ≤ 8 * length bs → stripsOf (systemAt bs m flag place) ≡ stripsAt bs place (ones (m .satellites)) (m .signals)
   unfolding stripsOf systemAt
-  flagged-strips there =
+  flagged-strips on there =
       let all = drop place (bits bs) in
+      let fits : place + ones (m .satellites) * ones (m .signals) ≤ 8 * length bs = omega (arith, flag-bits m on) in
       let enough : ones (m .satellites) * ones (m .signals) ≤ length all = rw (length-drop, length-bits) (omega arith) in
       let signals-are = ones-places 16 (m .signals) 0 long in
-      rw (satellites-are, spell-field bs place (ones (m .satellites) * ones (m .signals)) there, signals-are) (strips-front (ones (m .satellites)) (spell 16 (m .signals)) all (rw (← signals-are) enough))
+      rw (on, satellites-are, spell-field bs place (ones (m .satellites) * ones (m .signals)) fits, signals-are) (strips-front (ones (m .satellites)) (spell 16 (m .signals)) all (rw (← signals-are) enough))
 
 -- without a signal each is 0, as the signal mask is
 pub no-signals : (bs : List ℕ) (place n signals : ℕ) → signals ≡ 0 → replicate n signals ≡ stripsAt bs place n signals
@@ -90,10 +98,18 @@ no-signals bs place n signals none = rw none (zeros n (drop place (bits bs)))
 
 -- ---- how many ones they have
 
-pub ones-equal : (n strip : ℕ) → onesIn (replicate n strip) ≡ n * ones strip
+ones-equal : (n strip : ℕ) → onesIn (replicate n strip) ≡ n * ones strip
 unfolding total
 ones-equal zero strip = omega arith
 ones-equal (suc n) strip = omega (arith, ones-equal n strip, suc-mul n (ones strip))
+
+-- where every signal counts for every satellite
+module _ {all : List ℕ} (m : Masks) (is : all ≡ replicate (ones (m .satellites)) (m .signals)) {n w : ℕ} (sats : n ≡ ones (m .satellites)) (signals : w ≡ ones (m .signals)) where
+  pub all-ones : n * w ≡ onesIn all
+  all-ones = ap₂ _*_ sats signals ∙ sym (ones-equal (ones (m .satellites)) (m .signals)) ∙ ap onesIn (sym is)
+
+  pub all-equal : replicate n (m .signals) ≡ all
+  all-equal = ap (λ (k : ℕ). replicate k (m .signals)) sats ∙ sym is
 
 -- a strip has as many as its bits
 pub strip-ones : (signals b : ℕ) → signals < 2 ^ 16 → b < 2 ^ ones signals → ones (stripOf signals b) ≡ ones b
