@@ -1,4 +1,5 @@
 -- What the code's answers to the parts of a system say of how crate format's programs of them end, and a mask message from its systems on.
+use mathlib.Core.Path.{_≡_}
 use mathlib.Core.Bool.{Bool, cond}
 use mathlib.Core.List.{List, []}
 use Prim.Native.Nat.{ℕ, _+_, _*_, _^_, _≤_, _<_}
@@ -71,6 +72,11 @@ systemAt bs m flag place =
 unfoldable pub endSystem : List ℕ → System → Ended format.System
 endSystem bs (System.Fine m flag place) = well (systemAt bs m flag place) (place + cellBits m flag)
 endSystem bs (System.Refused r missing) = badly r missing
+
+-- its masks are these
+unfoldable pub HasMasks : Masks → System → Type 0
+HasMasks k (System.Fine m flag place) = m ≡ k
+HasMasks k (System.Refused r missing) = Unit {0}
 
 -- after so many satellites there is room for its own
 unfoldable pub FitsSystem : ℕ → System → Type 0

@@ -2,7 +2,7 @@
 // layouts").
 ghost use mathlib.Core.Path.{_≡_};
 ghost use Prim.Native.Nat.{_^_, _<_};
-ghost use Rattle.adoption.specs.Stages.{masksBy, cellBits, withCells, endSystem};
+ghost use Rattle.adoption.specs.Stages.{masksBy, cellBits, withCells, endSystem, HasMasks};
 ghost use Rattle.format.specs.Ends.{Within, endFrom};
 use bits::read::Taken;
 use bits::read::take_field;
@@ -41,6 +41,7 @@ pub fn width(m: Masks, flag: bool) -> usize
 pub fn read_flag(m: Masks, bytes: &[u8], end: usize, place: usize) -> System
     requires { ⌜ (m .satellites < 2 ^ 40) × Within (now bytes) end place ⌝ }
     ensures { λ r. ⌜ endSystem (now (bytes .entry)) r ≡ endFrom (withCells (m .id) (masksBy (m .satellites) (m .signals))) (now (bytes .entry)) end place ⌝ }
+    ensures { λ r. ⌜ HasMasks m r ⌝ }
 {
     let taken = take_field(bytes, end, place, FLAG);
     match taken {
