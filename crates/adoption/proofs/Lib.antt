@@ -1,3 +1,4 @@
 pub mod Bitwise
 pub mod Strips
 pub mod StageEnds
+pub mod ManySystems

@@ -60,7 +60,7 @@ fn masked(
     place: usize,
 ) -> usize
     requires { ⌜ (from + n ≤ length (now strips)) × (n ≤ 64) × (place + n * ones signals ≤ 8 * length (now bytes)) × (place < 2 ^ 32) ⌝ }
-    ensures { λ r. ⌜ r ≡ onesIn (stripsFrom n (spell 16 signals) (drop place (bits (now (bytes .entry))))) ⌝ }
+    ensures { λ r. ⌜ (r ≡ onesIn (stripsFrom n (spell 16 signals) (drop place (bits (now (bytes .entry)))))) × (r ≤ 1024) ⌝ }
     ensures { λ _. ⌜ now (strips .exit) ≡ sets (now (strips .entry)) from (stripsFrom n (spell 16 signals) (drop place (bits (now (bytes .entry))))) ⌝ }
 {
     let w = set_places::count(signals as u64);
@@ -95,7 +95,7 @@ pub fn strips(
     place: usize,
 ) -> usize
     requires { ⌜ (from + ones (m .satellites) ≤ 64) × (m .satellites < 2 ^ 40) × (place + cellBits m flag ≤ 8 * length (now bytes)) × (place < 2 ^ 32) ⌝ }
-    ensures { λ r. ⌜ r ≡ onesIn (stripsOf (systemAt (now (bytes .entry)) m flag place)) ⌝ }
+    ensures { λ r. ⌜ (r ≡ onesIn (stripsOf (systemAt (now (bytes .entry)) m flag place))) × (r ≤ 1024) ⌝ }
     ensures { λ _. ⌜ now (strips .exit) ≡ sets (now (strips .entry)) from (stripsOf (systemAt (now (bytes .entry)) m flag place)) ⌝ }
 {
     let n = set_places::count(m.satellites);

@@ -106,7 +106,7 @@ unfolding stripsFrom total
 returns c =
     let l = c .before .loop in
     let none : c .before .before .before .before .before .before .before .before .args .n - l .i ≡ 0 = omega arith in
-    (omega (arith, rw none at (l .inv .5)), sym ((rw none at (l .inv .6)) .same))
+    ((omega (arith, rw none at (l .inv .5)), omega arith), sym ((rw none at (l .inv .6)) .same))
 
 pub masked-spec : {M : Type 1} → statement M
 masked-spec =

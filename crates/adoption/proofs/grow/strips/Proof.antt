@@ -2,7 +2,7 @@
 use mathlib.Core.Path.{_≡_, sym, ap, ap₂, _∙_}
 use mathlib.Core.Bool.{true, false}
 use mathlib.Core.List.{List}
-use Prim.Native.Nat.{ℕ, _*_, _^_, _<_}
+use Prim.Native.Nat.{ℕ, _*_, _^_, _≤_, _<_}
 use native.Mathlib.Omega.{arith}
 use borrow.Author.Needs.{needs}
 use borrow.Author.Tests.{not-true, not-false}
@@ -28,8 +28,8 @@ module _ (c : tie.After-count2) where
   low : m .signals < 2 ^ 16
   low = omega (arith, c .before .struct-known .given)
 
-  wide : c .before .before .count .result * c .count2 .result ≡ ones (m .satellites) * ones (m .signals)
-  wide = ap₂ _*_ (c .before .before .count .ensures) (c .count2 .ensures)
+  few : c .before .before .count .result * c .count2 .result ≤ 1024
+  few = omega (arith, ap₂ _*_ (c .before .before .count .ensures) (c .count2 .ensures), few-bits m (s .pre .1) low)
 
   abbrev all : List ℕ
   all = stripsOf (systemAt (s .args .bytes .now) m (s .args .flag) (s .args .place))
@@ -39,7 +39,7 @@ returns c =
     let p = c .before .before .before in
     let x = s p .args in
     let plain = plain-strips (x .bytes .now) (m p) (x .place) (s p .pre .1) (low p) (not-true (x .flag) (c .before .before .if1 .taken)) in
-    (all-ones (m p) plain (p .before .before .count .ensures) (p .count2 .ensures), c .equal .ensures ∙ ap (sets (x .strips .now) (x .from)) (all-equal (m p) plain (p .before .before .count .ensures) (p .count2 .ensures)))
+    ((all-ones (m p) plain (p .before .before .count .ensures) (p .count2 .ensures), few p), c .equal .ensures ∙ ap (sets (x .strips .now) (x .from)) (all-equal (m p) plain (p .before .before .count .ensures) (p .count2 .ensures)))
 
 -- with the flag
 module _ (c : tie.After-struct-known2) where
@@ -58,7 +58,7 @@ returns-2 c =
     let x = s (p q) .args in
     let plain = flagged q ∙ sym (no-signals (x .bytes .now) (x .place) (ones (x .m .satellites)) (x .m .signals) (c .before .before .if2 .taken)) in
     let k = p q in
-    (all-ones (m k) plain (k .before .before .count .ensures) (k .count2 .ensures), c .equal2 .ensures ∙ ap (sets (x .strips .now) (x .from)) (all-equal (m k) plain (k .before .before .count .ensures) (k .count2 .ensures)))
+    ((all-ones (m k) plain (k .before .before .count .ensures) (k .count2 .ensures), few k), c .equal2 .ensures ∙ ap (sets (x .strips .now) (x .from)) (all-equal (m k) plain (k .before .before .count .ensures) (k .count2 .ensures)))
 
 masked-requires : tie.Need-masked-requires
 masked-requires c κs =
@@ -73,11 +73,11 @@ returns-3 c =
     let q = c .before .before .before in
     let x = s (p q) .args in
     let same = ap (λ (n : ℕ). stripsAt (x .bytes .now) (x .place) n (x .m .signals)) (p q .before .before .count .ensures) ∙ sym (flagged q) in
-    (c .masked .ensures .0 ∙ ap onesIn same, c .masked .ensures .1 ∙ ap (sets (x .strips .now) (x .from)) same)
+    ((c .masked .ensures .0 .0 ∙ ap onesIn same, c .masked .ensures .0 .1), c .masked .ensures .1 ∙ ap (sets (x .strips .now) (x .from)) same)
 
 pub strips-spec : {M : Type 1} → statement M
 strips-spec =
     tie.close
     (tie.spec (λ c κs. search needs) (λ c. search needs) (λ c κs. search needs) (λ c κs. search needs)
-    (λ c. let p = c .before .before .before in omega (arith, wide p, few-bits (m p) (s p .pre .1) (low p))) returns (λ c κs. search needs)
-    (λ c. let k = p (c .before .before .before) in omega (arith, wide k, few-bits (m k) (s k .pre .1) (low k))) returns-2 masked-requires returns-3)
+    (λ c. omega (arith, few (c .before .before .before))) returns (λ c κs. search needs)
+    (λ c. omega (arith, few (p (c .before .before .before)))) returns-2 masked-requires returns-3)
