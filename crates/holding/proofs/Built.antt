@@ -2,12 +2,11 @@
 -- Assumes nothing.
 use mathlib.Core.Path.{_≡_, refl, sym, ap, _∙_}
 use mathlib.Core.Bool.{true, false}
-use mathlib.Core.List.{List, [], _∷_, _++_, append-assoc, append-nil, map, map-append, flatMap}
+use mathlib.Core.List.{List, [], _∷_, _++_, append-nil, map, map-append, flatMap}
 use Prim.Native.Nat.{ℕ, suc, _+_, _-_, _^_, _≤_, _<_}
-use native.Mathlib.Nat.{add-zero, suc-inj}
+use native.Mathlib.Nat.{suc-inj}
 use native.Mathlib.Omega.{arith}
 use borrow.Author.Tests.{ltb-true}
-use lib.Count.{ones}
 use lib.Dec.{ltb}
 use lib.ListN.{length, set, replicate, length-append, length-map}
 use lib.Seq.{append-snoc, set-at, sets}
@@ -21,11 +20,10 @@ use Rattle.holding.specs.Held.{stripCells}
 use Rattle.holding.specs.Pictures.{filled, stripsOf, pictureOf}
 use Rattle.holding.proofs.Narrows.{narrow-strips}
 use Rattle.holding.proofs.Places.{ones-places}
-use Rattle.holding.proofs.PicturedStrips.{length-strips, length-satellites, picture-strips, satellites-snoc, cells-snoc}
-pub use Rattle.holding.proofs.PicturedStrips.{flatMap-snoc}
+use Rattle.holding.proofs.PicturedStrips.{length-strips, length-satellites, picture-strips, flatMap-snoc, satellites-snoc, cells-snoc}
 use Rattle.holding.proofs.PicturedCells.{strip-cells}
--- a good mask has at most five systems, and room for one that it does not name
-pub use Rattle.format.proofs.MakesBack.{few-systems, room-for}
+-- a good mask has at most five systems
+pub use Rattle.format.proofs.MakesBack.{few-systems}
 
 -- an element stored behind those of a filled list
 set-filled : {A : Type 0} (n : ℕ) (d x : A) (l : List A) (k : ℕ) → length l ≡ k → k < n → set (filled n d l) k x ≡ filled n d (l ++ (x ∷ []))

@@ -10,7 +10,7 @@ use Rattle.adoption.proofs.ManySystems.{answer, firstMask}
 use Rattle.format.specs.Messages.{maskType}
 use Rattle.format.proofs.Ends.{after-field, fits, number-whole, number-short}
 use Rattle.adoption.specs.Adoptions.{adoptionBy}
-use Rattle.adoption.specs.Stages.{withSystems, afterCommonHead}
+use Rattle.adoption.specs.Stages.{afterCommonHead}
 use Rattle.bits.specs.declared.read.Taken.the-variants.{Whole}
 use Rattle.bits.specs.Short.{takenAt}
 use Rattle.format.specs.declared.Head.{Head}

@@ -5,7 +5,6 @@ use native.Mathlib.Omega.{arith}
 use borrow.Author.Needs.{needs}
 use borrow.Author.Tests.{not-true, not-false}
 use lib.Count.{ones}
-use Rattle.adoption.specs.declared.cells.Masks.{Masks}
 use Rattle.adoption.proofs.Strips.{few-bits}
 use Rattle.adoption.proofs.cells.width.Statement.{statement}
 use Rattle.adoption.proofs.cells.width.Tie as tie

@@ -1,7 +1,7 @@
 -- `adoption::grow::masked` meets its contract. The loop's invariant: the strips stored and their ones, those that are left, and that their bits are there.
 -- Assumes nothing.
 use mathlib.Core.Path.{_≡_, refl, sym, ap, _∙_}
-use mathlib.Core.List.{List, _∷_}
+use mathlib.Core.List.{_∷_}
 use Prim.Native.Nat.{ℕ, suc, _+_, _-_, _*_, _%_, _^_, _≤_, _<_}
 use native.Mathlib.Nat.{add-zero, sub-zero, suc-mul}
 use native.Mathlib.Omega.{arith}

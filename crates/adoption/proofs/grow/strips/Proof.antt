@@ -1,13 +1,12 @@
 -- `adoption::grow::strips` meets its contract. Assumes nothing.
 use mathlib.Core.Path.{_≡_, sym, ap, ap₂, _∙_}
-use mathlib.Core.Bool.{true, false}
+use mathlib.Core.Bool.{true}
 use mathlib.Core.List.{List}
 use Prim.Native.Nat.{ℕ, _*_, _^_, _≤_, _<_}
 use native.Mathlib.Omega.{arith}
 use borrow.Author.Needs.{needs}
 use borrow.Author.Tests.{not-true, not-false}
 use lib.Count.{ones, ones-le}
-use lib.ListN.{replicate}
 use lib.Seq.{sets}
 use Rattle.adoption.specs.declared.cells.Masks.{Masks}
 use Rattle.adoption.specs.Stages.{systemAt}

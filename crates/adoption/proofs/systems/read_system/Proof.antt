@@ -1,6 +1,5 @@
 -- `adoption::systems::read_system` meets its contract: the parts one after the other. Assumes nothing.
 use mathlib.Core.Path.{_≡_, sym, ap, _∙_}
-use mathlib.Core.List.{List}
 use Prim.Native.Nat.{ℕ, _+_, _^_, _≤_, _<_}
 use native.Mathlib.Omega.{arith}
 use borrow.Author.Needs.{needs}
@@ -14,7 +13,6 @@ use Rattle.format.proofs.Makes.{id-gives, masks-give}
 use Rattle.format.proofs.Sames.{and-true}
 use Rattle.format.specs.Assigned.{known}
 use Rattle.format.specs.Ends.{Within, endFrom}
-use Rattle.format.specs.Masks.{System}
 use Rattle.format.specs.Messages.{systemId, systemMasks}
 use Rattle.format.specs.Programs.{Program, _>>=_, Ended, well}
 use Rattle.holding.proofs.Places.{ones-places}
