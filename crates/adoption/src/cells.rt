@@ -19,8 +19,8 @@ pub struct Masks {
     pub signals: u16,
 }
 
-// A system up to its cells: its masks, its flag and the place behind that, where the cell mask stands; or the refusal and
-// how many bits were missing.
+// A system up to its cells: its masks, its flag and the place behind that, where the cell mask stands; or the refusal
+// and how many bits were missing.
 pub enum System {
     Fine(Masks, bool, usize),
     Refused(Refusal, usize),

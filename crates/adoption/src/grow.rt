@@ -49,8 +49,8 @@ fn equal(strips: &mut [u16], from: usize, n: usize, strip: u16)
     }
 }
 
-// A strip for each of n satellites, from a place of the array on, each from the next bits of the cell mask, which stands
-// at a place of the bytes; and how many cells they have.
+// A strip for each of n satellites, from a place of the array on, each from the next bits of the cell mask, which
+// stands at a place of the bytes; and how many cells they have.
 fn masked(
     strips: &mut [u16],
     from: usize,
@@ -84,8 +84,8 @@ fn masked(
     sum
 }
 
-// The strips of a system, from a place of the array on, and how many cells they have: with the flag by the cell mask, which
-// stands at a place of the bytes; without it every signal counts.
+// The strips of a system, from a place of the array on, and how many cells they have: with the flag by the cell mask,
+// which stands at a place of the bytes; without it every signal counts.
 pub fn strips(
     strips: &mut [u16; Holding::SATELLITES],
     from: usize,

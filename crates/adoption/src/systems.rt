@@ -50,9 +50,9 @@ fn read_system(
     }
 }
 
-// n systems from a place on, under an issue, and the message that they end under a head. The holding is written out here
-// and changed in place: each function that it went through by value would be a copy. The test of 256 cells comes after
-// the cell mask, or after a zero flag (document 01, "Reader's order").
+// n systems from a place on, under an issue, and the message that they end under a head. The holding is written out
+// here and changed in place: each function that it went through by value would be a copy. The test of 256 cells comes
+// after the cell mask, or after a zero flag (document 01, "Reader's order").
 pub fn all(iod: u8, numbers: Head, bytes: &[u8], end: usize, mut at: usize, n: usize) -> Adoption
     requires { ⌜ (iod < 16) × Within (now bytes) end at ⌝ }
     ensures { λ r. ⌜ r ≡ adoptionBy (endFrom (withSystems numbers n (record { iod = iod; systems = [] })) (now (bytes .entry)) end at) ⌝ }

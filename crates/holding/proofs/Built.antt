@@ -1,5 +1,4 @@
--- A holding built up step by step: what the steps on the struct make is the picture of a mask, first of no systems, then of one more each time.
--- Assumes nothing.
+-- One more system in a holding: its strips and its slot make the picture of the mask with it. Assumes nothing.
 use mathlib.Core.Path.{_≡_, refl, sym, ap, _∙_}
 use mathlib.Core.Bool.{true, false}
 use mathlib.Core.List.{List, [], _∷_, _++_, append-nil, map, map-append, flatMap}
@@ -24,6 +23,8 @@ use Rattle.holding.proofs.PicturedStrips.{length-strips, length-satelli
 use Rattle.holding.proofs.PicturedCells.{strip-cells}
 -- a good mask has at most five systems
 pub use Rattle.format.proofs.MakesBack.{few-systems}
+
+-- ---- arrays
 
 -- an element stored behind those of a filled list
 set-filled : {A : Type 0} (n : ℕ) (d x : A) (l : List A) (k : ℕ) → length l ≡ k → k < n → set (filled n d l) k x ≡ filled n d (l ++ (x ∷ []))
