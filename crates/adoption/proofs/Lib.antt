@@ -1,6 +1,4 @@
 pub mod Bitwise
-pub mod Adding
+pub mod Strips
 pub mod StageEnds
-pub mod Holds
-pub mod CellsMade
 pub mod ManySystems

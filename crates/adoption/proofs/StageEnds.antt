@@ -2,18 +2,26 @@
 use mathlib.Core.Path.{_≡_, _∙_}
 use mathlib.Core.Bool.{Bool, cond, not, _&&_}
 use mathlib.Core.List.{List}
-use Prim.Native.Nat.{ℕ, _+_}
+use Prim.Native.Nat.{ℕ, _+_, _-_, _*_, _^_, _≤_, _<_}
+use native.Mathlib.Omega.{arith}
 use lib.Count.{ones}
-use lib.Dec.{leb}
-use Rattle.format.proofs.Ends.{done-end, test-end, number-whole, bits-whole, fits}
+use lib.Dec.{leb, eqb}
+use lib.ListN.{length}
+use Rattle.adoption.specs.declared.cells.Masks.{Masks}
+use Rattle.adoption.specs.declared.cells.System as cells
+use Rattle.adoption.specs.declared.cells.System.the-variants.{Fine, Refused}
+use Rattle.adoption.specs.Stages.{masksBy, withCells, cellBits, systemAt, HasMasks, FitsSystem}
+use Rattle.format.proofs.Ends.{done-end, test-end, bits-there, bits-cut, number-whole, bits-whole, after-field, fits}
+use Rattle.format.proofs.Makes.{flag-width}
 use Rattle.format.specs.Ends.{Within, endFrom}
 use Rattle.bits.specs.BitLists.{spell}
 use Rattle.bits.specs.declared.read.Taken.the-variants.{Whole}
 use Rattle.bits.specs.Short.{takenAt}
 use Rattle.format.specs.Assigned.{satellitePlaces, signalPlaces, known, assigned}
 use Rattle.format.specs.declared.Refusal.the-variants as Refusal
-use Rattle.format.specs.Messages.{named, systemId, systemMasks, systemSignals}
-use Rattle.format.specs.Programs.{well, badly}
+use Rattle.format.specs.Masks.{System, placesFrom}
+use Rattle.format.specs.Messages.{named, systemId, systemMasks, systemSignals, systemWith}
+use Rattle.format.specs.Programs.{Program, well, badly}
 use Rattle.holding.proofs.Places.{ones-places}
 
 module _ {bs : List ℕ} {end place : ℕ} (at : Within bs end place) {n : ℕ} where
@@ -34,3 +42,25 @@ module _ {bs : List ℕ} {end place : ℕ} (at : Within bs end place) {n : ℕ} 
       ≡ cond (assigned signalPlaces id (spell 16 n)) (well (record { satellites = sats; signals = spell 16 n }) (place + 16)) (badly Refusal.Reserved 0)
   unfolding systemSignals
   signals-end id sats e = bits-whole at 16 e _ ∙ rw (test-end, done-end)
+
+  -- the flag, and whether the bits of the cell mask are there
+  module _ (m : Masks) (whole : m .satellites < 2 ^ 40) (long : m .signals < 2 ^ 16) (e : takenAt bs end place 1 ≡ Whole n) {flag : Bool} (is : eqb n 1 ≡ flag) where
+    abbrev program : Program System
+    program = withCells (m .id) (masksBy (m .satellites) (m .signals))
+
+    width-is : n * (length (placesFrom 0 (spell 40 (m .satellites))) * length (placesFrom 0 (spell 16 (m .signals)))) ≡ cellBits m flag
+    width-is = rw (← (ones-places 40 (m .satellites) 0 whole), ← (ones-places 16 (m .signals) 0 long)) (flag-width n _ (fits at 1 e) ∙ rw is)
+
+    pub cells-cut : end - (place + 1) < cellBits m flag → endFrom program bs end place ≡ badly Refusal.Short (cellBits m flag - (end - (place + 1)))
+    unfolding withCells
+    cells-cut short = number-whole at 1 e _ ∙ rw width-is (bits-cut (after-field at 1 e) (cellBits m flag) _ short)
+
+    pub cells-there : cellBits m flag ≤ end - (place + 1) → endFrom program bs end place ≡ well (systemAt bs m flag (place + 1)) (place + 1 + cellBits m flag)
+    unfolding withCells systemWith systemAt
+    cells-there room = number-whole at 1 e _ ∙ rw (width-is, is) (bits-there (after-field at 1 e) (cellBits m flag) _ (omega (arith, after-field at 1 e .room)) ∙ done-end bs end _ _)
+
+-- a system with masks that fit
+pub masks-fit : (m : Masks) (nsat : ℕ) (r : cells.System) → HasMasks m r → m .satellites < 2 ^ 40 → nsat + ones (m .satellites) ≤ 64 → FitsSystem nsat r
+unfolding HasMasks FitsSystem
+masks-fit m nsat (Fine k flag place) same whole few = rw same (whole, few)
+masks-fit m nsat (Refused r missing) same whole few = tt

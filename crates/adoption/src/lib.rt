@@ -10,13 +10,14 @@ ghost use Rattle.adoption.specs.Adoptions.{adoptionBy};
 ghost use Rattle.format.specs.Ends.{Within, endFrom};
 ghost use Rattle.adoption.specs.Stages.{afterCommonHead};
 ghost use Rattle.format.specs.Messages.{common, maskMessage};
+ghost use Rattle.format.specs.Programs.{badly};
 ghost use Rattle.heads.specs.Heads.{Small, commonBy};
 use bits::read::Taken;
 use bits::read::Widths;
 use bits::read::short_by;
 use bits::read::take_field;
 use format::ABSENT;
-use format::Head;
+use format::Answer;
 use format::Refusal;
 use heads::CommonHead;
 use heads::CommonTaken;
@@ -24,26 +25,20 @@ use heads::heading;
 use heads::parted;
 use holding::Holding;
 
-// One more system: the place after it, or the refusal and how many bits were missing; beside it what is built so far.
-pub enum Step {
-    Fine(usize),
-    Refused(Refusal, usize),
-}
-
-pub struct Grown {
-    pub step: Step,
-    pub holding: Holding,
-}
-
-// A mask message: its head and the place after it, or the refusal; beside it what is held from now on.
-pub enum Made {
-    Mask(Head, usize),
-    Refused(Refusal, usize),
-}
-
+// A mask message: the answer to it, and the holding that it makes; an empty one where it is refused.
 pub struct Adoption {
-    pub made: Made,
+    pub answer: Answer,
     pub holding: Holding,
+}
+
+// A refusal, and how many bits were missing.
+fn refused(r: Refusal, missing: usize) -> Adoption
+    ensures { λ x. ⌜ x ≡ adoptionBy (badly r missing) ⌝ }
+{
+    Adoption {
+        answer: Answer::Refused(r, missing),
+        holding: Holding::empty(),
+    }
 }
 
 // How many bits a mask message's common head and its number of systems have.
@@ -72,35 +67,27 @@ fn head(bytes: &[u8], end: usize, place: usize) -> CommonTaken
 }
 
 // A mask message from its number of systems on.
-fn after_head(old: Holding, h: CommonHead, bytes: &[u8], end: usize, place: usize) -> Adoption
+fn after_head(h: CommonHead, bytes: &[u8], end: usize, place: usize) -> Adoption
     requires { ⌜ Small h × Within (now bytes) end place ⌝ }
-    ensures { λ r. ⌜ r ≡ adoptionBy old (endFrom (afterCommonHead h) (now (bytes .entry)) end place) ⌝ }
+    ensures { λ r. ⌜ r ≡ adoptionBy (endFrom (afterCommonHead h) (now (bytes .entry)) end place) ⌝ }
 {
     let taken = take_field(bytes, end, place, COUNT);
     match taken {
-        Taken::Short(missing) => Adoption {
-            made: Made::Refused(Refusal::Short, missing),
-            holding: old,
-        },
+        Taken::Short(missing) => refused(Refusal::Short, missing),
         Taken::Whole(n) => {
             let numbers = heading::head(table::MASK, h, n as i32, ABSENT, ABSENT);
-            let first = old.adopt(h.iod as u8);
-            let at = place + COUNT;
-            systems::all_systems(old, first, numbers, bytes, end, at, n as usize)
+            systems::all(h.iod as u8, numbers, bytes, end, place + COUNT, n as usize)
         }
     }
 }
 
-// A mask message at the place behind its number and sub type: the mask is adopted, or what was held stays.
-pub fn adopt(old: Holding, bytes: &[u8], end: usize, place: usize) -> Adoption
+// A mask message at the place behind its number and sub type. What was held stays with the caller.
+pub fn adopt(bytes: &[u8], end: usize, place: usize) -> Adoption
     requires { ⌜ Within (now bytes) end place ⌝ }
-    ensures { λ r. ⌜ r ≡ adoptionBy old (endFrom maskMessage (now (bytes .entry)) end place) ⌝ }
+    ensures { λ r. ⌜ r ≡ adoptionBy (endFrom maskMessage (now (bytes .entry)) end place) ⌝ }
 {
     match head(bytes, end, place) {
-        CommonTaken::Short(missing) => Adoption {
-            made: Made::Refused(Refusal::Short, missing),
-            holding: old,
-        },
-        CommonTaken::Whole(h) => after_head(old, h, bytes, end, place + COMMON),
+        CommonTaken::Short(missing) => refused(Refusal::Short, missing),
+        CommonTaken::Whole(h) => after_head(h, bytes, end, place + COMMON),
     }
 }

@@ -1,86 +1,94 @@
-// The systems of a mask message, one after the other.
+// The systems of a mask message, one after the other, read into the one holding that they make.
 ghost use mathlib.Core.Path.{_≡_};
-ghost use Rattle.adoption.specs.Adoptions.{adoptionBy, maskIn, grownBy};
+ghost use mathlib.Core.List.{[]};
+ghost use Prim.Native.Nat.{_≤_, _<_};
+ghost use lib.ListN.{length, take};
+ghost use Rattle.adoption.specs.Adoptions.{adoptionBy};
+ghost use Rattle.adoption.specs.Stages.{untested, endSystem, FitsSystem, withSystems};
 ghost use Rattle.format.specs.Ends.{Within, endFrom};
-ghost use Rattle.adoption.specs.Growing.{HasMask};
-ghost use Rattle.adoption.specs.Stages.{withSystems};
-ghost use Rattle.format.specs.Messages.{system};
 use crate::Adoption;
-use crate::Grown;
-use crate::Made;
-use crate::Step;
 use crate::cells;
 use crate::cells::Masks;
+use crate::cells::System;
+use crate::grow;
+use crate::refused;
 use crate::stages;
 use crate::stages::Masked;
 use crate::stages::Named;
+use format::Answer;
 use format::Head;
+use format::Refusal;
 use holding::Holding;
+use holding::set_places;
 
-// One more system, at a place.
-pub fn one_system(h: Holding, bytes: &[u8], end: usize, place: usize) -> Grown
-    requires { ⌜ HasMask h × Within (now bytes) end place ⌝ }
-    ensures { λ r. ⌜ r ≡ grownBy (maskIn h) (endFrom (system (maskIn h .systems)) (now (bytes .entry)) end place) ⌝ }
+// The system at a place up to its cells, after count others with nsat satellites.
+fn read_system(
+    ids: &[u8],
+    count: usize,
+    nsat: usize,
+    bytes: &[u8],
+    end: usize,
+    place: usize,
+) -> System
+    requires { ⌜ (count ≤ length (now ids)) × (nsat ≤ 64) × Within (now bytes) end place ⌝ }
+    ensures { λ r. ⌜ endSystem (now (bytes .entry)) r ≡ endFrom (untested (take count (now (ids .entry))) nsat) (now (bytes .entry)) end place ⌝ }
+    ensures { λ r. ⌜ FitsSystem nsat r ⌝ }
 {
-    let ids = h.ids;
-    match stages::read_id(&ids, h.count, bytes, end, place) {
-        Named::Refused(r, missing) => Grown {
-            step: Step::Refused(r, missing),
-            holding: h,
-        },
-        Named::Fine(id, next) => match stages::read_masks(h.nsat, id, bytes, end, next) {
-            Masked::Refused(r, missing) => Grown {
-                step: Step::Refused(r, missing),
-                holding: h,
-            },
+    match stages::read_id(ids, count, bytes, end, place) {
+        Named::Refused(r, missing) => System::Refused(r, missing),
+        Named::Fine(id, next) => match stages::read_masks(nsat, id, bytes, end, next) {
+            Masked::Refused(r, missing) => System::Refused(r, missing),
             Masked::Fine(satellites, signals, at) => {
                 let masks = Masks {
                     id,
                     satellites,
                     signals,
                 };
-                cells::read_cells(h, bytes, end, at, masks)
+                cells::read_flag(masks, bytes, end, at)
             }
         },
     }
 }
 
-// n systems from a place on, on top of a holding that has those before them, and the message under a head that they end;
-// where one is refused, another holding is handed back: the one held before the message.
-pub fn all_systems(
-    old: Holding,
-    first: Holding,
-    numbers: Head,
-    bytes: &[u8],
-    end: usize,
-    place: usize,
-    n: usize,
-) -> Adoption
-    requires { ⌜ HasMask first × Within (now bytes) end place ⌝ }
-    ensures { λ r. ⌜ r ≡ adoptionBy old (endFrom (withSystems numbers n (maskIn first)) (now (bytes .entry)) end place) ⌝ }
+// n systems from a place on, under an issue, and the message that they end under a head. The holding is written out
+// here and changed in place: each function that it went through by value would be a copy. The test of 256 cells comes
+// after the cell mask, or after a zero flag (document 01, "Reader's order").
+pub fn all(iod: u8, numbers: Head, bytes: &[u8], end: usize, mut at: usize, n: usize) -> Adoption
+    requires { ⌜ (iod < 16) × Within (now bytes) end at ⌝ }
+    ensures { λ r. ⌜ r ≡ adoptionBy (endFrom (withSystems numbers n (record { iod = iod; systems = [] })) (now (bytes .entry)) end at) ⌝ }
 {
-    let mut h = first;
-    let mut at = place;
-    let mut i = 0;
-    while i < n {
-        let grown = one_system(h, bytes, end, at);
-        let step = grown.step;
-        match step {
-            Step::Refused(r, missing) => {
-                return Adoption {
-                    made: Made::Refused(r, missing),
-                    holding: old,
-                };
-            }
-            Step::Fine(next) => {
-                h = grown.holding;
-                at = next;
-                i += 1;
+    let mut h = Holding {
+        held: true,
+        iod,
+        count: 0,
+        ids: [0; Holding::SYSTEMS],
+        satellites: [0; Holding::SYSTEMS],
+        signals: [0; Holding::SYSTEMS],
+        flags: [false; Holding::SYSTEMS],
+        strips: [0; Holding::SATELLITES],
+        nsat: 0,
+        ncell: 0,
+    };
+    while h.count < n {
+        let i = h.count;
+        let first = h.nsat;
+        match read_system(&h.ids, i, first, bytes, end, at) {
+            System::Refused(r, missing) => return refused(r, missing),
+            System::Fine(m, flag, from) => {
+                h.ncell += grow::strips(&mut h.strips, first, m, flag, bytes, from);
+                if h.ncell > Holding::CELLS {
+                    return refused(Refusal::Size, 0);
+                }
+                h.nsat = first + set_places::count(m.satellites);
+                h.ids[i] = m.id;
+                h.satellites[i] = m.satellites;
+                h.signals[i] = m.signals;
+                h.flags[i] = flag;
+                h.count = i + 1;
+                at = from + cells::width(m, flag);
             }
         }
     }
-    Adoption {
-        made: Made::Mask(numbers, at),
-        holding: h,
-    }
+    let answer = Answer::Message(numbers, at, 0);
+    Adoption { answer, holding: h }
 }

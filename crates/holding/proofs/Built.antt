@@ -1,39 +1,30 @@
--- A holding built up step by step: what the steps on the struct make is the picture of a mask, first of no systems, then of one more each time.
--- Assumes nothing.
-use mathlib.Core.Path.{_≡_, refl, sym, _∙_}
+-- One more system in a holding: its strips and its slot make the picture of the mask with it. Assumes nothing.
+use mathlib.Core.Path.{_≡_, refl, sym, ap, _∙_}
 use mathlib.Core.Bool.{true, false}
-use mathlib.Core.List.{List, [], _∷_, _++_, append-assoc, append-nil, map, map-append, flatMap}
-use Prim.Native.Nat.{ℕ, suc, _+_, _-_, _^_, _<_}
-use native.Mathlib.Nat.{add-zero, suc-inj}
+use mathlib.Core.List.{List, [], _∷_, _++_, append-nil, map, map-append, flatMap}
+use Prim.Native.Nat.{ℕ, suc, _+_, _-_, _^_, _≤_, _<_}
+use native.Mathlib.Nat.{suc-inj}
 use native.Mathlib.Omega.{arith}
 use borrow.Author.Tests.{ltb-true}
-use lib.Count.{ones}
 use lib.Dec.{ltb}
 use lib.ListN.{length, set, replicate, length-append, length-map}
-use lib.Seq.{append-snoc, set-at}
+use lib.Seq.{append-snoc, set-at, sets}
 use Rattle.format.specs.Lengths.{total}
 use Rattle.bits.specs.BitLists.{number}
-use Rattle.format.proofs.Lengths.{total-append}
 use Rattle.format.proofs.Sames.{and-true}
 use Rattle.format.specs.Masks.{System, Mask, mask, Satellite, satellitesOf, cellsOf, satellites, cells}
 use Rattle.holding.specs.Bounds.{narrow, every}
-use Rattle.holding.specs.Building.{withStrip, withSystem, onesIn, begun}
+use Rattle.holding.specs.Building.{withStrips, withSystem, onesIn}
 use Rattle.holding.specs.Held.{stripCells}
 use Rattle.holding.specs.Pictures.{filled, stripsOf, pictureOf}
 use Rattle.holding.proofs.Narrows.{narrow-strips}
 use Rattle.holding.proofs.Places.{ones-places}
-use Rattle.holding.proofs.PicturedStrips.{length-strips, length-satellites, picture-strips, satellites-snoc, cells-snoc}
-pub use Rattle.holding.proofs.PicturedStrips.{flatMap-snoc}
+use Rattle.holding.proofs.PicturedStrips.{length-strips, length-satellites, picture-strips, flatMap-snoc, satellites-snoc, cells-snoc}
 use Rattle.holding.proofs.PicturedCells.{strip-cells}
--- a good mask has at most five systems, and room for one that it does not name
-pub use Rattle.format.proofs.MakesBack.{few-systems, room-for}
+-- a good mask has at most five systems
+pub use Rattle.format.proofs.MakesBack.{few-systems}
 
--- before any strip it is the mask's own picture
-pub begun-picture : (m : Mask) → begun m [] ≡ pictureOf (mask m)
-unfolding begun pictureOf total
-begun-picture m = simp (append-nil, add-zero)
-
--- ---- a strip
+-- ---- arrays
 
 -- an element stored behind those of a filled list
 set-filled : {A : Type 0} (n : ℕ) (d x : A) (l : List A) (k : ℕ) → length l ≡ k → k < n → set (filled n d l) k x ≡ filled n d (l ++ (x ∷ []))
@@ -43,18 +34,12 @@ set-filled n d x l k e h =
     let after : n - length (l ++ (x ∷ [])) ≡ n - suc k = simp length-append (omega arith) in
     rw (here, after, append-snoc) (set-at l d (replicate (n - suc k) d) x k e)
 
--- a strip is stored behind the others
-pub strip-built : (m : Mask) (strips : List ℕ) (strip : ℕ) → length (flatMap stripsOf (m .systems) ++ strips) < 64
-    → withStrip (begun m strips) strip ≡ begun m (strips ++ (strip ∷ []))
-unfolding withStrip begun pictureOf total
-strip-built m strips strip room =
-    let before = flatMap stripsOf (m .systems) in
-    let nsat = length (satellites (m .systems)) + length strips in
-    let e : length (before ++ strips) ≡ nsat = simp length-append (rw (picture-strips (m .systems))) in
-    let stored = set-filled 64 0 strip (before ++ strips) nsat e (omega arith) in
-    let count : nsat + 1 ≡ length (satellites (m .systems)) + length (strips ++ (strip ∷ [])) = simp length-append (omega arith) in
-    let total : length (cells (m .systems)) + onesIn strips + ones strip ≡ length (cells (m .systems)) + onesIn (strips ++ (strip ∷ [])) = omega (arith, total-append ones strips (strip ∷ [])) in
-    rw (stored, append-assoc, count, total)
+-- and so are several
+sets-filled : {A : Type 0} (n : ℕ) (d : A) (xs l : List A) (k : ℕ) → length l ≡ k → k + length xs ≤ n → sets (filled n d l) k xs ≡ filled n d (l ++ xs)
+sets-filled n d [] l k e room = ap (filled n d) (sym (append-nil l))
+sets-filled n d (x ∷ xs) l k e room =
+    let longer : length (l ++ (x ∷ [])) ≡ suc k = simp length-append (omega arith) in
+    rw (set-filled n d x l k e (omega arith), sets-filled n d xs (l ++ (x ∷ [])) (suc k) longer (omega arith), append-snoc)
 
 -- ---- the cells of a system's strips
 
@@ -72,6 +57,10 @@ ones-cells (sat ∷ sats) (strip ∷ strips) e thin =
 pub strips-ones : (s : System) → length (s .signals) ≡ 16 → onesIn (stripsOf s) ≡ length (cellsOf s)
 strips-ones s long = rw (strip-cells s long) (ones-cells (satellitesOf s) (stripsOf s) (length-satellites s ∙ sym (length-strips s)) (narrow-strips s long))
 
+-- and so have they with those of other systems
+pub cells-with : (before : List System) (s : System) → length (s .signals) ≡ 16 → length (cells before) + onesIn (stripsOf s) ≡ length (cells (before ++ (s ∷ [])))
+cells-with before s long = rw (cells-snoc before s, strips-ones s long)
+
 -- ---- a system
 
 -- one more system in the next slot, by any of its fields
@@ -79,19 +68,19 @@ set-slot : {A : Type 0} (f : System → A) (d : A) (ss : List System) (s : Syste
     → set (filled 5 d (map f ss)) (length ss) (f s) ≡ filled 5 d (map f (ss ++ (s ∷ [])))
 set-slot f d ss s room = rw (map-append f ss (s ∷ [])) (set-filled 5 d (f s) (map f ss) (length ss) (length-map ss f) room)
 
--- with the strips of a system, its slot makes the picture of the mask with that system behind the others
-pub system-built : (m : Mask) (s : System) → length (m .systems) < 5 → length (s .signals) ≡ 16
-    → withSystem (begun m (stripsOf s)) (s .id) (number (s .satellites)) (number (s .signals)) (s .flag)
+-- strips and slot of one more system make the picture of the mask with that system behind the others
+pub system-built : (m : Mask) (s : System) → length (m .systems) < 5 → length (satellites (m .systems)) + length (stripsOf s) ≤ 64 → length (s .signals) ≡ 16
+    → withSystem (withStrips (pictureOf (mask m)) (stripsOf s)) (s .id) (number (s .satellites)) (number (s .signals)) (s .flag)
     ≡ pictureOf (mask (record { iod = m .iod; systems = m .systems ++ (s ∷ []) }))
-unfolding withSystem begun pictureOf
-system-built m s room long =
+unfolding withSystem withStrips pictureOf
+system-built m s room few long =
     let ss = m .systems in
     let count : length ss + 1 ≡ length (ss ++ (s ∷ [])) = simp length-append in
     let ids = set-slot (λ s. s .id) 0 ss s room in
     let sats = set-slot (λ s. number (s .satellites)) 0 ss s room in
     let signals = set-slot (λ s. number (s .signals)) 0 ss s room in
     let flags = set-slot (λ s. s .flag) false ss s room in
-    let strips = flatMap-snoc stripsOf ss s in
+    let strips : sets (filled 64 0 (flatMap stripsOf ss)) (length (satellites ss)) (stripsOf s) ≡ filled 64 0 (flatMap stripsOf (ss ++ (s ∷ []))) =
+    rw flatMap-snoc (sets-filled 64 0 (stripsOf s) (flatMap stripsOf ss) (length (satellites ss)) (picture-strips ss) few) in
     let nsat : length (satellites ss) + length (stripsOf s) ≡ length (satellites (ss ++ (s ∷ []))) = rw (satellites-snoc ss s, length-strips s) in
-    let ncell : length (cells ss) + onesIn (stripsOf s) ≡ length (cells (ss ++ (s ∷ []))) = rw (cells-snoc ss s, strips-ones s long) in
-    rw (count, ids, sats, signals, flags, strips, nsat, ncell)
+    rw (count, ids, sats, signals, flags, strips, nsat, cells-with ss s long)

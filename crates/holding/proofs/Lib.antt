@@ -8,7 +8,6 @@ pub mod Pictured
 pub mod PicturedCells
 pub mod Counts
 pub mod Built
-pub mod Adding
 pub mod Narrows
 pub mod Sounds
 pub mod Tests

@@ -89,7 +89,7 @@ module _ (m : Mask) (good-mask : good (mask m) ≡ true) where
       ∙ append-nil (stripCells sats strips)
       ∙ sym (picture-cells m good-mask)
 
-picture-sounds : (g : Held) → good g ≡ true → Sounds g (pictureOf g)
+pub picture-sounds : (g : Held) → good g ≡ true → Sounds g (pictureOf g)
 unfolding good pictureOf every isHeld issueOf satellitesHeld cellsHeld slotSatellites stripCells
 picture-sounds nothing e =
     record {

@@ -6,6 +6,7 @@ use Prim.Native.Nat.{ℕ, zero, suc, _+_, _*_, _^_, _≤_, _<_}
 use native.Mathlib.Nat.{suc-inj, zero-add, mod-eq-of-lt, suc-add, le-of-suc-le-suc}
 use native.Mathlib.Omega.{arith}
 use lib.Bits.{bitAnd, and-block, and-le-l}
+use lib.Count.{ones}
 use lib.Dec.{eqb, eqb·suc-suc}
 use lib.ListN.{length, take}
 use lib.Pow.{pow-pos}
@@ -30,8 +31,8 @@ length-spread (false ∷ places) bits = ap suc (length-spread places bits)
 length-spread (true ∷ places) [] = ap suc (length-spread places [])
 length-spread (true ∷ places) (b ∷ bits) = ap suc (length-spread places bits)
 
--- one bit for each place set
-pub length-pick : (places strip : List Bool) → length strip ≡ length places → length (pick places strip) ≡ length (placesFrom 0 places)
+-- one for each place set
+pub length-pick : {A : Type 0} (places : List Bool) (strip : List A) → length strip ≡ length places → length (pick places strip) ≡ length (placesFrom 0 places)
 unfolding pick placesFrom
 length-pick [] strip e = refl
 length-pick (p ∷ places) [] e = absurd (omega arith)
@@ -68,6 +69,11 @@ places-spread (false ∷ places) bits k = places-spread places bits (suc k)
 places-spread (true ∷ places) [] k = places-spread places [] (suc k)
 places-spread (true ∷ places) (true ∷ bits) k = ap (λ (ps : List ℕ). k ∷ ps) (places-spread places bits (suc k))
 places-spread (true ∷ places) (false ∷ bits) k = places-spread places bits (suc k)
+
+-- so a strip has as many ones as its bits
+pub ones-spread : (places bits : List Bool) → length bits ≡ length (placesFrom 0 places) → ones (number (spread places bits)) ≡ ones (number bits)
+ones-spread places bits e =
+    ones-number (spread places bits) 0 ∙ ap length (places-spread places bits 0) ∙ length-pick bits (placesFrom 0 places) (sym e) ∙ sym (ones-number bits 0)
 
 -- ---- no place set that the other list has not
 

@@ -9,11 +9,9 @@ pub mod strips_fit;
 pub mod testing;
 
 ghost use mathlib.Core.Path.{_≡_};
-ghost use mathlib.Core.List.{[]};
-ghost use lib.ListN.{length, replicate};
-ghost use Prim.Native.Nat.{_+_, _<_, _≤_};
-ghost use Rattle.format.specs.Masks.{nothing, mask};
-ghost use Rattle.holding.specs.Building.{withStrips, withSystem};
+ghost use Prim.Native.Nat.{_<_};
+ghost use Rattle.format.specs.Masks.{nothing};
+ghost use Rattle.holding.specs.Building.{withSystem};
 ghost use Rattle.holding.specs.Pictures.{pictureOf, sound};
 
 // What is held, as specs/Pictures.antt pictures it: a slot for each system in the order sent (its ID, its
@@ -92,48 +90,11 @@ impl Holding {
         )
     }
 
-    // A mask of no systems under an issue: it replaces what was held, whole.
-    pub fn adopt(mut self, iod: u8) -> Self
-        ensures { λ r. ⌜ r ≡ pictureOf (mask (record { iod = iod; systems = [] })) ⌝ }
+    // A new mask replaces what was held, whole.
+    pub fn adopt(mut self, new: Holding) -> Self
+        ensures { λ r. ⌜ r ≡ new ⌝ }
     {
-        self = Self::empty();
-        self.held = true;
-        self.iod = iod;
-        self
-    }
-
-    // With a strip for each of the next satellites.
-    pub fn with_strips(mut self, strips: &[u16]) -> Self
-        requires { ⌜ (self .nsat + length (now strips) ≤ 64) × (self .ncell ≤ 256) ⌝ }
-        ensures { λ r. ⌜ r ≡ withStrips self (now (strips .entry)) ⌝ }
-    {
-        let first = self.nsat;
-        let mut sum = self.ncell;
-        let mut i = 0;
-        while i < strips.len() {
-            let strip = strips[i];
-            self.strips[first + i] = strip;
-            sum += set_places::count(strip as u64);
-            i += 1;
-        }
-        self.nsat = first + i;
-        self.ncell = sum;
-        self
-    }
-
-    // With the same strip for each of the next n satellites.
-    pub fn with_equal(mut self, n: usize, strip: u16) -> Self
-        requires { ⌜ (self .nsat + n ≤ 64) × (self .ncell ≤ 256) ⌝ }
-        ensures { λ r. ⌜ r ≡ withStrips self (replicate n strip) ⌝ }
-    {
-        let from = self.nsat;
-        let mut i = 0;
-        while i < n {
-            self.strips[from + i] = strip;
-            i += 1;
-        }
-        self.nsat = from + i;
-        self.ncell += i * set_places::count(strip as u64);
+        self = new;
         self
     }
 

@@ -1,15 +1,14 @@
 -- What the reader makes of a mask message. Assumes nothing.
-use mathlib.Core.Path.{_≡_, refl, sym, ap}
+use mathlib.Core.Path.{_≡_, sym, ap}
 use mathlib.Core.Bool.{true}
+use mathlib.Core.Logic.{_⊎_, inl, inr}
 use Prim.Native.Nat.{ℕ}
 use native.Mathlib.Omega.{arith}
-use Rattle.adoption.specs.declared.Adoption.{Adoption}
-use Rattle.adoption.specs.declared.Made.{Made}
-use Rattle.adoption.specs.declared.Made.the-variants as Made
+use denote.Enum.Declared.{tagOf}
 use Rattle.adoption.specs.Adoptions.{adoptionBy}
-use Rattle.format.specs.declared.Answer.{Answer}
-use Rattle.format.specs.declared.Answer.the-variants as Answers
-use Rattle.format.specs.declared.Refusal.{Refusal}
+use Rattle.adoption.specs.declared.Adoption.{Adoption}
+use Rattle.format.proofs.Answer.{the-type}
+use Rattle.format.specs.declared.Answer.the-variants.{Refused}
 use Rattle.format.specs.Messages.{Adopted}
 use Rattle.format.specs.Programs.{Ended, well, badly, later}
 use Rattle.format.specs.Reading.{lentAfter, answerOf}
@@ -20,25 +19,18 @@ use Rattle.reader.specs.declared.Reading.{Reading}
 use Rattle.reader.specs.Readings.{structOf, readingOf}
 use Rattle.reader.proofs.Lents.{kept}
 
-unfoldable pub answerBy : Made → Answer
-answerBy (Made.Mask head next) = Answers.Message head next 0
-answerBy (Made.Refused r missing) = Answers.Refused r missing
-
-unfoldable pub madeReading : Adoption → Reading
-madeReading a = record { answer = answerBy (a .made); holding = a .holding }
-
-module _ (h : Holding) (fine : sound h ≡ true) (place : ℕ) where
-  pub adopted-by : (e : Ended Adopted) → madeReading (adoptionBy h (later place e)) ≡ readingOf h (adoptedBy (maskOf h) place e)
-  unfolding madeReading answerBy adoptionBy later readingOf structOf lentAfter answerOf adoptedBy
-  adopted-by (well d taken) = refl
-  adopted-by (badly r missing) = ap (λ (g : Holding). record { answer = Answers.Refused r missing; holding = g }) (sym (kept h fine))
+module _ (h : Holding) (fine : sound h ≡ true) (place : ℕ) {a : Adoption} where
+  -- accepted, it is what is held
+  pub adopted-new : (e : Ended Adopted) → a ≡ adoptionBy (later place e) → tagOf the-type (a .answer) ≡ 0
+      → _≡_ {A = Reading} (record { answer = a .answer; holding = a .holding }) (readingOf h (adoptedBy (maskOf h) place e))
+  unfolding adoptionBy later readingOf structOf lentAfter answerOf adoptedBy
+  adopted-new (well d taken) is tag = rw is
+  adopted-new (badly r missing) is tag = absurd (omega (arith, rw is at tag))
 
   -- refused, it leaves what was held
-  pub adopted-not : (e : Ended Adopted) (r : Refusal) (missing : ℕ) → adoptionBy h (later place e) .made ≡ Made.Refused r missing
-      → _≡_ {A = Reading} (record { answer = Answers.Refused r missing; holding = h }) (readingOf h (adoptedBy (maskOf h) place e))
+  pub adopted-not : (e : Ended Adopted) → a ≡ adoptionBy (later place e) → (tagOf the-type (a .answer) ≡ 1) ⊎ (tagOf the-type (a .answer) ≡ 2)
+      → _≡_ {A = Reading} (record { answer = a .answer; holding = h }) (readingOf h (adoptedBy (maskOf h) place e))
   unfolding adoptionBy later readingOf lentAfter answerOf adoptedBy
-  adopted-not (well d taken) r missing said = absurd (let z : _≡_ {A = ℕ} 0 1 = cc in omega arith)
-  adopted-not (badly q rest) r missing said =
-      let same : q ≡ r = cc in
-      let count : rest ≡ missing = cc in
-      rw (same, count) (ap (λ (g : Holding). record { answer = Answers.Refused r missing; holding = g }) (sym (kept h fine)))
+  adopted-not (well d taken) is (inl tag) = absurd (omega (arith, rw is at tag))
+  adopted-not (well d taken) is (inr tag) = absurd (omega (arith, rw is at tag))
+  adopted-not (badly r missing) is tag = rw is (ap (λ (g : Holding). record { answer = Refused r missing; holding = g }) (sym (kept h fine)))

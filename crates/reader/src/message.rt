@@ -14,7 +14,6 @@ ghost use Rattle.holding.specs.Held.{viewOf};
 ghost use Rattle.holding.specs.Pictures.{maskOf, sound};
 ghost use Rattle.reader.specs.Readings.{readingOf, readAt, unopenedAt, foundAt, Ready, Begins};
 use crate::Reading;
-use adoption::Made;
 use bits::rest::zero_from;
 use body::Placed;
 use format::Answer;
@@ -72,19 +71,16 @@ pub fn adopted(holding: Holding, bytes: &[u8], end: usize, place: usize) -> Read
     requires { ⌜ (end ≤ 8 * length (now bytes)) × (end ≤ stretchLimit) × (place ≤ end) × (sound holding ≡ true) ⌝ }
     ensures { λ r. ⌜ r ≡ readingOf holding (adoptedBy (maskOf holding) place (run maskMessage (bitsFrom (now (bytes .entry)) end place))) ⌝ }
 {
-    let adoption = adoption::adopt(holding, bytes, end, place);
-    let made = adoption.made;
-    let after = adoption.holding;
-    match made {
-        Made::Mask(head, next) => Reading {
-            answer: Answer::Message(head, next, 0),
-            holding: after,
-        },
-        Made::Refused(r, missing) => Reading {
-            answer: Answer::Refused(r, missing),
-            holding,
-        },
+    let adoption = adoption::adopt(bytes, end, place);
+    let answer = adoption.answer;
+    let new = adoption.holding;
+    if let Answer::Message(_, _, _) = answer {
+        return Reading {
+            answer,
+            holding: holding.adopt(new),
+        };
     }
+    Reading { answer, holding }
 }
 
 // What answers to a refusal that comes before the sub type: idle where no bit is set. A set bit of a front that the

@@ -21,19 +21,19 @@ module _ (c : tie.After-known-told2) where
   read = common-whole (s .pre) 20 (omega arith) (sym (c .before .before .before .head .ensures) ∙ c .before .h .given .1)
 
 returns : tie.Need-returns
-unfolding maskMessage adoptionBy
+unfolding maskMessage
 returns c =
-    let p = c .before .before .before in
+    let p = c .before .before .before .before in
     let s = p .before .before in
-    ap (adoptionBy (s .args .old)) (sym (then-badly (s .pre) (common 20) _ (common-short (s .pre) 20 (sym (p .head .ensures) ∙ c .before .missing .given .1))))
+    c .refused .ensures ∙ ap adoptionBy (sym (then-badly (s .pre) (common 20) _ (common-short (s .pre) 20 (sym (p .head .ensures) ∙ c .before .before .missing .given .1))))
 
 returns-2 : tie.Need-returns-2
 unfolding maskMessage afterCommonHead withSystems headWith commonOf
 returns-2 c =
     let s = s (c .before) in
-    c .after-head .ensures ∙ ap (adoptionBy (s .args .old)) (sym (then-well (s .pre) (common 20) _ (read (c .before) .ran)))
+    c .after-head .ensures ∙ ap adoptionBy (sym (then-well (s .pre) (common 20) _ (read (c .before) .ran)))
 
 pub adopt-spec : {M : Type 1} → statement M
 adopt-spec =
     tie.close
-    (tie.spec (λ c κs. search needs) (λ c. search needs) (λ c. search needs) (λ c. search needs) (λ c κs. (read c .small, read c .after)) returns returns-2)
+    (tie.spec (λ c κs. search needs) (λ c. search needs) (λ c κs. search needs) (λ c. search needs) (λ c. search needs) (λ c κs. (read c .small, read c .after)) returns returns-2)
