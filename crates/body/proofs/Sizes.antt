@@ -15,10 +15,10 @@ use Rattle.format.specs.Lengths.{total}
 use Rattle.format.specs.Masks.{Satellite, placesFrom, pick}
 use Rattle.format.specs.Messages.{satelliteLines}
 use Rattle.format.specs.Rows.{Column, Line, shapeWidth, bodyWidth}
-use Rattle.holding.specs.Held.{satellitesIn}
+use Rattle.holding.specs.Held.{satellitesIn, slotSatellites}
 use Rattle.rows.proofs.Table.{width-at, width-by}
 use Rattle.rows.specs.Table.{shapeAt}
-use Rattle.body.specs.Chosen.{galileos, alone, chosenLines}
+use Rattle.body.specs.Chosen.{galileo, galileos, alone, chosenLines}
 use Rattle.body.specs.Written.{Counts}
 use Rattle.body.proofs.Groups.{alone-chosen}
 use Rattle.body.proofs.Selected.{pick-split, picked}
@@ -75,17 +75,40 @@ one-most false = omega arith
 
 pub few-galileos : (sats : List Satellite) → galileos sats ≤ length sats
 unfolding galileos
-few-galileos sats = omega (arith, total-most (λ (s : Satellite). cond (eqb (s .system) 2) 1 0) 1 sats (λ s. one-most (eqb (s .system) 2)))
+few-galileos sats = omega (arith, total-most (λ (s : Satellite). galileo (s .system)) 1 sats (λ s. one-most (eqb (s .system) 2)))
 
 -- of one system all are, or none is
-system-galileos : (id : ℕ) (places : List ℕ) → galileos (map (λ place. record { system = id; number = suc place }) places) ≡ cond (eqb id 2) 1 0 * length places
+system-galileos : (id : ℕ) (places : List ℕ) → galileos (map (λ place. record { system = id; number = suc place }) places) ≡ galileo id * length places
 unfolding galileos total
-system-galileos id [] = sym (mul-zero (cond (eqb id 2) 1 0))
-system-galileos id (place ∷ places) = omega (arith, system-galileos id places, mul-suc (cond (eqb id 2) 1 0) (length places))
+system-galileos id [] = sym (mul-zero (galileo id))
+system-galileos id (place ∷ places) = omega (arith, system-galileos id places, mul-suc (galileo id) (length places))
+
+-- a selection has no more than all
+pick-less : {A : Type 0} (f : A → ℕ) (bits : List Bool) (xs : List A) → total f (pick bits xs) ≤ total f xs
+unfolding pick total
+pick-less f [] xs = omega arith
+pick-less f (b ∷ bits) [] = omega arith
+pick-less f (true ∷ bits) (x ∷ xs) = omega (arith, pick-less f bits xs)
+pick-less f (false ∷ bits) (x ∷ xs) = omega (arith, pick-less f bits xs)
+
+-- slots of other systems have none
+other-slots : (ids masks : List ℕ) → total galileo ids ≡ 0 → galileos (slotSatellites ids masks) ≡ 0
+unfolding galileos total slotSatellites satellitesIn
+other-slots [] masks none = refl
+other-slots (id ∷ ids) [] none = refl
+other-slots (id ∷ ids) (m ∷ masks) none =
+    let places : List ℕ = placesFrom 0 (spell 40 m) in
+    let other : galileo id ≡ 0 = omega (arith, none) in
+    let here = system-galileos id places ∙ ap (λ (k : ℕ). k * length places) other ∙ zero-mul (length places) in
+    omega (arith, total-append (λ (s : Satellite). galileo (s .system)) (satellitesIn 40 id m) (slotSatellites ids masks), here, other-slots ids masks (omega (arith, none)))
+
+pub no-galileos : (ids masks : List ℕ) (bits : List Bool) → total galileo ids ≡ 0 → galileos (pick bits (slotSatellites ids masks)) ≡ 0
+unfolding galileos
+no-galileos ids masks bits none = omega (arith, pick-less (λ (s : Satellite). galileo (s .system)) bits (slotSatellites ids masks), other-slots ids masks none)
 
 -- those of the next slot that are chosen, and those of the others
 module _ (ids masks : List ℕ) (i c n : ℕ) (slot : Slot ids masks i) (small : c < 2 ^ 64) (many : n ≡ ones (getD masks i 0)) where
-  here : galileos (pick (spell 64 c) (inSlot ids masks i)) ≡ cond (eqb (getD ids i 0) 2) 1 0 * ones (c / 2 ^ (64 - n))
+  here : galileos (pick (spell 64 c) (inSlot ids masks i)) ≡ galileo (getD ids i 0) * ones (c / 2 ^ (64 - n))
   unfolding satellitesIn
   here =
       let id : ℕ = getD ids i 0 in
@@ -93,10 +116,10 @@ module _ (ids masks : List ℕ) (i c n : ℕ) (slot : Slot ids masks i) (small :
       let long : length places ≡ n = sym (length-map places (λ (place : ℕ). sat id place)) ∙ slot .count ∙ sym many in
       ap galileos (pick-map (λ (place : ℕ). sat id place) (spell 64 c) places)
       ∙ system-galileos id (pick (spell 64 c) places)
-      ∙ ap (λ (k : ℕ). cond (eqb id 2) 1 0 * k) (picked c places small (omega (arith, slot .few, slot .count)) ∙ ap (λ (k : ℕ). ones (c / 2 ^ (64 - k))) long)
+      ∙ ap (λ (k : ℕ). galileo id * k) (picked c places small (omega (arith, slot .few, slot .count)) ∙ ap (λ (k : ℕ). ones (c / 2 ^ (64 - k))) long)
 
   pub slot-galileos : galileos (pick (spell 64 c) (fromSlot ids masks i))
-      ≡ cond (eqb (getD ids i 0) 2) 1 0 * ones (c / 2 ^ (64 - n)) + galileos (pick (spell 64 (c * 2 ^ n % 2 ^ 64)) (fromSlot ids masks (suc i)))
+      ≡ galileo (getD ids i 0) * ones (c / 2 ^ (64 - n)) + galileos (pick (spell 64 (c * 2 ^ n % 2 ^ 64)) (fromSlot ids masks (suc i)))
   unfolding galileos
   slot-galileos =
       let both = pick-split c n (inSlot ids masks i) (fromSlot ids masks (suc i)) (slot .count ∙ sym many) (omega (arith, slot .few, slot .count)) in
@@ -111,7 +134,7 @@ longer-width i [] = omega (arith, zero-mul (shapeWidth (shapeAt i 0)), zero-mul 
 longer-width i (s ∷ sats) =
     let width : ℕ = shapeWidth (shapeAt i 0) in
     let more : ℕ = shapeWidth (shapeAt i 2) - width in
-    omega (arith, width-by i (s .system) _ refl, longer-width i sats, suc-mul (length sats) width, add-mul (cond (eqb (s .system) 2) 1 0) (galileos sats) more)
+    omega (arith, width-by i (s .system) _ refl, longer-width i sats, suc-mul (length sats) width, add-mul (galileo (s .system)) (galileos sats) more)
 
 pub satellites-longer : (i c n width wide longer : ℕ) (sats : List Satellite) → c < 2 ^ 64 → length sats ≡ n → n ≤ 64 → width ≡ shapeWidth (shapeAt i 0) → wide ≡ shapeWidth (shapeAt i 2)
     → longer ≡ galileos (pick (spell 64 c) sats)

@@ -15,9 +15,13 @@ use Rattle.body.specs.declared.Satellite.{Satellite as CodeSatellite}
 abbrev pub satelliteOf : CodeSatellite → Satellite
 satelliteOf sat = record { system = sat .system; number = sat .number }
 
+-- one for Galileo's ID, none for another's
+abbrev pub galileo : ℕ → ℕ
+galileo id = cond (eqb id 2) 1 0
+
 -- how many are Galileo's
 unfoldable pub galileos : List Satellite → ℕ
-galileos sats = total (λ sat. cond (eqb (sat .system) 2) 1 0) sats
+galileos sats = total (λ sat. galileo (sat .system)) sats
 
 -- one for each satellite
 unfoldable pub alone : (ℕ → List Column) → List Satellite → List (List Line)

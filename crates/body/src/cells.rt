@@ -67,18 +67,17 @@ fn slot(id: u8, word: u64, strips: &[u16], wanted: Wanted, bytes: &[u8], rows: &
     let mut k = 0;
     let mut place = wanted.at;
     while left > 0 {
-        let number = set_places::first(left) + 1;
-        let strip = strips[n] as u64;
-        let mark = marks;
-        left = set_places::rest(left);
-        marks = marks << 1;
-        n += 1;
-        if mark >= FIRST {
+        if marks >= FIRST {
+            let number = set_places::first(left) + 1;
+            let strip = strips[n] as u64;
             let sat = Satellite { system: id, number };
             let end = satellite(sat, strip << 48, s, bytes, place, &mut rows[k..]);
             k += end.filled;
             place = end.at;
         }
+        left = set_places::rest(left);
+        marks = marks << 1;
+        n += 1;
     }
     let end = End {
         filled: k,

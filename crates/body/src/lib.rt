@@ -135,7 +135,8 @@ pub fn fill(
         whole::fill(ids, masks, strips, placed, bytes, rows);
         return;
     }
-    let rest = tail::tail(bytes, at / 8);
+    let mut rest = [0u8; tail::COPY];
+    tail::copy(&mut rest, bytes, at / 8);
     let mut moved = placed;
     moved.at = at % 8;
     whole::fill(ids, masks, strips, moved, &rest, rows)

@@ -3,10 +3,11 @@ ghost use mathlib.Core.Path.{_≡_};
 ghost use mathlib.Core.Bool.{true};
 ghost use Prim.Native.Nat.{_-_, _*_, _/_, _^_, _≤_, _<_};
 ghost use lib.Count.{ones};
-ghost use lib.ListN.{length};
+ghost use lib.ListN.{length, drop};
 ghost use Rattle.bits.specs.BitLists.{spell};
-ghost use Rattle.body.specs.Chosen.{galileos, alone, chosenLines};
+ghost use Rattle.body.specs.Chosen.{galileo, galileos, alone, chosenLines};
 ghost use Rattle.body.specs.Written.{numbersAt, Room, Handed, Counts};
+ghost use Rattle.format.specs.Lengths.{total};
 ghost use Rattle.format.specs.Masks.{pick};
 ghost use Rattle.format.specs.Reading.{over};
 ghost use Rattle.format.specs.Rows.{shapeWidth};
@@ -120,6 +121,21 @@ pub fn size_alike(n: usize, width: usize, chosen: u64) -> Extent
     alike(picked(chosen, n), width)
 }
 
+// How many slots there are up to the last one of Galileo, none where it has none: their IDs are seen sooner than the
+// satellites of a slot are counted.
+fn up_to_galileo(ids: &[u8]) -> usize
+    ensures { λ r. ⌜ (r ≤ length (now (ids .entry))) × (total galileo (drop r (now (ids .entry))) ≡ 0) ⌝ }
+{
+    let mut n = ids.len();
+    while n > 0 {
+        if ids[n - 1] == shapes::GALILEO {
+            return n;
+        }
+        n -= 1;
+    }
+    n
+}
+
 // How many satellites of Galileo are chosen.
 fn galileo(ids: &[u8], masks: &[u64], chosen: u64) -> usize
     requires { ⌜ (length (now ids) ≤ length (now masks)) × (narrow 40 (now masks) ≡ true) × (length (slotSatellites (now ids) (now masks)) ≤ 64) ⌝ }
@@ -127,8 +143,9 @@ fn galileo(ids: &[u8], masks: &[u64], chosen: u64) -> usize
 {
     let mut marks = chosen;
     let mut sum = 0;
+    let end = up_to_galileo(ids);
     let mut i = 0;
-    while i < ids.len() {
+    while i < end {
         let n = set_places::count(masks[i]);
         if ids[i] == shapes::GALILEO {
             sum += picked(marks, n);

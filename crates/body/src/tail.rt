@@ -1,7 +1,7 @@
 // What a string has from a byte on, with zeros behind it.
 ghost use mathlib.Core.Path.{_≡_};
 ghost use Prim.Native.Nat.{ℕ, _+_, _^_, _≤_, _<_};
-ghost use lib.ListN.{getD};
+ghost use lib.ListN.{getD, replicate};
 
 // The smaller of two numbers.
 fn least(a: usize, b: usize) -> usize
@@ -13,13 +13,13 @@ fn least(a: usize, b: usize) -> usize
 // So many bytes hold every body from its first byte on, and the windows behind it.
 pub const COPY: usize = 584;
 
-pub fn tail(bytes: &[u8], from: usize) -> [u8; COPY]
-    requires { ⌜ from < 2 ^ 32 ⌝ }
-    ensures { λ r. ⌜ ((i : ℕ) → i < 584 → getD r i 0 ≡ getD (now (bytes .entry)) (from + i) 0) ⌝ }
+// Into an array of zeros that is lent: one by value is copied twice on its way to the caller.
+pub fn copy(rest: &mut [u8], bytes: &[u8], from: usize)
+    requires { ⌜ (now rest ≡ replicate 584 0) × (from < 2 ^ 32) ⌝ }
+    ensures { λ _. ⌜ ((i : ℕ) → i < 584 → getD (now (rest .exit)) i 0 ≡ getD (now (bytes .entry)) (from + i) 0) ⌝ }
 {
-    let mut rest = [0u8; COPY];
     if bytes.len() <= from {
-        return rest;
+        return;
     }
     let n = least(bytes.len() - from, COPY);
     let mut i = 0;
@@ -27,5 +27,4 @@ pub fn tail(bytes: &[u8], from: usize) -> [u8; COPY]
         rest[i] = bytes[from + i];
         i += 1;
     }
-    rest
 }

@@ -1,6 +1,6 @@
 -- `body::satellites::galileo` meets its contract. The loop's invariant: with those of the slots that are left it is the whole.
 -- Assumes nothing.
-use mathlib.Core.Path.{_≡_, ap, _∙_}
+use mathlib.Core.Path.{_≡_}
 use mathlib.Core.Bool.{Bool, true, false, cond}
 use mathlib.Core.List.{List}
 use mathlib.Core.Logic.{⊎-elim}
@@ -12,14 +12,13 @@ use borrow.Author.Needs.{needs}
 use borrow.Author.Tests.{eq-eqb, ne-eqb}
 use lib.Count.{ones}
 use lib.Dec.{eqb}
-use lib.ListN.{length, getD}
+use lib.ListN.{getD, drop}
 use Rattle.bits.specs.BitLists.{spell}
-use Rattle.format.proofs.Picks.{pick-few, pick-nil}
-use Rattle.format.specs.Lengths.{total}
-use Rattle.format.specs.Masks.{Satellite, pick}
+use Rattle.format.proofs.Picks.{pick-few}
+use Rattle.format.specs.Masks.{pick}
 use Rattle.body.specs.Chosen.{galileos}
-use Rattle.body.proofs.Sizes.{few-galileos, slot-galileos}
-use Rattle.body.proofs.Slots.{fromSlot, Slot, slot-at, no-slot}
+use Rattle.body.proofs.Sizes.{few-galileos, slot-galileos, no-galileos}
+use Rattle.body.proofs.Slots.{fromSlot, Slot, slot-at}
 use Rattle.body.proofs.satellites.galileo.Statement.{statement}
 use Rattle.body.proofs.satellites.galileo.Tie as tie
 
@@ -28,20 +27,22 @@ abbrev from : List ℕ → List ℕ → ℕ → ℕ → ℕ
 from ids masks marks i = galileos (pick (spell 64 marks) (fromSlot ids masks i))
 
 abbrev Inv-loop : tie.InvT-loop
-Inv-loop ids masks chosen marks₀ sum₀ i₀ marks sum i = (marks < 2 ^ 64) × (sum + from ids masks marks i ≡ from ids masks chosen 0)
+Inv-loop ids masks chosen marks₀ sum₀ end i₀ marks sum i = (marks < 2 ^ 64) × (sum + from ids masks marks i ≡ from ids masks chosen 0) × (i ≤ end)
 
 abbrev μ-loop : tie.MeasureT-loop
-μ-loop ids masks chosen marks₀ sum₀ i₀ marks sum i = length ids - i
+μ-loop ids masks chosen marks₀ sum₀ end i₀ marks sum i = end - i
 
-slot : (c : tie.In-loop Inv-loop μ-loop) → let x = c .before .before .before .before .args in Slot (x .ids .now) (x .masks .now) (c .before .loop .i)
-slot c = let s = c .before .before .before .before in slot-at _ _ (c .before .loop .i) (s .pre .0) (s .pre .1) (c .loop-test .taken)
+slot : (c : tie.In-loop Inv-loop μ-loop) → let x = c .before .before .before .before .before .args in Slot (x .ids .now) (x .masks .now) (c .before .loop .i)
+slot c =
+    let s = c .before .before .before .before .before in
+    slot-at _ _ (c .before .loop .i) (s .pre .0) (s .pre .1) (omega (arith, c .loop-test .taken, c .before .before .up-to-galileo .ensures .0))
 
 module _ (c : tie.After-shared-slice-known4 Inv-loop μ-loop) where
   abbrev p : tie.In-loop Inv-loop μ-loop
   p = c .before .before .before
 
   abbrev s : tie.Start Inv-loop μ-loop
-  s = p .before .before .before .before
+  s = p .before .before .before .before .before
 
   abbrev marks : ℕ
   marks = p .before .loop .marks
@@ -72,18 +73,20 @@ loop-again c =
     rw (add-one (l .i)) (
       mod-lt _ (omega arith),
       ⊎-elim (λ w. omega (arith, l .inv .1, next q true (eq-eqb _ 2 (w .0 .taken)), w .1 .ensures, w .2)) (λ w. omega (arith, l .inv .1, next q false (ne-eqb _ 2 (w .0 .left)), w .1)) (c .if1 .came),
+      p q .loop-test .taken,
     )
 
 returns : tie.Need-returns Inv-loop μ-loop
-unfolding galileos total
 returns c =
-    let x = c .before .before .before .before .args in
+    let x = c .before .before .before .before .before .args in
     let l = c .before .loop in
-    let gone = ap (λ (sats : List Satellite). galileos (pick (spell 64 (l .marks)) sats)) (no-slot (x .ids .now) (x .masks .now) (l .i) (omega arith)) ∙ ap galileos (pick-nil (spell 64 (l .marks))) in
+    let up = c .before .before .up-to-galileo in
+    let last : l .i ≡ up .result = omega (arith, l .inv .2, c .loop-test .left) in
+    let gone = no-galileos (drop (l .i) (x .ids .now)) (drop (l .i) (x .masks .now)) (spell 64 (l .marks)) (rw last (up .ensures .1)) in
     omega (arith, l .inv .1, gone)
 
 pub galileo-spec : {M : Type 1} → statement M
 galileo-spec =
     tie.close
-    (tie.spec Inv-loop μ-loop (λ c. (omega arith, omega arith)) (λ c. omega (arith, slot c .inside)) (λ c. slot (c .before) .inside) (λ c κs. search needs)
+    (tie.spec Inv-loop μ-loop (λ c κs. search needs) (λ c. (omega arith, omega arith, omega arith)) (λ c. omega (arith, slot c .inside)) (λ c. slot (c .before) .inside) (λ c κs. search needs)
     (λ c. search needs) (λ c κs. omega (arith, few (c .before))) add-sum (λ c. omega (arith, few (c .before))) (λ c. omega arith) (λ c. omega arith) loop-again returns)
