@@ -14,7 +14,6 @@ use heads::OPENING;
 use holding::Holding;
 use reader::Verdict;
 use reader::message::Found;
-use reader::message::adopted;
 
 // A place, and how many messages and rows were handed out before it.
 pub struct Tally {
@@ -76,9 +75,8 @@ fn on(holding: Holding, bytes: &[u8], end: usize, rows: &mut [i32]) -> Halt
                 holding: held,
             };
         }
-        let reading = adopted(held, bytes, end, here.place + OPENING);
-        let answer = reading.answer;
-        held = reading.holding;
+        let adoption = adoption::adopt(bytes, end, here.place + OPENING);
+        let answer = adoption.answer;
         let Answer::Message(_, next, _) = answer else {
             return Halt {
                 stop: answer,
@@ -86,6 +84,7 @@ fn on(holding: Holding, bytes: &[u8], end: usize, rows: &mut [i32]) -> Halt
                 holding: held,
             };
         };
+        held = held.adopt(adoption.holding);
         tally = Tally {
             place: next,
             messages: here.messages + 1,
