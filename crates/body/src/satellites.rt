@@ -52,16 +52,15 @@ fn slot(id: u8, word: u64, wanted: Wanted, bytes: &[u8], rows: &mut [i32]) -> Pa
     let mut k = 0;
     let mut place = wanted.at;
     while left > 0 {
-        let number = set_places::first(left) + 1;
-        let mark = marks;
-        left = set_places::rest(left);
-        marks = marks << 1;
-        if mark >= FIRST {
+        if marks >= FIRST {
+            let number = set_places::first(left) + 1;
             let e = k + 8;
             row::satellite(&mut rows[k..e], id, number as i32, bytes, place, s);
             k = e;
             place += width;
         }
+        left = set_places::rest(left);
+        marks = marks << 1;
     }
     let end = End {
         filled: k,

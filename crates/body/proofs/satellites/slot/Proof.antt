@@ -2,14 +2,15 @@
 -- come. Assumes nothing.
 use mathlib.Core.Path.{_≡_, refl, _∙_}
 use mathlib.Core.List.{List, _∷_, []}
-use Prim.Native.Nat.{ℕ, suc, _+_, _*_, _%_, _^_, _<_}
+use mathlib.Core.Logic.{⊎-elim}
+use Prim.Native.Nat.{ℕ, suc, _+_, _-_, _*_, _%_, _^_, _≤_, _<_}
 use native.Mathlib.Omega.{arith}
 use borrow.Author.Needs.{needs}
 use lib.Count.{leadingZeros}
 use lib.IntN.{pos}
+use lib.ListN.{length}
 use Rattle.format.specs.Messages.{satelliteLines}
 use Rattle.format.specs.Rows.{Column, Line, absent}
-use Rattle.holding.proofs.Places.{next-place}
 use Rattle.holding.specs.Held.{satellitesIn}
 use Rattle.rows.specs.Shapes.{columnsIn}
 use Rattle.body.specs.Chosen.{alone, chosenLines}
@@ -28,18 +29,15 @@ Inv-loop id word bytes rows₀ s width left₀ marks₀ k₀ place₀ rows left 
 abbrev μ-loop : tie.MeasureT-loop
 μ-loop id word bytes rows₀ s width left₀ marks₀ k₀ place₀ rows left marks k place = left
 
-add-number : tie.Need-add-number Inv-loop μ-loop
-add-number c = omega (arith, next-place (c .before .before .loop .left) (c .before .loop-test .taken) (c .before .before .loop .inv .0) .0)
-
-module _ (c : tie.After-rest Inv-loop μ-loop) where
+module _ (c : tie.In-loop Inv-loop μ-loop) where
   abbrev start : tie.Start Inv-loop μ-loop
-  start = c .before .before .before .before .before .before .before
+  start = c .before .before .before .before .before
 
   abbrev id : ℕ
   id = start .args .id
 
   abbrev left : ℕ
-  left = c .before .before .before .loop .left
+  left = c .before .loop .left
 
   abbrev columns : ℕ → List Column
   columns = columnsIn (start .args .wanted .shape)
@@ -48,42 +46,59 @@ module _ (c : tie.After-rest Inv-loop μ-loop) where
   abbrev line : Line
   line = record { keys = pos id ∷ pos (suc (leadingZeros 64 left)) ∷ absent ∷ []; shape = columns id }
 
-  abbrev behind : List (List Line)
-  behind = alone columns (satellitesIn 64 id (c .rest .result))
+  module _ (rest : ℕ) (e : rest ≡ left - 2 ^ (63 - leadingZeros 64 left)) where
+    abbrev behind : List (List Line)
+    behind = alone columns (satellitesIn 64 id rest)
 
-  fewer : Next left (c .rest .result)
-  fewer = next left (c .rest .result) (c .before .before .loop-test .taken) (c .before .before .before .loop .inv .0) (c .rest .ensures)
+    fewer : Next left rest
+    fewer = next left rest (c .loop-test .taken) (c .before .loop .inv .0) e
 
-  all-left : alone columns (satellitesIn 64 id left) ≡ (line ∷ []) ∷ behind
-  unfolding satelliteLines
-  all-left = alone-next columns _ _ (next-in left (c .rest .result) (c .before .before .loop-test .taken) (c .before .before .before .loop .inv .0) (c .rest .ensures) id)
+    all-left : alone columns (satellitesIn 64 id left) ≡ (line ∷ []) ∷ behind
+    unfolding satelliteLines
+    all-left = alone-next columns _ _ (next-in left rest (c .loop-test .taken) (c .before .loop .inv .0) e id)
 
 -- it is chosen
-row : (c : tie.Then1 Inv-loop μ-loop)
+row : (c : tie.Then1 Inv-loop μ-loop) (rest : ℕ)
     → let r = c .before in
     let x = start r .args in
-    let s = r .before .before .before .loop in
-    Row (x .bytes .now) (chosenLines (x .wanted .chosen) (alone (columns r) (satellitesIn 64 (id r) (x .word)))) (x .wanted .at) (x .rows .now) (line r) (chosenLines (s .marks * 2 ^ 1 % 2 ^ 64) (behind r)) (s .k) (s .place) (s .rows)
-row c =
+    let s = r .before .loop in
+    (e : rest ≡ left r - 2 ^ (63 - leadingZeros 64 (left r)))
+    → Row (x .bytes .now) (chosenLines (x .wanted .chosen) (alone (columns r) (satellitesIn 64 (id r) (x .word)))) (x .wanted .at) (x .rows .now) (line r) (chosenLines (s .marks * 2 ^ 1 % 2 ^ 64) (behind r rest e)) (s .k) (s .place) (s .rows)
+row c rest e =
     let r = c .before in
-    going-row (line r) _ refl (five-in _ (id r)) (walk-here (r .before .before .before .loop .inv .1) _ _ (all-left r) (omega (arith, c .if1 .taken)))
+    going-row (line r) _ refl (five-in _ (id r)) (walk-here (r .before .loop .inv .1) _ _ (all-left r rest e) (omega (arith, c .if1 .taken)))
+
+room : (c : tie.After-first Inv-loop μ-loop) → let s = c .before .before .before .loop in s .k + 8 ≤ length (s .rows)
+room c = row (c .before) _ refl .room
+
+near : (c : tie.After-first Inv-loop μ-loop) → c .first .result + 1 < 2 ^ 31
+near c = omega (arith, fewer (c .before .before) _ refl .inside, c .first .ensures)
 
 satellite-requires : tie.Need-satellite-requires Inv-loop μ-loop
 satellite-requires c κs =
-    let r = c .before .before in
-    let x = start r in
-    let w = row (c .before) in
+    let t = c .before .before in
+    let x = start (t .before) in
+    let w = row t _ refl in
     (w .part, omega (arith, w .near), x .pre .0, x .pre .1, omega (arith, w .whole))
+
+add-place : tie.Need-add-place Inv-loop μ-loop
+add-place c =
+    let t = c .before .before .before .before in
+    omega (arith, row t _ refl .near, t .before .before .before .width .ensures)
 
 loop-again : tie.Need-loop-again Inv-loop μ-loop
 loop-again c =
-    let r = c .before .before .before .before in
-    let number = key (r .before .first .result + 1) (suc (leadingZeros 64 (left r))) (omega (arith, fewer r .inside, r .before .first .ensures)) (omega (arith, r .before .first .ensures)) in
-    let w = row (c .before .before .before) in
-    (omega (arith, fewer r .fewer), walk-on (r .before .before .before .loop .inv .1) _ _ (all-left r) (w .written _ _ (r .before .before .before .before .width .ensures) (c .before .satellite .ensures ∙ keyed _ refl number refl)))
-
-loop-again-2 : tie.Need-loop-again-2 Inv-loop μ-loop
-loop-again-2 c = let r = c .before in (omega (arith, fewer r .fewer), walk-past (r .before .before .before .loop .inv .1) _ _ (all-left r) (omega (arith, c .if1 .left)))
+    let r = c .before .before in
+    let w = r .before .loop .inv .1 in
+    let e = c .rest .ensures in (
+      omega (arith, fewer r _ e .fewer, r .before .loop .inv .0),
+      ⊎-elim
+          (λ t.
+          let f : tie.After-first Inv-loop μ-loop = record { before = record { before = r; if1 = t .0 }; first = t .1 } in
+          let number = key (f .first .result + 1) (suc (leadingZeros 64 (left r))) (near f) (omega (arith, f .first .ensures)) in
+          rw (t .5, t .6, t .7) (walk-on w _ _ (all-left r _ e) (row (f .before) _ e .written _ _ (r .before .before .width .ensures) (t .3 .ensures ∙ keyed _ refl number refl))))
+          (λ t. rw (t .1, t .2, t .3) (walk-past w _ _ (all-left r _ e) (omega (arith, t .0 .left)))) (c .before .if1 .came),
+    )
 
 returns : tie.Need-returns Inv-loop μ-loop
 returns c =
@@ -94,9 +109,6 @@ pub slot-spec : {M : Type 1} → statement M
 slot-spec =
     tie.close
     (tie.spec Inv-loop μ-loop (λ c κs. c .before .before .pre .0)
-    (λ c. (omega arith, walk-start (omega arith) (c .before .before .before .pre .2))) (λ c κs. search needs) add-number (λ c κs. search needs)
-    (λ c. omega (arith, row c .room)) (λ c. omega (arith, row c .room)) (λ c. omega arith) (λ c. search needs) (λ c. row c .room)
-    (λ c. record { sfits = omega (arith, fewer (c .before .before) .inside, c .before .before .before .first .ensures) }) satellite-requires
-    (λ c. let r = c .before .before .before .before in omega (arith, row (c .before .before .before) .near, r .before .before .before .before .width .ensures))
-    (λ c. fewer (c .before .before .before .before) .fewer) loop-again (λ c. fewer (c .before) .fewer) loop-again-2
-    (λ c. c .before .loop .inv .1 .going .same) returns)
+    (λ c. (omega arith, walk-start (omega arith) (c .before .before .before .pre .2))) (λ c κs. search needs) (λ c. omega (arith, near c))
+    (λ c. omega (arith, room c)) (λ c. omega (arith, room c)) (λ c. omega arith) (λ c. search needs) room (λ c. record { sfits = near (c .before) }) satellite-requires
+    add-place (λ c κs. search needs) (λ c. fewer (c .before .before) _ (c .rest .ensures) .fewer) loop-again (λ c. c .before .loop .inv .1 .going .same) returns)
