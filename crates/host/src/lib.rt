@@ -22,7 +22,6 @@ use format::Refusal;
 use heads::OPENING;
 use holding::Holding;
 use reader::message::Found;
-use reader::message::adopted;
 
 // What a reading hands out: the answer's number, the place after the message or the start asked for, the row
 // count, where the raw part begins and how many bytes it has, the head.
@@ -133,10 +132,10 @@ fn adopt(holding: &mut [u8], held: Holding, bytes: &[u8], end: usize, place: usi
     ensures { λ r. ⌜ r ≡ answerOf (adoptedBy (maskOf held) place (run maskMessage (bitsFrom (now (bytes .entry)) end place))) ⌝ }
     ensures { λ _. ⌜ now (holding .exit) ≡ bytesAfter (lentAfter (adoptedBy (maskOf held) place (run maskMessage (bitsFrom (now (bytes .entry)) end place)))) (now (holding .entry)) ⌝ }
 {
-    let reading = adopted(held, bytes, end, place);
-    let answer = reading.answer;
-    let after = reading.holding;
+    let adoption = adoption::adopt(bytes, end, place);
+    let answer = adoption.answer;
     if let Answer::Message(_, _, _) = answer {
+        let after = held.adopt(adoption.holding);
         passing::give::holding_over(holding, after);
     }
     answer

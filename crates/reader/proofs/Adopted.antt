@@ -20,6 +20,11 @@ use Rattle.reader.specs.Readings.{structOf, readingOf}
 use Rattle.reader.proofs.Lents.{kept}
 
 module _ (h : Holding) (fine : sound h ≡ true) (place : ℕ) {a : Adoption} where
+  pub adopted-answer : (e : Ended Adopted) → a ≡ adoptionBy (later place e) → a .answer ≡ answerOf (adoptedBy (maskOf h) place e)
+  unfolding adoptionBy later answerOf adoptedBy
+  adopted-answer (well d taken) is = rw is
+  adopted-answer (badly r missing) is = rw is
+
   -- accepted, it is what is held
   pub adopted-new : (e : Ended Adopted) → a ≡ adoptionBy (later place e) → tagOf the-type (a .answer) ≡ 0
       → _≡_ {A = Reading} (record { answer = a .answer; holding = a .holding }) (readingOf h (adoptedBy (maskOf h) place e))

@@ -1,6 +1,8 @@
 -- `host::adopt` meets its contract. Assumes nothing.
 use mathlib.Core.Path.{_≡_, sym, ap, _∙_}
+use native.Mathlib.Omega.{arith}
 use borrow.Author.Needs.{needs}
+use Rattle.format.specs.Ends.{endFrom}
 use Rattle.format.specs.Masks.{Lent}
 use Rattle.format.specs.Messages.{maskMessage}
 use Rattle.format.specs.Programs.{run}
@@ -14,45 +16,57 @@ use Rattle.host.proofs.Outcomes.{after-sound, after-bytes, adopted-stay
 use Rattle.host.proofs.adopt.Statement.{statement}
 use Rattle.host.proofs.adopt.Tie as tie
 use Rattle.passing.specs.Passing.{bytesOf}
+use Rattle.reader.proofs.Adopted.{adopted-answer, adopted-new}
 use Rattle.reader.specs.declared.Reading.{Reading}
 use Rattle.reader.specs.Readings.{structOf, readingOf}
 
-module _ (c : tie.After-adopted) where
+module _ (c : tie.After-adopt) where
   abbrev s : tie.Start
   s = c .before .before .before
 
   abbrev outcome : Outcome
   outcome = adoptedBy (maskOf (s .args .held)) (s .args .place) (run maskMessage (bitsFrom (s .args .bytes .now) (s .args .end) (s .args .place)))
 
-  answered : c .adopted .result .answer ≡ answerOf outcome
-  unfolding readingOf
-  answered = ap (λ (r : Reading). r .answer) (c .adopted .ensures)
+  answered : c .adopt .result .answer ≡ answerOf outcome
+  unfolding endFrom
+  answered = adopted-answer (s .args .held) (s .pre .3) (s .args .place) _ (c .adopt .ensures)
 
-  after : c .adopted .result .holding ≡ structOf (s .args .held) (lentAfter outcome)
-  unfolding readingOf
-  after = ap (λ (r : Reading). r .holding) (c .adopted .ensures)
+adopt-requires : tie.Need-adopt-requires
+adopt-requires c κs =
+    let p = c .before .before .pre in
+    record { inside = p .0; short = omega (arith, p .1); room = p .2 }
+
+-- accepted: the holding made is what is held
+module _ (c : tie.After-adopt2) where
+  abbrev a : tie.After-adopt
+  a = c .before .before .before
+
+  after : c .adopt2 .result ≡ structOf (s a .args .held) (lentAfter (outcome a))
+  unfolding endFrom readingOf
+  after = c .adopt2 .ensures ∙ ap (λ (r : Reading). r .holding) (adopted-new (s a .args .held) (s a .pre .3) (s a .args .place) _ (a .adopt .ensures) (c .before .before .match .keys1))
 
 holding-over-requires : tie.Need-holding-over-requires
 holding-over-requires c κs =
-    let a = c .before .before .before .before in
-    (s a .pre .4, ap sound (after a) ∙ after-sound (s a .args .held) (lentAfter (outcome a)) (s a .pre .6))
+    let d = c .before in
+    (s (a d) .pre .4, ap sound (after d) ∙ after-sound (s (a d) .args .held) (lentAfter (outcome (a d))) (s (a d) .pre .6))
 
 returns : tie.Need-returns
 returns c =
     let o = c .before .before in
-    let a = o .before .before .before .before .before in
-    let hb = s a .args .holding .now in (
-      answered a,
-      o .holding-over .ensures ∙ ap (λ (h : Holding). over (bytesOf h) hb) (after a) ∙ after-bytes (s a .args .held) (lentAfter (outcome a)) hb (s a .pre .6),
+    let d = o .before .before in
+    let x = s (a d) .args in
+    let hb = x .holding .now in (
+      answered (a d),
+      o .holding-over .ensures ∙ ap (λ (h : Holding). over (bytesOf h) hb) (after d) ∙ after-bytes (x .held) (lentAfter (outcome (a d))) hb (s (a d) .pre .6),
     )
 
 returns-2 : tie.Need-returns-2
 unfolding bytesAfter
 returns-2 c =
-    let a = c .before .before in
+    let a = c .before in
     let x = s a .args in
     let stays = adopted-stays (maskOf (x .held)) (x .place) _ (rw (answered a) at (c .match .keys2)) in
     (answered a, sym (ap (λ (l : Lent). bytesAfter l (x .holding .now)) stays ∙ ap (λ (h : Holding). over (bytesOf h) (x .holding .now)) (sounds (x .held) (s a .pre .3) .picture) ∙ s a .pre .5))
 
 pub adopt-spec : {M : Type 1} → statement M
-adopt-spec = tie.close (tie.spec (λ c κs. search needs) (λ c. search needs) holding-over-requires (λ c. search needs) returns returns-2)
+adopt-spec = tie.close (tie.spec adopt-requires (λ c. search needs) (λ c κs. search needs) holding-over-requires (λ c. search needs) returns returns-2)
