@@ -12,7 +12,7 @@ use denote.Ref.{RefT, now, ptr}
 use Rattle.bits.specs.Parts.{partOf, IsPart}
 use Rattle.format.specs.declared.Answer.{Answer}
 use Rattle.format.specs.declared.Answer.the-variants as Answers
-use Rattle.format.specs.Good.{isHolding}
+use Rattle.format.specs.Good.{good, isHolding}
 use Rattle.format.specs.Masks.{Held, mask, Lent, stray, lent}
 use Rattle.format.specs.Messages.{Adopted, maskType, maskMessage}
 use Rattle.format.specs.Programs.{Ended, well, badly, run}
@@ -20,7 +20,7 @@ use Rattle.format.specs.Reading.{Outcome, accepted, idle, refused, lentAfter, a
 use Rattle.format.specs.Table.{Message}
 use Rattle.heads.specs.Sorting.{adoptedBy}
 use Rattle.format.proofs.Answer.{the-type}
-use Rattle.format.proofs.Makes.{mask-spelled}
+use Rattle.format.proofs.Makes.{makes-good, mask-spelled}
 use Rattle.format.proofs.Stops.{Stopped, stop-holds}
 use Rattle.bits.proofs.Windows.{Bytes}
 use Rattle.holding.specs.declared.Holding.{Holding}
@@ -49,7 +49,15 @@ unfolding isHolding structOf bytesAfter
 after-bytes h stray hb e = absurd (let z : _≡_ {A = ℕ} 0 1 = cc in omega arith)
 after-bytes h (lent held) hb e = refl
 
--- ---- a mask that is refused leaves what was lent
+-- ---- a mask that is adopted is good; one that is refused leaves what was lent
+
+pub adopted-good : (held : Held) → good held ≡ true → (place : ℕ) (l : List Bool) → isHolding (lentAfter (adoptedBy held place (run maskMessage l))) ≡ true
+unfolding adoptedBy lentAfter isHolding
+adopted-good held fine place l = go (run maskMessage l) refl
+  where
+    go : (e : Ended Adopted) → run maskMessage l ≡ e → isHolding (lentAfter (adoptedBy held place e)) ≡ true
+    go (well d taken) ran = makes-good .gives l d taken ran
+    go (badly r missing) ran = fine
 
 pub adopted-stays : (held : Held) (place : ℕ) (e : Ended Adopted)
     → (tagOf the-type (answerOf (adoptedBy held place e)) ≡ 1) ⊎ (tagOf the-type (answerOf (adoptedBy held place e)) ≡ 2) → lentAfter (adoptedBy held place e) ≡ lent held

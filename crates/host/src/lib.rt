@@ -5,10 +5,10 @@ ghost use Prim.Native.Nat.{_*_, _≤_};
 ghost use lib.ListN.{length};
 ghost use Rattle.bits.specs.Parts.{startOf, countOf};
 ghost use Rattle.format.specs.Answers.{numberOf};
-ghost use Rattle.format.specs.Good.{isHolding};
+ghost use Rattle.format.specs.Ends.{Within};
 ghost use Rattle.format.specs.Messages.{maskMessage};
 ghost use Rattle.format.specs.Programs.{run};
-ghost use Rattle.format.specs.Reading.{stretchLimit, bitsFrom, lentAfter, answerOf, over, rowsAfter};
+ghost use Rattle.format.specs.Reading.{bitsFrom, lentAfter, answerOf, over, rowsAfter};
 ghost use Rattle.heads.specs.Sorting.{adoptedBy};
 ghost use Rattle.holding.specs.Pictures.{maskOf, sound};
 ghost use Rattle.passing.specs.Passing.{size, bytesOf};
@@ -128,7 +128,7 @@ fn hand(answer: Answer, start: usize) -> Handed
 
 // Adopts the mask message behind its number and sub type: where it is accepted, the holding's bytes are the mask's.
 fn adopt(holding: &mut [u8], held: Holding, bytes: &[u8], end: usize, place: usize) -> Answer
-    requires { ⌜ (end ≤ 8 * length (now bytes)) × (end ≤ stretchLimit) × (place ≤ end) × (sound held ≡ true) × (size ≤ length (now holding)) × (over (bytesOf held) (now holding) ≡ now holding) × (isHolding (lentAfter (adoptedBy (maskOf held) place (run maskMessage (bitsFrom (now bytes) end place)))) ≡ true) ⌝ }
+    requires { ⌜ Within (now bytes) end place × (sound held ≡ true) × (size ≤ length (now holding)) × (over (bytesOf held) (now holding) ≡ now holding) ⌝ }
     ensures { λ r. ⌜ r ≡ answerOf (adoptedBy (maskOf held) place (run maskMessage (bitsFrom (now (bytes .entry)) end place))) ⌝ }
     ensures { λ _. ⌜ now (holding .exit) ≡ bytesAfter (lentAfter (adoptedBy (maskOf held) place (run maskMessage (bitsFrom (now (bytes .entry)) end place)))) (now (holding .entry)) ⌝ }
 {

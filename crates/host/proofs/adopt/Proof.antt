@@ -1,8 +1,9 @@
 -- `host::adopt` meets its contract. Assumes nothing.
 use mathlib.Core.Path.{_≡_, sym, ap, _∙_}
-use native.Mathlib.Omega.{arith}
+use mathlib.Core.Bool.{true}
 use borrow.Author.Needs.{needs}
 use Rattle.format.specs.Ends.{endFrom}
+use Rattle.format.specs.Good.{isHolding}
 use Rattle.format.specs.Masks.{Lent}
 use Rattle.format.specs.Messages.{maskMessage}
 use Rattle.format.specs.Programs.{run}
@@ -12,7 +13,7 @@ use Rattle.holding.specs.declared.Holding.{Holding}
 use Rattle.holding.specs.Pictures.{maskOf, sound}
 use Rattle.holding.proofs.Sounds.{sounds}
 use Rattle.host.specs.Handing.{bytesAfter}
-use Rattle.host.proofs.Outcomes.{after-sound, after-bytes, adopted-stays}
+use Rattle.host.proofs.Outcomes.{after-sound, after-bytes, adopted-good, adopted-stays}
 use Rattle.host.proofs.adopt.Statement.{statement}
 use Rattle.host.proofs.adopt.Tie as tie
 use Rattle.passing.specs.Passing.{bytesOf}
@@ -29,12 +30,10 @@ module _ (c : tie.After-adopt) where
 
   answered : c .adopt .result .answer ≡ answerOf outcome
   unfolding endFrom
-  answered = adopted-answer (s .args .held) (s .pre .3) (s .args .place) _ (c .adopt .ensures)
+  answered = adopted-answer (s .args .held) (s .pre .1) (s .args .place) _ (c .adopt .ensures)
 
-adopt-requires : tie.Need-adopt-requires
-adopt-requires c κs =
-    let p = c .before .before .pre in
-    record { inside = p .0; short = omega (arith, p .1); room = p .2 }
+  good : isHolding (lentAfter outcome) ≡ true
+  good = adopted-good (maskOf (s .args .held)) (sounds (s .args .held) (s .pre .1) .good-held) (s .args .place) _
 
 -- accepted: the holding made is what is held
 module _ (c : tie.After-adopt2) where
@@ -43,12 +42,12 @@ module _ (c : tie.After-adopt2) where
 
   after : c .adopt2 .result ≡ structOf (s a .args .held) (lentAfter (outcome a))
   unfolding endFrom readingOf
-  after = c .adopt2 .ensures ∙ ap (λ (r : Reading). r .holding) (adopted-new (s a .args .held) (s a .pre .3) (s a .args .place) _ (a .adopt .ensures) (c .before .before .match .keys1))
+  after = c .adopt2 .ensures ∙ ap (λ (r : Reading). r .holding) (adopted-new (s a .args .held) (s a .pre .1) (s a .args .place) _ (a .adopt .ensures) (c .before .before .match .keys1))
 
 holding-over-requires : tie.Need-holding-over-requires
 holding-over-requires c κs =
     let d = c .before in
-    (s (a d) .pre .4, ap sound (after d) ∙ after-sound (s (a d) .args .held) (lentAfter (outcome (a d))) (s (a d) .pre .6))
+    (s (a d) .pre .2, ap sound (after d) ∙ after-sound (s (a d) .args .held) (lentAfter (outcome (a d))) (good (a d)))
 
 returns : tie.Need-returns
 returns c =
@@ -57,7 +56,7 @@ returns c =
     let x = s (a d) .args in
     let hb = x .holding .now in (
       answered (a d),
-      o .holding-over .ensures ∙ ap (λ (h : Holding). over (bytesOf h) hb) (after d) ∙ after-bytes (x .held) (lentAfter (outcome (a d))) hb (s (a d) .pre .6),
+      o .holding-over .ensures ∙ ap (λ (h : Holding). over (bytesOf h) hb) (after d) ∙ after-bytes (x .held) (lentAfter (outcome (a d))) hb (good (a d)),
     )
 
 returns-2 : tie.Need-returns-2
@@ -66,7 +65,7 @@ returns-2 c =
     let a = c .before in
     let x = s a .args in
     let stays = adopted-stays (maskOf (x .held)) (x .place) _ (rw (answered a) at (c .match .keys2)) in
-    (answered a, sym (ap (λ (l : Lent). bytesAfter l (x .holding .now)) stays ∙ ap (λ (h : Holding). over (bytesOf h) (x .holding .now)) (sounds (x .held) (s a .pre .3) .picture) ∙ s a .pre .5))
+    (answered a, sym (ap (λ (l : Lent). bytesAfter l (x .holding .now)) stays ∙ ap (λ (h : Holding). over (bytesOf h) (x .holding .now)) (sounds (x .held) (s a .pre .1) .picture) ∙ s a .pre .3))
 
 pub adopt-spec : {M : Type 1} → statement M
-adopt-spec = tie.close (tie.spec adopt-requires (λ c. search needs) (λ c κs. search needs) holding-over-requires (λ c. search needs) returns returns-2)
+adopt-spec = tie.close (tie.spec (λ c κs. search needs) (λ c. search needs) (λ c κs. search needs) holding-over-requires (λ c. search needs) returns returns-2)

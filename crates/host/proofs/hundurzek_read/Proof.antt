@@ -1,6 +1,5 @@
 -- `host::hundurzek_read` meets its contract. Assumes nothing.
 use mathlib.Core.Path.{_≡_, sym, ap, _∙_}
-use mathlib.Core.Bool.{true}
 use mathlib.Core.List.{List}
 use Prim.Native.Nat.{ℕ, _+_}
 use native.Mathlib.Omega.{arith}
@@ -8,22 +7,19 @@ use lib.ListN.{length}
 use borrow.Author.Needs.{needs}
 use denote.Enum.Declared.{tagOf}
 use Rattle.bits.proofs.Windows.{Bytes}
-use Rattle.format.specs.Good.{isHolding}
 use Rattle.format.specs.Messages.{maskMessage}
 use Rattle.format.specs.Programs.{run}
 use Rattle.format.specs.Reading.{Outcome, bitsFrom, lentAfter, answerOf, over, rowsAfter}
 use Rattle.heads.specs.Sorting.{adoptedBy}
 use Rattle.holding.specs.declared.Holding.{Holding}
 use Rattle.holding.specs.Pictures.{maskOf, sound}
-use Rattle.format.proofs.HeldGood.{reading-good}
 use Rattle.host.specs.Handing.{bytesAfter, hostOutcome}
 use Rattle.host.proofs.Outcomes.{bytes-pass, hand-outcome, sought-bytes}
 use Rattle.host.proofs.hundurzek_read.Statement.{statement}
 use Rattle.host.proofs.hundurzek_read.Tie as tie
 use Rattle.passing.specs.Passing.{bytesOf, holdingIn}
 use Rattle.passing.proofs.Returns.{bytes-return}
-use Rattle.reader.specs.Readings.{lentBy, outcomeAt, soughtAt}
-use Rattle.reader.proofs.Lents.{is-holding}
+use Rattle.reader.specs.Readings.{soughtAt}
 use Rattle.reader.proofs.message.Found.{the-type}
 use Rattle.reader.proofs.Sought.{SoughtMask, sought-mask, sought-answer}
 
@@ -77,22 +73,15 @@ module _ (c : tie.After-enum-told) where
   unfolding hostOutcome
   adopts = ap adoptedUnder same ∙ sym (found .reads ∙ found .found .adopts)
 
-  good : isHolding (lentAfter (outcome k)) ≡ true
-  unfolding hostOutcome outcomeAt
-  good = reading-good (lentBy (holdingIn (lent k))) (s k .args .bytes .now) (s k .args .end) (s k .args .start) (s k .args .rows .now) (is-holding (holdingIn (lent k)) ∙ found .fine .held)
-
 adopt-requires : tie.Need-adopt-requires
 adopt-requires c κs =
     let e = c .before in
     let hb = lent (k e) in
     let f = found e in (
-      f .fine .inside .lent,
-      f .fine .inside .limit,
-      f .found .room,
+      record { inside = f .fine .inside .lent; short = omega (arith, f .fine .inside .limit); room = f .found .room },
       ap sound (same e) ∙ f .fine .held,
       bytes-pass hb (f .fine .held),
       ap (λ (h : Holding). over (bytesOf h) hb) (same e) ∙ bytes-return hb (small (k e)) (f .fine .held),
-      ap (λ (o : Outcome). isHolding (lentAfter o)) (adopts e) ∙ good e,
     )
 
 returns-2 : tie.Need-returns-2
