@@ -168,7 +168,7 @@ pub extern "C" fn hundurzek_read(
     ensures { λ _. ⌜ now (rows .exit) ≡ rowsAfter (hostOutcome (now (holding .entry)) (now (bytes .entry)) end start (now (rows .entry))) (now (rows .entry)) ⌝ }
 {
     let held = passing::take::holding_in(holding);
-    let found = walk::seek(held, bytes, end, start, rows);
+    let found = walk::single::seek(held, bytes, end, start, rows);
     match found {
         Found::Answered(answer) => hand(answer, start),
         Found::Mask => hand(adopt(holding, held, bytes, end, start + OPENING), start),

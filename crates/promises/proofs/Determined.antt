@@ -48,11 +48,11 @@ adopt-determined = says _ _ _ λ κs args x v p. (p, refl)
 -- ---- reader
 
 -- reading one message: the answer with the holding, and the row buffer
-pub read-determined : Determined reader.read.Kinds.ps reader.read.Kinds.r reader.read.Reads.Learnt
+pub read-determined : Determined walk.single.read.Kinds.ps walk.single.read.Kinds.r walk.single.read.Reads.Learnt
 read-determined = says _ _ _ λ κs args x v p. (p .0, λ i. (tt, (tt, (tt, (tt, (p .1 i, tt))))))
 
 -- the same where a mask is left to be adopted: what is found, and the row buffer
-pub seek-determined : Determined walk.seek.Kinds.ps walk.seek.Kinds.r walk.seek.Reads.Learnt
+pub seek-determined : Determined walk.single.seek.Kinds.ps walk.single.seek.Kinds.r walk.single.seek.Reads.Learnt
 seek-determined = says _ _ _ λ κs args x v p. (p .0, λ i. (tt, (tt, (tt, (tt, (p .1 i, tt))))))
 
 -- "the message's raw bytes as a part of the caller's own stretch"

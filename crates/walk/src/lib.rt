@@ -1,11 +1,9 @@
 // The walk over a stretch (document 01): single readings from place 0 on, each going on where the one before
 // ended, until idle or a refusal.
+pub mod single;
 pub mod under;
 
 ghost use mathlib.Core.Path.{_≡_};
-ghost use lib.ListN.{length};
-ghost use Rattle.format.specs.Reading.{rowsAfter};
-ghost use Rattle.reader.specs.Readings.{outcomeAt, soughtAt};
 ghost use Rattle.walk.specs.Standing.{standFirst, Stands, walkedFrom, rowsFrom};
 ghost use Rattle.walk.specs.Walks.{walkAt, walkedOf};
 use crate::under::under;
@@ -35,26 +33,6 @@ const START: Tally = Tally {
     messages: 0,
     rows: 0,
 };
-
-// Reads the message at a place, unless it is a mask: that is left to be adopted, so that no holding is handed on where
-// none changes. The row buffer gets a message's rows first and keeps its old numbers after them; a stop changes nothing.
-pub fn seek(holding: Holding, bytes: &[u8], end: usize, start: usize, rows: &mut [i32]) -> Found
-    ensures { λ r. ⌜ r ≡ soughtAt holding (now (bytes .entry)) end start (length (now (rows .entry))) ⌝ }
-    ensures { λ _. ⌜ now (rows .exit) ≡ rowsAfter (outcomeAt holding (now (bytes .entry)) end start (now (rows .entry))) (now (rows .entry)) ⌝ }
-{
-    let room = rows.len();
-    let verdict = reader::tested(holding, bytes, end, start, room);
-    if let Verdict::Refused(r) = verdict {
-        return Found::Answered(Answer::Refused(r, 0));
-    }
-    let from = Tally {
-        place: start,
-        messages: 0,
-        rows: 0,
-    };
-    let pause = under(holding, bytes, end, from, true, rows);
-    pause.found
-}
 
 // From mask to mask, all that is lent being good.
 fn on(holding: Holding, bytes: &[u8], end: usize, rows: &mut [i32]) -> Halt

@@ -1,4 +1,4 @@
--- `walk::seek` meets its contract. Assumes nothing.
+-- `walk::single::seek` meets its contract. Assumes nothing.
 use mathlib.Core.Path.{_≡_, _∙_, sym, ap}
 use borrow.Author.Needs.{needs}
 use lib.ListN.{length}
@@ -8,8 +8,8 @@ use Rattle.reader.specs.Readings.{testsOf, testedBy, soughtBy}
 use Rattle.reader.proofs.Sought.{refused-lent, good-lent, good-reads}
 use Rattle.walk.specs.Standing.{standAt, Once, CameBy}
 use Rattle.walk.proofs.Begins.{begin}
-use Rattle.walk.proofs.seek.Statement.{statement}
-use Rattle.walk.proofs.seek.Tie as tie
+use Rattle.walk.proofs.single.seek.Statement.{statement}
+use Rattle.walk.proofs.single.seek.Tie as tie
 
 returns : tie.Need-returns
 unfolding soughtBy

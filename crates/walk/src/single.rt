@@ -1,0 +1,47 @@
+// Reading one message (document 01, "Reader's order"): 1, 2, 12, then idle or the message itself. It is the first step of
+// a walk, so that one loop serves both.
+ghost use mathlib.Core.Path.{_≡_};
+ghost use lib.ListN.{length};
+ghost use Rattle.format.specs.Reading.{rowsAfter};
+ghost use Rattle.reader.specs.Readings.{readingOf, outcomeAt, soughtAt};
+use crate::Tally;
+use crate::under::under;
+use format::Answer;
+use heads::OPENING;
+use holding::Holding;
+use reader::Reading;
+use reader::Verdict;
+use reader::message::Found;
+use reader::message::adopted;
+
+// Reads the message at a place, unless it is a mask: that is left to be adopted, so that no holding is handed on where
+// none changes. The row buffer gets a message's rows first and keeps its old numbers after them; a stop changes nothing.
+pub fn seek(holding: Holding, bytes: &[u8], end: usize, start: usize, rows: &mut [i32]) -> Found
+    ensures { λ r. ⌜ r ≡ soughtAt holding (now (bytes .entry)) end start (length (now (rows .entry))) ⌝ }
+    ensures { λ _. ⌜ now (rows .exit) ≡ rowsAfter (outcomeAt holding (now (bytes .entry)) end start (now (rows .entry))) (now (rows .entry)) ⌝ }
+{
+    let room = rows.len();
+    let verdict = reader::tested(holding, bytes, end, start, room);
+    if let Verdict::Refused(r) = verdict {
+        return Found::Answered(Answer::Refused(r, 0));
+    }
+    let from = Tally {
+        place: start,
+        messages: 0,
+        rows: 0,
+    };
+    let pause = under(holding, bytes, end, from, true, rows);
+    pause.found
+}
+
+// Reads the message at a place, a mask too.
+pub fn read(holding: Holding, bytes: &[u8], end: usize, start: usize, rows: &mut [i32]) -> Reading
+    ensures { λ r. ⌜ r ≡ readingOf holding (outcomeAt holding (now (bytes .entry)) end start (now (rows .entry))) ⌝ }
+    ensures { λ _. ⌜ now (rows .exit) ≡ rowsAfter (outcomeAt holding (now (bytes .entry)) end start (now (rows .entry))) (now (rows .entry)) ⌝ }
+{
+    let found = seek(holding, bytes, end, start, rows);
+    match found {
+        Found::Mask => adopted(holding, bytes, end, start + OPENING),
+        Found::Answered(answer) => Reading { answer, holding },
+    }
+}
