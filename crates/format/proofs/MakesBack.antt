@@ -167,14 +167,6 @@ own-names m e = names-after [] (m .systems) refl (and-true (ltb (m .iod) 16) _ e
 pub few-systems : (m : Mask) → good (mask m) ≡ true → length (m .systems) ≤ 5
 few-systems m e = omega (arith, own-names m e, count-le (λ id. named id (idsOf (m .systems))))
 
--- and where an ID is not named yet, there is room for its system
-pub room-for : (m : Mask) (id : ℕ) → good (mask m) ≡ true → known id ≡ true → named id (idsOf (m .systems)) ≡ false → length (m .systems) < 5
-unfolding known
-room-for m id e small new =
-    let s : System = record { id = id; satellites = []; signals = []; flag = false; cells = [] } in
-    let more = names-more (m .systems) s (omega (arith, leb-true id 4 small)) new in
-    omega (arith, own-names m e, more, count-le (λ id. named id (idsOf (m .systems ++ (s ∷ [])))))
-
 -- ---- a good mask
 
 -- the bits that it spells are read to it
