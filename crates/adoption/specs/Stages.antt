@@ -26,9 +26,10 @@ use Rattle.heads.specs.Headings.{headWith}
 
 -- ---- the ID
 
-unfoldable pub endNamed : Named → Ended ℕ
-endNamed (Named.Fine id next) = well id next
-endNamed (Named.Refused r missing) = badly r missing
+-- at a place
+unfoldable pub endNamed : ℕ → Named → Ended ℕ
+endNamed place (Named.Fine id) = well id (place + 4)
+endNamed place (Named.Refused r missing) = badly r missing
 
 -- ---- the masks
 

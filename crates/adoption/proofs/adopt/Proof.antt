@@ -1,9 +1,10 @@
 -- `adoption::adopt` meets its contract. Assumes nothing.
-use mathlib.Core.Path.{_≡_, refl, sym, ap, subst, _∙_}
+use mathlib.Core.Path.{sym, ap, _∙_}
 use mathlib.Core.List.{List}
 use Prim.Native.Nat.{ℕ}
 use native.Mathlib.Omega.{arith}
 use borrow.Author.Needs.{needs}
+use Rattle.adoption.proofs.StageEnds.{opens-at}
 use Rattle.adoption.specs.Adoptions.{adoptionBy}
 use Rattle.adoption.specs.declared.Adoption.{Adoption}
 use Rattle.adoption.specs.Stages.{withSystems, afterCommonHead}
@@ -24,7 +25,7 @@ module _ (c : tie.After-front-at) where
   bs = c .before .before .args .bytes .now
 
   opens : Opens bs (c .front-at .result)
-  opens = subst (Opens bs) (sym (c .front-at .ensures)) (record { within = c .before .before .pre; bits = refl })
+  opens = opens-at (c .before .before .pre) (c .front-at .ensures)
 
   abbrev answer : Front → Adoption
   answer f = adoptionBy (endFrom maskMessage bs (f .end) (f .start))
