@@ -10,9 +10,9 @@ ghost use Rattle.bits.specs.BitLists.{spell};
 ghost use Rattle.format.specs.Messages.{systemId, systemMasks, systemSignals};
 ghost use Rattle.heads.specs.Fronts.{Opens, Opened};
 use bits::read::Taken;
-use bits::read::take_field;
 use format::Refusal;
 use heads::Front;
+use heads::front_at;
 use heads::taken;
 use holding::Holding;
 use holding::assigned;
@@ -49,26 +49,27 @@ pub fn read_id(ids: &[u8], count: usize, f: Front) -> Named
     }
 }
 
-// The satellite and the signal mask, and the place after them; or the refusal and how many bits were missing.
+// The satellite and the signal mask, and the front that begins with the latter; or the refusal and how many bits were
+// missing.
 pub enum Masked {
-    Fine(u64, u16, usize),
+    Fine(u64, u16, Front),
     Refused(Refusal, usize),
 }
 
-// The signal mask at a place, after a satellite mask.
-fn read_signals(id: u8, satellites: u64, bytes: &[u8], end: usize, place: usize) -> Masked
-    requires { ⌜ (id < 5) × (satellites < 2 ^ 40) × Within (now bytes) end place ⌝ }
-    ensures { λ r. ⌜ endMasked r ≡ endFrom (systemSignals id (spell 40 satellites)) (now (bytes .entry)) end place ⌝ }
-    ensures { λ r. ⌜ FitsMasked r ⌝ }
+// The signal mask at a front, after a satellite mask.
+fn read_signals(id: u8, satellites: u64, f: Front) -> Masked
+    requires { ⌜ (id < 5) × (satellites < 2 ^ 40) × Opened f ⌝ }
+    ensures { λ r. ⌜ ((bs : List ℕ) → Opens bs f → endMasked r ≡ endFrom (systemSignals id (spell 40 satellites)) bs (f .end) (f .start)) ⌝ }
+    ensures { λ r. ⌜ ((bs : List ℕ) → Opens bs f → FitsMasked bs (f .end) r) ⌝ }
 {
-    let taken = take_field(bytes, end, place, Holding::SIGNAL_MASK);
+    let taken = taken(f, 0, Holding::SIGNAL_MASK);
     match taken {
         Taken::Short(missing) => Masked::Refused(Refusal::Short, missing),
         Taken::Whole(signals) => {
             if !assigned::signals_assigned(id as usize, signals) {
                 return Masked::Refused(Refusal::Reserved, 0);
             }
-            Masked::Fine(satellites, signals as u16, place + Holding::SIGNAL_MASK)
+            Masked::Fine(satellites, signals as u16, f)
         }
     }
 }
@@ -77,7 +78,7 @@ fn read_signals(id: u8, satellites: u64, bytes: &[u8], end: usize, place: usize)
 pub fn read_masks(n: usize, id: u8, f: Front, bytes: &[u8]) -> Masked
     requires { ⌜ (n ≤ 64) × (id < 5) × Within (now bytes) (f .end) (f .start + 4) × Opens (now bytes) f ⌝ }
     ensures { λ r. ⌜ endMasked r ≡ endFrom (systemMasks n id) (now (bytes .entry)) (f .end) (f .start + 4) ⌝ }
-    ensures { λ r. ⌜ FitsMasked r ⌝ }
+    ensures { λ r. ⌜ FitsMasked (now (bytes .entry)) (f .end) r ⌝ }
 {
     let taken = taken(f, ID, Holding::SATELLITE_MASK);
     match taken {
@@ -90,7 +91,7 @@ pub fn read_masks(n: usize, id: u8, f: Front, bytes: &[u8]) -> Masked
                 return Masked::Refused(Refusal::Size, 0);
             }
             let at = f.start + ID + Holding::SATELLITE_MASK;
-            read_signals(id, satellites, bytes, f.end, at)
+            read_signals(id, satellites, front_at(bytes, f.end, at))
         }
     }
 }

@@ -40,13 +40,13 @@ fn read_system(
         Named::Refused(r, missing) => System::Refused(r, missing),
         Named::Fine(id) => match stages::read_masks(nsat, id, f, bytes) {
             Masked::Refused(r, missing) => System::Refused(r, missing),
-            Masked::Fine(satellites, signals, at) => {
+            Masked::Fine(satellites, signals, next) => {
                 let masks = Masks {
                     id,
                     satellites,
                     signals,
                 };
-                cells::read_flag(masks, bytes, f.end, at)
+                cells::read_flag(masks, next)
             }
         },
     }

@@ -15,7 +15,7 @@ use Rattle.format.proofs.Sames.{and-true}
 use Rattle.format.specs.Assigned.{known}
 use Rattle.format.specs.Ends.{Within, endFrom}
 use Rattle.format.specs.Masks.{System}
-use Rattle.format.specs.Messages.{systemId, systemMasks}
+use Rattle.format.specs.Messages.{BothMasks, systemId, systemMasks}
 use Rattle.format.specs.Programs.{Program, _>>=_, Ended, well}
 use Rattle.heads.specs.declared.Front.{Front}
 use Rattle.heads.specs.Fronts.{Opens}
@@ -102,24 +102,36 @@ module _ (c : tie.After-known-told4) where
   abbrev sats : ℕ
   sats = c .before .satellites .given .0 .0
 
-  both : ends (t p) (systemMasks (s (t p) .args .nsat) (id p)) (next p) ≡ well (masksBy sats (c .before .satellites .given .0 .1 .0)) (c .before .satellites .given .0 .1 .1 .0)
+  abbrev g : Front
+  g = c .before .satellites .given .0 .1 .1 .0
+
+  abbrev masks : BothMasks
+  masks = masksBy sats (c .before .satellites .given .0 .1 .0)
+
+  both : ends (t p) (systemMasks (s (t p) .args .nsat) (id p)) (next p) ≡ well masks (g .start + 16)
   unfolding endMasked
   both = sym (c .before .before .before .read-masks .ensures .0) ∙ ap endMasked (c .before .satellites .given .1)
 
-  whole : sats < 2 ^ 40
+  fit : (sats < 2 ^ 40) × Opens (bs (t p)) g × (g .end ≡ f (t p) .end)
   unfolding FitsMasked
-  whole = rw (c .before .satellites .given .1) at (c .before .before .before .read-masks .ensures .1)
+  fit = rw (c .before .satellites .given .1) at (c .before .before .before .read-masks .ensures .1)
+
+  room : g .start + 16 ≤ g .end
+  room = omega (arith, fit .2, ended-at (there p) (systemMasks (s (t p) .args .nsat) (id p)) both)
 
   few : s (t p) .args .nsat + ones sats ≤ 64
-  few = rw (ones-places 40 sats 0 whole) (leb-true _ 64 (gave (there p) (systemMasks (s (t p) .args .nsat) (id p)) (masks-give (s (t p) .args .nsat) (id p)) both .1 .0 .few))
+  few = rw (ones-places 40 sats 0 (fit .0)) (leb-true _ 64 (gave (there p) (systemMasks (s (t p) .args .nsat) (id p)) (masks-give (s (t p) .args .nsat) (id p)) both .1 .0 .few))
 
 returns-3 : tie.Need-returns-3
 returns-3 c =
     let q = c .before in
-    (c .read-flag .ensures .0 ∙ sym (after (p q) ∙ then-well (there (p q)) (systemMasks (s (t (p q)) .args .nsat) (id (p q))) _ (both q)), masks-fit _ (s (t (p q)) .args .nsat) (c .read-flag .result) (c .read-flag .ensures .1) (whole q) (few q))
+    let t = t (p q) in
+    let n = s t .args .nsat in
+    let last = c .read-flag .ensures .0 (bs t) (fit q .1) ∙ ap (λ (e : ℕ). endFrom (withCells (id (p q)) (masks q)) (bs t) e (g q .start + 16)) (fit q .2) in
+    (last ∙ sym (after (p q) ∙ then-well (there (p q)) (systemMasks n (id (p q))) _ (both q)), masks-fit _ n (c .read-flag .result) (c .read-flag .ensures .1) (fit q .0) (few q))
 
 pub read-system-spec : {M : Type 1} → statement M
 read-system-spec =
     tie.close
     (tie.spec (λ c κs. search needs) (λ c κs. (search needs, record { bytes = bs c; opens = opens c })) (λ c. search needs) (λ c. search needs) (λ c κs. (search needs, new c, there c, opens (t c))) (λ c. search needs) (λ c. search needs)
-    (λ c κs. (whole c, ended-at (there (p c)) (systemMasks (s (t (p c)) .args .nsat) (id (p c))) (both c))) returns returns-2 returns-3)
+    (λ c κs. (fit c .0, record { bytes = _; opens = fit c .1 }, room c)) returns returns-2 returns-3)
