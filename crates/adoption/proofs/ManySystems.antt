@@ -1,15 +1,15 @@
 -- The systems of a mask message one after the other: what the code knows of the holding that it fills, and what one more system makes of it. Assumes nothing.
 use mathlib.Core.Path.{_≡_, refl, sym, ap, subst, _∙_}
 use mathlib.Core.Bool.{Bool, true, cond}
-use mathlib.Core.List.{List, [], _∷_, _++_, append-nil}
+use mathlib.Core.List.{List, [], _∷_, _++_, append-nil, flatMap}
 use Prim.Native.Nat.{ℕ, suc, _+_, _-_, _^_, _≤_, _<_}
 use native.Mathlib.Nat.{mod-eq-of-lt}
 use native.Mathlib.Omega.{arith}
 use borrow.Author.Tests.{lt-ltb, le-leb, lt-leb}
 use lib.Count.{ones}
 use lib.Dec.{leb, ltb}
-use lib.ListN.{length, take, set, replicate, length-append, length-map}
-use lib.Seq.{append-snoc, take-at, sets}
+use lib.ListN.{length, take, drop, set, replicate, length-append, length-map}
+use lib.Seq.{append-snoc, take-at, drop-at, sets}
 use Rattle.adoption.specs.Adoptions.{adoptionBy}
 use Rattle.adoption.specs.declared.Adoption.{Adoption}
 use Rattle.adoption.specs.declared.cells.Masks.{Masks}
@@ -31,7 +31,7 @@ use Rattle.format.specs.Masks.{System, Mask, mask, satellites, cells}
 use Rattle.format.specs.Messages.{idsOf, systemCells, flaggedCells, fewCells, system, systems}
 use Rattle.format.specs.Programs.{_>>=_, taking, numbered, well, badly}
 use Rattle.holding.proofs.Built.{few-systems, cells-with, system-built}
-use Rattle.holding.proofs.PicturedStrips.{length-strips}
+use Rattle.holding.proofs.PicturedStrips.{picture-strips, length-strips}
 use Rattle.holding.proofs.Places.{ones-places}
 use Rattle.holding.proofs.Sounds.{Sounds, picture-sounds}
 use Rattle.holding.specs.Building.{onesIn, withStrips, withSystem}
@@ -114,6 +114,15 @@ module _ {head : Head} {bs : List ℕ} {end : ℕ} {all : Adoption} {h : Holding
       let ids : h .ids ≡ named ++ rest = ap (λ (g : Holding). g .ids) (sym (s .held .picture)) in
       let long : length named ≡ h .count = length-map (s .m .systems) _ ∙ sym count-is in
       (omega (arith, s .held .few-systems, s .held .shaped .ids), ap (take (h .count)) ids ∙ take-at named rest (h .count) long)
+
+  -- the strips are zero past those of the satellites so far
+  pub strips-left : drop (h .nsat) (h .strips) ≡ replicate (64 - h .nsat) 0
+  unfolding pictureOf filled satellitesHeld
+  strips-left =
+      let used = flatMap stripsOf (s .m .systems) in
+      let strips : h .strips ≡ used ++ replicate (64 - length used) 0 = ap (λ (g : Holding). g .strips) (sym (s .held .picture)) in
+      let long : length used ≡ h .nsat = picture-strips (s .m .systems) ∙ sym (s .held .nsat) in
+      ap (drop (h .nsat)) strips ∙ drop-at used (replicate (64 - length used) 0) (h .nsat) long ∙ ap (λ (n : ℕ). replicate (64 - n) 0) long
 
 -- ---- one more
 

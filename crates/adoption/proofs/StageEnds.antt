@@ -1,5 +1,5 @@
 -- Where the parts of a system end, by the fields that the code took and by their tests. Assumes nothing.
-use mathlib.Core.Path.{_≡_, _∙_}
+use mathlib.Core.Path.{_≡_, refl, sym, subst, _∙_}
 use mathlib.Core.Bool.{Bool, cond, not, _&&_}
 use mathlib.Core.List.{List}
 use Prim.Native.Nat.{ℕ, _+_, _-_, _*_, _^_, _≤_, _<_}
@@ -22,7 +22,13 @@ use Rattle.format.specs.declared.Refusal.the-variants as Refusal
 use Rattle.format.specs.Masks.{System, placesFrom}
 use Rattle.format.specs.Messages.{named, systemId, systemMasks, systemSignals, systemWith}
 use Rattle.format.specs.Programs.{Program, well, badly}
+use Rattle.heads.specs.declared.Front.{Front}
+use Rattle.heads.specs.Fronts.{frontAt, Opens}
 use Rattle.holding.proofs.Places.{ones-places}
+
+-- the front that was taken at a place
+pub opens-at : {bs : List ℕ} {end place : ℕ} → Within bs end place → {f : Front} → f ≡ frontAt bs end place → Opens bs f
+opens-at {bs} at is = subst (Opens bs) (sym is) (record { within = at; bits = refl })
 
 module _ {bs : List ℕ} {end place : ℕ} (at : Within bs end place) {n : ℕ} where
   pub id-end : (ids : List ℕ) → takenAt bs end place 4 ≡ Whole n

@@ -1,19 +1,19 @@
 -- The strips of a system: where each comes from, how many ones it has, and the array that they are stored in. Assumes nothing.
 use mathlib.Core.Path.{_≡_, refl, sym, ap, ap₂, _∙_}
 use mathlib.Core.Bool.{Bool, true, false}
-use mathlib.Core.List.{List, [], _∷_}
+use mathlib.Core.List.{List, [], _∷_, _++_, append-assoc}
 use Prim.Native.Nat.{ℕ, zero, suc, _+_, _-_, _*_, _/_, _%_, _^_, _≤_, _<_}
 use native.Mathlib.Nat.{le-of-suc-le-suc, suc-mul, mul-le-mul, add-comm, mod-eq-of-lt}
 use native.Mathlib.Omega.{arith}
 use lib.Count.{ones, ones-le}
-use lib.ListN.{length, take, drop, set, replicate, length-drop, length-set}
-use lib.Seq.{drop-drop, sets}
+use lib.ListN.{length, take, drop, set, replicate, length-drop, length-set, length-replicate, replicate-append-replicate, take-append-drop}
+use lib.Seq.{drop-at, drop-drop, sets, sets-eq}
 use Rattle.adoption.specs.declared.cells.Masks.{Masks}
 use Rattle.adoption.specs.declared.grow.Window.{Window}
 use Rattle.adoption.specs.Growing.{Sees}
 use Rattle.adoption.specs.Spreading.{stripOf}
 use Rattle.adoption.specs.Stages.{cellBits, systemAt}
-use Rattle.bits.proofs.BitLists.{number-spell, length-spell, length-bits}
+use Rattle.bits.proofs.BitLists.{number-spell, length-bits}
 use Rattle.bits.proofs.Bridge.{spell-field}
 use Rattle.bits.proofs.Windows.{in-window}
 use Rattle.bits.specs.BitLists.{number, spell, bits}
@@ -22,7 +22,6 @@ use Rattle.format.proofs.Runs.{drop-take}
 use Rattle.format.specs.Lengths.{total}
 use Rattle.format.specs.Masks.{placesFrom}
 use Rattle.holding.proofs.Places.{ones-places}
-use Rattle.holding.proofs.Spreads.{ones-spread}
 use Rattle.holding.specs.Building.{onesIn}
 use Rattle.holding.specs.Pictures.{stripsFrom, stripsOf}
 use Rattle.holding.specs.Spread.{spread}
@@ -111,12 +110,6 @@ module _ {all : List ℕ} (m : Masks) (is : all ≡ replicate (ones (m .satellit
   pub all-equal : replicate n (m .signals) ≡ all
   all-equal = ap (λ (k : ℕ). replicate k (m .signals)) sats ∙ sym is
 
--- a strip has as many as its bits
-pub strip-ones : (signals b : ℕ) → signals < 2 ^ 16 → b < 2 ^ ones signals → ones (stripOf signals b) ≡ ones b
-strip-ones signals b small few =
-    ones-spread (spell 16 signals) (spell (ones signals) b) (length-spell (ones signals) b ∙ ones-places 16 signals 0 small)
-    ∙ ap ones (number-spell (ones signals) b ∙ mod-eq-of-lt few)
-
 -- ---- an array filled with strips
 
 -- all strips, stored from the first place on, make what those left make from a later one on
@@ -128,6 +121,19 @@ pub record Filling (first : List ℕ) (from : ℕ) (all strips : List ℕ) (at :
 pub one-filled : {first : List ℕ} {from : ℕ} {all strips : List ℕ} {at strip : ℕ} {left : List ℕ}
     → Filling first from all strips at (strip ∷ left) → Filling first from all (set strips at strip) (suc at) left
 one-filled {strips = strips} {at = at} {strip = strip} f = record { same = f .same; room = length-set strips at strip ∙ f .room }
+
+-- zeros where there are zeros change nothing
+pub zeros-stay : (l : List ℕ) (from n k : ℕ) → drop from l ≡ replicate k 0 → n ≤ k → sets l from (replicate n 0) ≡ l
+zeros-stay l from zero k zeros few = refl
+zeros-stay l from (suc n) k zeros few =
+    let new : List ℕ = replicate (suc n) 0 in
+    let more : List ℕ = replicate (k - suc n) 0 in
+    let parts : suc n + (k - suc n) ≡ k = omega arith in
+    let e : drop from l ≡ new ++ more = zeros ∙ sym (replicate-append-replicate (suc n) (k - suc n) 0 ∙ ap (λ (i : ℕ). replicate i 0) parts) in
+    let long : length new ≡ suc n = length-replicate {A = ℕ} (suc n) 0 in
+    let rest : drop (from + suc n) l ≡ more = sym (drop-drop (suc n) from l) ∙ ap (drop (suc n)) e ∙ drop-at new more (suc n) long in
+    let room : length l - from ≡ k = sym (length-drop from l) ∙ ap length zeros ∙ length-replicate {A = ℕ} k 0 in
+    rw (sets-eq new l from (omega (arith, long)), long, rest, append-assoc, ← e) (take-append-drop from l)
 
 -- the strip of the field at the place comes first
 pub next-strip : (bs : List ℕ) (n at signals w : ℕ) → w ≡ ones signals → signals < 2 ^ 16 → at + w ≤ 8 * length bs

@@ -22,13 +22,15 @@ use Rattle.format.specs.Messages.{BothMasks, systemId, systemMasks, systemWith,
 use Rattle.format.specs.Programs.{Program, done, _>>=_, taking, numbered, Ended, well, badly}
 use Rattle.format.specs.Rows.{absent}
 use Rattle.heads.specs.declared.CommonHead.{CommonHead}
+use Rattle.heads.specs.Fronts.{Opens}
 use Rattle.heads.specs.Headings.{headWith}
 
 -- ---- the ID
 
-unfoldable pub endNamed : Named → Ended ℕ
-endNamed (Named.Fine id next) = well id next
-endNamed (Named.Refused r missing) = badly r missing
+-- at a place
+unfoldable pub endNamed : ℕ → Named → Ended ℕ
+endNamed place (Named.Fine id) = well id (place + 4)
+endNamed place (Named.Refused r missing) = badly r missing
 
 -- ---- the masks
 
@@ -37,13 +39,13 @@ abbrev pub masksBy : ℕ → ℕ → BothMasks
 masksBy sats signals = record { satellites = spell 40 sats; signals = spell 16 signals }
 
 unfoldable pub endMasked : Masked → Ended BothMasks
-endMasked (Masked.Fine sats signals next) = well (masksBy sats signals) next
+endMasked (Masked.Fine sats signals f) = well (masksBy sats signals) (f .start + 16)
 endMasked (Masked.Refused r missing) = badly r missing
 
--- no bit of the number is past the satellite mask's
-unfoldable pub FitsMasked : Masked → Type 0
-FitsMasked (Masked.Fine sats signals next) = sats < 2 ^ 40
-FitsMasked (Masked.Refused r missing) = Unit {0}
+-- no bit of the number is past the satellite mask's, and the front is one of this stretch
+unfoldable pub FitsMasked : List ℕ → ℕ → Masked → Type 0
+FitsMasked bs end (Masked.Fine sats signals f) = (sats < 2 ^ 40) × Opens bs f × (f .end ≡ end)
+FitsMasked bs end (Masked.Refused r missing) = Unit {0}
 
 -- ---- a system up to its cells, whose number is not yet tested
 

@@ -1,12 +1,16 @@
 // One system's cells up to its cell mask: the flag, and that the bits of the mask are there (document 01, "Message
 // layouts").
 ghost use mathlib.Core.Path.{_≡_};
-ghost use Prim.Native.Nat.{_^_, _<_};
+ghost use mathlib.Core.List.{List};
+ghost use Prim.Native.Nat.{ℕ, _+_, _^_, _≤_, _<_};
 ghost use Rattle.adoption.specs.Stages.{masksBy, cellBits, withCells, endSystem, HasMasks};
-ghost use Rattle.format.specs.Ends.{Within, endFrom};
+ghost use Rattle.format.specs.Ends.{endFrom};
+ghost use Rattle.heads.specs.Fronts.{Opens, Opened};
 use bits::read::Taken;
-use bits::read::take_field;
 use format::Refusal;
+use heads::Front;
+use heads::taken;
+use holding::Holding;
 use holding::set_places;
 
 // How many bits the flag has.
@@ -37,20 +41,20 @@ pub fn width(m: Masks, flag: bool) -> usize
     set_places::count(m.satellites) * set_places::count(m.signals as u64)
 }
 
-// The flag at a place, behind the masks.
-pub fn read_flag(m: Masks, bytes: &[u8], end: usize, place: usize) -> System
-    requires { ⌜ (m .satellites < 2 ^ 40) × Within (now bytes) end place ⌝ }
-    ensures { λ r. ⌜ endSystem (now (bytes .entry)) r ≡ endFrom (withCells (m .id) (masksBy (m .satellites) (m .signals))) (now (bytes .entry)) end place ⌝ }
+// The flag behind the signal mask, with which a front begins.
+pub fn read_flag(m: Masks, f: Front) -> System
+    requires { ⌜ (m .satellites < 2 ^ 40) × Opened f × (f .start + 16 ≤ f .end) ⌝ }
+    ensures { λ r. ⌜ ((bs : List ℕ) → Opens bs f → endSystem bs r ≡ endFrom (withCells (m .id) (masksBy (m .satellites) (m .signals))) bs (f .end) (f .start + 16)) ⌝ }
     ensures { λ r. ⌜ HasMasks m r ⌝ }
 {
-    let taken = take_field(bytes, end, place, FLAG);
+    let taken = taken(f, Holding::SIGNAL_MASK, FLAG);
     match taken {
         Taken::Short(missing) => System::Refused(Refusal::Short, missing),
         Taken::Whole(bit) => {
-            let at = place + FLAG;
+            let at = f.start + Holding::SIGNAL_MASK + FLAG;
             let flag = bit != 0;
             let cells = width(m, flag);
-            let left = end - at;
+            let left = f.end - at;
             if left < cells {
                 return System::Refused(Refusal::Short, cells - left);
             }

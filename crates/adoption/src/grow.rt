@@ -76,16 +76,17 @@ fn masked(
     while i < n {
         window = window_for(window, bytes, at, w);
         let bits = cut(window.bits, at - window.from, w);
-        strips[from + i] = table[(bits % 16) as usize] + spread_strip(four.rest, bits / 16);
-        sum += set_places::count(bits);
+        let cells = table[(bits % 16) as usize] + spread_strip(four.rest, bits / 16);
+        strips[from + i] = cells;
+        sum += set_places::count(cells as u64);
         at += w;
         i += 1;
     }
     sum
 }
 
-// The strips of a system, from a place of the array on, and how many cells they have: with the flag by the cell mask,
-// which stands at a place of the bytes; without it every signal counts.
+// The strips of a system, from a place on where the array is 0, and how many cells they have: with the flag by the cell
+// mask, which stands at a place of the bytes; without it every signal counts.
 pub fn strips(
     strips: &mut [u16; Holding::SATELLITES],
     from: usize,
@@ -94,7 +95,7 @@ pub fn strips(
     bytes: &[u8],
     place: usize,
 ) -> usize
-    requires { ⌜ (from + ones (m .satellites) ≤ 64) × (m .satellites < 2 ^ 40) × (place + cellBits m flag ≤ 8 * length (now bytes)) × (place < 2 ^ 32) ⌝ }
+    requires { ⌜ (from + ones (m .satellites) ≤ 64) × (m .satellites < 2 ^ 40) × (place + cellBits m flag ≤ 8 * length (now bytes)) × (place < 2 ^ 32) × (drop from (now strips) ≡ replicate (64 - from) 0) ⌝ }
     ensures { λ r. ⌜ (r ≡ onesIn (stripsOf (systemAt (now (bytes .entry)) m flag place))) × (r ≤ 1024) ⌝ }
     ensures { λ _. ⌜ now (strips .exit) ≡ sets (now (strips .entry)) from (stripsOf (systemAt (now (bytes .entry)) m flag place)) ⌝ }
 {
@@ -104,9 +105,8 @@ pub fn strips(
         equal(strips, from, n, m.signals);
         return n * w;
     }
-    // no bits to read
+    // no bits to read, and each strip is 0 as it was
     if m.signals == 0 {
-        equal(strips, from, n, m.signals);
         return n * w;
     }
     masked(strips, from, n, m.signals, bytes, place)

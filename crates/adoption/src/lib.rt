@@ -6,23 +6,28 @@ pub mod stages;
 pub mod systems;
 
 ghost use mathlib.Core.Path.{_≡_};
+ghost use mathlib.Core.List.{List};
+ghost use Prim.Native.Nat.{ℕ, _+_};
 ghost use Rattle.adoption.specs.Adoptions.{adoptionBy};
 ghost use Rattle.format.specs.Ends.{Within, endFrom};
 ghost use Rattle.adoption.specs.Stages.{afterCommonHead};
 ghost use Rattle.format.specs.Messages.{common, maskMessage};
 ghost use Rattle.format.specs.Programs.{badly};
+ghost use Rattle.heads.specs.Fronts.{Opens, Opened};
 ghost use Rattle.heads.specs.Heads.{Small, commonBy};
 use bits::read::Taken;
 use bits::read::Widths;
 use bits::read::short_by;
-use bits::read::take_field;
 use format::ABSENT;
 use format::Answer;
 use format::Refusal;
 use heads::CommonHead;
 use heads::CommonTaken;
+use heads::Front;
+use heads::front_at;
 use heads::heading;
 use heads::parted;
+use heads::taken;
 use holding::Holding;
 
 // A mask message: the answer to it, and the holding that it makes; an empty one where it is refused.
@@ -54,29 +59,31 @@ const HEAD: Widths = Widths {
     fourth: heads::ISSUE,
 };
 
-// A mask message's common head: as heads::common, whose copy for the other sub types is one of its own for speed.
-fn head(bytes: &[u8], end: usize, place: usize) -> CommonTaken
-    requires { ⌜ Within (now bytes) end place ⌝ }
-    ensures { λ r. ⌜ r ≡ commonBy (endFrom (common 20) (now (bytes .entry)) end place) ⌝ }
+// A mask message's common head, at its front: as heads::common, whose copy for the other sub types is one of its own for
+// speed.
+fn head(f: Front) -> CommonTaken
+    requires { ⌜ Opened f ⌝ }
+    ensures { λ r. ⌜ ((bs : List ℕ) → Opens bs f → r ≡ commonBy (endFrom (common 20) bs (f .end) (f .start))) ⌝ }
 {
-    let taken = take_field(bytes, end, place, COMMON);
+    let taken = taken(f, 0, COMMON);
     match taken {
         Taken::Whole(n) => CommonTaken::Whole(parted(n)),
-        Taken::Short(_) => CommonTaken::Short(short_by(HEAD, end - place)),
+        Taken::Short(_) => CommonTaken::Short(short_by(HEAD, f.end - f.start)),
     }
 }
 
 // A mask message from its number of systems on.
-fn after_head(h: CommonHead, bytes: &[u8], end: usize, place: usize) -> Adoption
-    requires { ⌜ Small h × Within (now bytes) end place ⌝ }
-    ensures { λ r. ⌜ r ≡ adoptionBy (endFrom (afterCommonHead h) (now (bytes .entry)) end place) ⌝ }
+fn after_head(h: CommonHead, f: Front, bytes: &[u8]) -> Adoption
+    requires { ⌜ Small h × Within (now bytes) (f .end) (f .start + 29) × Opens (now bytes) f ⌝ }
+    ensures { λ r. ⌜ r ≡ adoptionBy (endFrom (afterCommonHead h) (now (bytes .entry)) (f .end) (f .start + 29)) ⌝ }
 {
-    let taken = take_field(bytes, end, place, COUNT);
+    let taken = taken(f, COMMON, COUNT);
     match taken {
         Taken::Short(missing) => refused(Refusal::Short, missing),
         Taken::Whole(n) => {
             let numbers = heading::head(table::MASK, h, n as i32, ABSENT, ABSENT);
-            systems::all(h.iod as u8, numbers, bytes, end, place + COUNT, n as usize)
+            let at = f.start + COMMON + COUNT;
+            systems::all(h.iod as u8, numbers, bytes, f.end, at, n as usize)
         }
     }
 }
@@ -86,8 +93,9 @@ pub fn adopt(bytes: &[u8], end: usize, place: usize) -> Adoption
     requires { ⌜ Within (now bytes) end place ⌝ }
     ensures { λ r. ⌜ r ≡ adoptionBy (endFrom maskMessage (now (bytes .entry)) end place) ⌝ }
 {
-    match head(bytes, end, place) {
+    let f = front_at(bytes, end, place);
+    match head(f) {
         CommonTaken::Short(missing) => refused(Refusal::Short, missing),
-        CommonTaken::Whole(h) => after_head(h, bytes, end, place + COMMON),
+        CommonTaken::Whole(h) => after_head(h, f, bytes),
     }
 }

@@ -1,15 +1,19 @@
 // One system of a mask message up to its cells: its ID, then its masks, each refused at its point (document 01,
 // "Reader's order").
 ghost use mathlib.Core.Path.{_≡_};
-ghost use Prim.Native.Nat.{_^_, _≤_, _<_};
+ghost use mathlib.Core.List.{List};
+ghost use Prim.Native.Nat.{ℕ, _+_, _^_, _≤_, _<_};
 ghost use lib.ListN.{length, take};
 ghost use Rattle.format.specs.Ends.{Within, endFrom};
 ghost use Rattle.adoption.specs.Stages.{endNamed, endMasked, FitsMasked};
 ghost use Rattle.bits.specs.BitLists.{spell};
 ghost use Rattle.format.specs.Messages.{systemId, systemMasks, systemSignals};
+ghost use Rattle.heads.specs.Fronts.{Opens, Opened};
 use bits::read::Taken;
-use bits::read::take_field;
 use format::Refusal;
+use heads::Front;
+use heads::front_at;
+use heads::taken;
 use holding::Holding;
 use holding::assigned;
 use holding::named;
@@ -18,18 +22,18 @@ use holding::set_places;
 // How many bits an ID has.
 const ID: usize = 4;
 
-// An ID that is known and new, and the place after it; or the refusal and how many bits were missing.
+// An ID that is known and new; or the refusal and how many bits were missing.
 pub enum Named {
-    Fine(u8, usize),
+    Fine(u8),
     Refused(Refusal, usize),
 }
 
-// The ID at a place, after count others.
-pub fn read_id(ids: &[u8], count: usize, bytes: &[u8], end: usize, place: usize) -> Named
-    requires { ⌜ (count ≤ length (now ids)) × Within (now bytes) end place ⌝ }
-    ensures { λ r. ⌜ endNamed r ≡ endFrom (systemId (take count (now (ids .entry)))) (now (bytes .entry)) end place ⌝ }
+// The ID at a front, after count others.
+pub fn read_id(ids: &[u8], count: usize, f: Front) -> Named
+    requires { ⌜ (count ≤ length (now ids)) × Opened f ⌝ }
+    ensures { λ r. ⌜ ((bs : List ℕ) → Opens bs f → endNamed (f .start) r ≡ endFrom (systemId (take count (now (ids .entry)))) bs (f .end) (f .start)) ⌝ }
 {
-    let taken = take_field(bytes, end, place, ID);
+    let taken = taken(f, 0, ID);
     match taken {
         Taken::Short(missing) => Named::Refused(Refusal::Short, missing),
         Taken::Whole(n) => {
@@ -40,42 +44,43 @@ pub fn read_id(ids: &[u8], count: usize, bytes: &[u8], end: usize, place: usize)
             if named::named_in(ids, count, id) {
                 return Named::Refused(Refusal::System, 0);
             }
-            Named::Fine(id, place + ID)
+            Named::Fine(id)
         }
     }
 }
 
-// The satellite and the signal mask, and the place after them; or the refusal and how many bits were missing.
+// The satellite and the signal mask, and the front that begins with the latter; or the refusal and how many bits were
+// missing.
 pub enum Masked {
-    Fine(u64, u16, usize),
+    Fine(u64, u16, Front),
     Refused(Refusal, usize),
 }
 
-// The signal mask at a place, after a satellite mask.
-fn read_signals(id: u8, satellites: u64, bytes: &[u8], end: usize, place: usize) -> Masked
-    requires { ⌜ (id < 5) × (satellites < 2 ^ 40) × Within (now bytes) end place ⌝ }
-    ensures { λ r. ⌜ endMasked r ≡ endFrom (systemSignals id (spell 40 satellites)) (now (bytes .entry)) end place ⌝ }
-    ensures { λ r. ⌜ FitsMasked r ⌝ }
+// The signal mask at a front, after a satellite mask.
+fn read_signals(id: u8, satellites: u64, f: Front) -> Masked
+    requires { ⌜ (id < 5) × (satellites < 2 ^ 40) × Opened f ⌝ }
+    ensures { λ r. ⌜ ((bs : List ℕ) → Opens bs f → endMasked r ≡ endFrom (systemSignals id (spell 40 satellites)) bs (f .end) (f .start)) ⌝ }
+    ensures { λ r. ⌜ ((bs : List ℕ) → Opens bs f → FitsMasked bs (f .end) r) ⌝ }
 {
-    let taken = take_field(bytes, end, place, Holding::SIGNAL_MASK);
+    let taken = taken(f, 0, Holding::SIGNAL_MASK);
     match taken {
         Taken::Short(missing) => Masked::Refused(Refusal::Short, missing),
         Taken::Whole(signals) => {
             if !assigned::signals_assigned(id as usize, signals) {
                 return Masked::Refused(Refusal::Reserved, 0);
             }
-            Masked::Fine(satellites, signals as u16, place + Holding::SIGNAL_MASK)
+            Masked::Fine(satellites, signals as u16, f)
         }
     }
 }
 
-// The masks at a place, after n satellites of other systems.
-pub fn read_masks(n: usize, id: u8, bytes: &[u8], end: usize, place: usize) -> Masked
-    requires { ⌜ (n ≤ 64) × (id < 5) × Within (now bytes) end place ⌝ }
-    ensures { λ r. ⌜ endMasked r ≡ endFrom (systemMasks n id) (now (bytes .entry)) end place ⌝ }
-    ensures { λ r. ⌜ FitsMasked r ⌝ }
+// The masks behind the ID of a front, after n satellites of other systems.
+pub fn read_masks(n: usize, id: u8, f: Front, bytes: &[u8]) -> Masked
+    requires { ⌜ (n ≤ 64) × (id < 5) × Within (now bytes) (f .end) (f .start + 4) × Opens (now bytes) f ⌝ }
+    ensures { λ r. ⌜ endMasked r ≡ endFrom (systemMasks n id) (now (bytes .entry)) (f .end) (f .start + 4) ⌝ }
+    ensures { λ r. ⌜ FitsMasked (now (bytes .entry)) (f .end) r ⌝ }
 {
-    let taken = take_field(bytes, end, place, Holding::SATELLITE_MASK);
+    let taken = taken(f, ID, Holding::SATELLITE_MASK);
     match taken {
         Taken::Short(missing) => Masked::Refused(Refusal::Short, missing),
         Taken::Whole(satellites) => {
@@ -85,7 +90,8 @@ pub fn read_masks(n: usize, id: u8, bytes: &[u8], end: usize, place: usize) -> M
             if n + set_places::count(satellites) > Holding::SATELLITES {
                 return Masked::Refused(Refusal::Size, 0);
             }
-            read_signals(id, satellites, bytes, end, place + Holding::SATELLITE_MASK)
+            let at = f.start + ID + Holding::SATELLITE_MASK;
+            read_signals(id, satellites, front_at(bytes, f.end, at))
         }
     }
 }

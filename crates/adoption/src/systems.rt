@@ -18,6 +18,7 @@ use crate::stages::Named;
 use format::Answer;
 use format::Head;
 use format::Refusal;
+use heads::front_at;
 use holding::Holding;
 use holding::set_places;
 
@@ -34,17 +35,18 @@ fn read_system(
     ensures { λ r. ⌜ endSystem (now (bytes .entry)) r ≡ endFrom (untested (take count (now (ids .entry))) nsat) (now (bytes .entry)) end place ⌝ }
     ensures { λ r. ⌜ FitsSystem nsat r ⌝ }
 {
-    match stages::read_id(ids, count, bytes, end, place) {
+    let f = front_at(bytes, end, place);
+    match stages::read_id(ids, count, f) {
         Named::Refused(r, missing) => System::Refused(r, missing),
-        Named::Fine(id, next) => match stages::read_masks(nsat, id, bytes, end, next) {
+        Named::Fine(id) => match stages::read_masks(nsat, id, f, bytes) {
             Masked::Refused(r, missing) => System::Refused(r, missing),
-            Masked::Fine(satellites, signals, at) => {
+            Masked::Fine(satellites, signals, next) => {
                 let masks = Masks {
                     id,
                     satellites,
                     signals,
                 };
-                cells::read_flag(masks, bytes, end, at)
+                cells::read_flag(masks, next)
             }
         },
     }

@@ -1,39 +1,58 @@
 -- `adoption::adopt` meets its contract. Assumes nothing.
 use mathlib.Core.Path.{sym, ap, _∙_}
+use mathlib.Core.List.{List}
+use Prim.Native.Nat.{ℕ}
 use native.Mathlib.Omega.{arith}
 use borrow.Author.Needs.{needs}
+use Rattle.adoption.proofs.StageEnds.{opens-at}
 use Rattle.adoption.specs.Adoptions.{adoptionBy}
+use Rattle.adoption.specs.declared.Adoption.{Adoption}
 use Rattle.adoption.specs.Stages.{withSystems, afterCommonHead}
 use Rattle.format.proofs.Ends.{then-well, then-badly}
+use Rattle.format.specs.Ends.{endFrom}
 use Rattle.format.specs.Messages.{common, maskMessage}
 use Rattle.heads.proofs.Commons.{Read, common-whole, common-short}
+use Rattle.heads.specs.declared.Front.{Front}
+use Rattle.heads.specs.Fronts.{Opens}
 use Rattle.heads.specs.Headings.{headWith}
 use Rattle.heads.specs.Heads.{commonOf}
 use Rattle.adoption.proofs.adopt.Statement.{statement}
 use Rattle.adoption.proofs.adopt.Tie as tie
 
+-- the front is the message's
+module _ (c : tie.After-front-at) where
+  abbrev bs : List ℕ
+  bs = c .before .before .args .bytes .now
+
+  opens : Opens bs (c .front-at .result)
+  opens = opens-at (c .before .before .pre) (c .front-at .ensures)
+
+  abbrev answer : Front → Adoption
+  answer f = adoptionBy (endFrom maskMessage bs (f .end) (f .start))
+
 -- the common head, where it is there
 module _ (c : tie.After-known-told2) where
-  abbrev s : tie.Start
-  s = c .before .before .before .before .before
+  abbrev t : tie.After-front-at
+  t = c .before .before .before .before
 
-  read : Read (s .pre) 20 (c .before .h .given .0 .0)
-  read = common-whole (s .pre) 20 (omega arith) (sym (c .before .before .before .head .ensures) ∙ c .before .h .given .1)
+  read : Read (opens t .within) 20 (c .before .h .given .0 .0)
+  read = common-whole (opens t .within) 20 (omega arith) (sym (c .before .before .before .head .ensures (bs t) (opens t)) ∙ c .before .h .given .1)
 
 returns : tie.Need-returns
 unfolding maskMessage
 returns c =
     let p = c .before .before .before .before in
-    let s = p .before .before in
-    c .refused .ensures ∙ ap adoptionBy (sym (then-badly (s .pre) (common 20) _ (common-short (s .pre) 20 (sym (p .head .ensures) ∙ c .before .before .missing .given .1))))
+    let t = p .before in
+    let cut = common-short (opens t .within) 20 (sym (p .head .ensures (bs t) (opens t)) ∙ c .before .before .missing .given .1) in
+    c .refused .ensures ∙ ap adoptionBy (sym (then-badly (opens t .within) (common 20) _ cut)) ∙ ap (answer t) (t .front-at .ensures)
 
 returns-2 : tie.Need-returns-2
 unfolding maskMessage afterCommonHead withSystems headWith commonOf
 returns-2 c =
-    let s = s (c .before) in
-    c .after-head .ensures ∙ ap adoptionBy (sym (then-well (s .pre) (common 20) _ (read (c .before) .ran)))
+    let t = t (c .before) in
+    c .after-head .ensures ∙ ap adoptionBy (sym (then-well (opens t .within) (common 20) _ (read (c .before) .ran))) ∙ ap (answer t) (t .front-at .ensures)
 
 pub adopt-spec : {M : Type 1} → statement M
 adopt-spec =
     tie.close
-    (tie.spec (λ c κs. search needs) (λ c. search needs) (λ c κs. search needs) (λ c. search needs) (λ c. search needs) (λ c κs. (read c .small, read c .after)) returns returns-2)
+    (tie.spec (λ c κs. search needs) (λ c κs. record { bytes = bs c; opens = opens c }) (λ c. search needs) (λ c κs. search needs) (λ c. search needs) (λ c κs. (read c .small, read c .after, opens (t c))) returns returns-2)

@@ -25,10 +25,10 @@ module _ (c : tie.After-known-told2) where
   s = c .before .before .before .before .before
 
   abbrev n : ℕ
-  n = c .before .taken2 .given .0 .0
+  n = c .before .taken3 .given .0 .0
 
-  there : takenAt (s .args .bytes .now) (s .args .end) (s .args .place) 4 ≡ Whole n
-  there = sym (c .before .before .before .take-field .ensures) ∙ c .before .taken2 .given .1
+  there : takenAt (s .args .bytes .now) (s .args .f .end) (s .args .f .start + 29) 4 ≡ Whole n
+  there = sym (c .before .before .before .taken .ensures _ (s .pre .2)) ∙ c .before .taken3 .given .1
 
   few : n < 16
   few = fits (s .pre .1) 4 there
@@ -37,18 +37,20 @@ returns : tie.Need-returns
 unfolding afterCommonHead
 returns c =
     let took = c .before .before .before .before in
-    c .refused .ensures ∙ ap adoptionBy (sym (number-short (took .before .before .pre .1) 4 (sym (took .take-field .ensures) ∙ c .before .before .taken .given .1) _))
+    let p = took .before .before .pre in
+    c .refused .ensures ∙ ap adoptionBy (sym (number-short (p .1) 4 (sym (took .taken .ensures _ (p .2)) ∙ c .before .before .taken2 .given .1) _))
 
 returns-2 : tie.Need-returns-2
 unfolding afterCommonHead
 returns-2 c =
-    let p = c .before .before .before in
+    let p = c .before .before .before .before in
     let x = s p .args in
-    let numbers = c .before .before .head .ensures ∙ ap (λ (z : ℤ). headWith maskType (x .h) z absent absent) (toZ-pos w32 {n = n p} (omega (arith, few p))) in
-    c .all .ensures ∙ ap (λ (k : Head). answer k (x .bytes .now) (x .end) (firstMask (x .h .iod)) (x .place + 4) (n p)) numbers ∙ ap adoptionBy (sym (number-whole (s p .pre .1) 4 (there p) _))
+    let numbers = c .before .before .before .head .ensures ∙ ap (λ (z : ℤ). headWith maskType (x .h) z absent absent) (toZ-pos w32 {n = n p} (omega (arith, few p))) in
+    c .all .ensures ∙ ap (λ (k : Head). answer k (x .bytes .now) (x .f .end) (firstMask (x .h .iod)) (x .f .start + 29 + 4) (n p)) numbers ∙ ap adoptionBy (sym (number-whole (s p .pre .1) 4 (there p) _))
 
 pub after-head-spec : {M : Type 1} → statement M
 after-head-spec =
     tie.close
-    (tie.spec (λ c κs. search needs) (λ c. search needs) (λ c κs. search needs) (λ c. search needs) (λ c. record { sfits = omega (arith, few c) })
-    (λ c κs. search needs) (λ c. search needs) (λ c. search needs) (λ c κs. let p = c .before .before in (s p .pre .0 .iod, after-field (s p .pre .1) 4 (there p))) returns returns-2)
+    (tie.spec (λ c κs. (omega arith, c .before .pre .1 .room)) (λ c. search needs) (λ c κs. search needs) (λ c. search needs) (λ c. record { sfits = omega (arith, few c) })
+    (λ c κs. search needs) (λ c. search needs) (λ c. omega (arith, after-field (s (c .before .before) .pre .1) 4 (there (c .before .before)))) (λ c. search needs)
+    (λ c κs. let p = c .before .before .before in (s p .pre .0 .iod, after-field (s p .pre .1) 4 (there p))) returns returns-2)

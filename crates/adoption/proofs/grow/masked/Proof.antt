@@ -11,8 +11,7 @@ use lib.ListN.{length, getD}
 use Rattle.adoption.specs.Growing.{Sees}
 use Rattle.adoption.specs.Spreading.{stripOf}
 use Rattle.adoption.proofs.Bitwise.{spreadOf, spread-lt}
-use Rattle.adoption.proofs.Strips.{stripsAt, seen-field, strip-ones, Filling, one-filled, next-strip}
-use Rattle.bits.proofs.Fields.{field-lt}
+use Rattle.adoption.proofs.Strips.{stripsAt, seen-field, Filling, one-filled, next-strip}
 use Rattle.bits.specs.Places.{field}
 use Rattle.format.specs.Lengths.{total}
 use Rattle.holding.specs.Building.{onesIn}
@@ -77,14 +76,9 @@ module _ (c : tie.After-spread-strip Inv-loop μ-loop) where
       let seen = c .before .before .before .window-for .ensures in
       seen-field (s l .args .bytes .now) _ (l .before .loop .at) _ _ (seen .0) (seen .1) (c .before .cut .ensures)
 
-  -- it has as many ones as its bits, and few
-  counts : ones (stripOf signals bits) ≡ ones bits
-  counts =
-      let wide : 2 ^ counted l .count .result ≡ 2 ^ ones signals = ap (λ (w : ℕ). 2 ^ w) (counted l .count .ensures) in
-      strip-ones signals bits (s l .fits .signals .fits) (omega (arith, is-field, field-lt (s l .args .bytes .now) (l .before .loop .at) (counted l .count .result)))
-
-  some : ones bits ≤ 16
-  some = omega (arith, counts, ones-le 16 (stripOf signals bits) small)
+  -- it has few ones
+  some : ones (getD (l .before .before .before .before .last-four .result .strips) (bits % 16) 0 + c .spread-strip .result) ≤ 16
+  some = rw whole (ones-le 16 (stripOf signals bits) small)
 
 loop-again : tie.Need-loop-again Inv-loop μ-loop
 unfolding total
@@ -99,7 +93,7 @@ loop-again c =
     rw (one-more p) first ∙ ap (λ (b : ℕ). b ∷ stripsAt (x .bytes .now) (at .at + w) (more p) (x .signals)) (sym (whole (c .before) ∙ ap (stripOf (x .signals)) (is-field (c .before)))) in
     let next : x .from + (at .i + 1) ≡ suc (x .from + at .i) = omega arith in
     let few = few (counted p) in
-    (omega arith, record { before = omega (arith, seen .0 .before); bits = seen .0 .bits }, omega arith, omega (arith, counted p .count .ensures, there p), omega (arith, c .count2 .ensures, some (c .before)), omega (arith, c .count2 .ensures, counts (c .before), ap ones (whole (c .before)), ap onesIn e, at .inv .5), rw next (one-filled (rw e at (at .inv .6))))
+    (omega arith, record { before = omega (arith, seen .0 .before); bits = seen .0 .bits }, omega arith, omega (arith, counted p .count .ensures, there p), omega (arith, c .count2 .ensures, some (c .before)), omega (arith, c .count2 .ensures, ap onesIn e, at .inv .5), rw next (one-filled (rw e at (at .inv .6))))
 
 returns : tie.Need-returns Inv-loop μ-loop
 unfolding stripsFrom total
@@ -113,6 +107,6 @@ masked-spec =
     tie.close
     (tie.spec Inv-loop μ-loop (λ c κs. search needs) (λ c κs. search needs) (λ c κs. omega arith) (λ c. omega arith) loop-holds
     (λ c κs. (few (counted c), omega (arith, c .before .loop .inv), c .before .loop .inv .1)) (λ c. c .before .window-for .ensures .0 .before) (λ c κs. c .before .window-for .ensures .1)
-    (λ c. omega arith) (λ c. omega arith) (λ c κs. search needs) (λ c. omega (arith, whole c, small c)) (λ c. omega arith) (λ c. omega arith) (λ c. omega (arith, l c .before .loop .inv .6 .room)) (λ c κs. search needs)
+    (λ c. omega arith) (λ c. omega arith) (λ c κs. search needs) (λ c. omega (arith, whole c, small c)) (λ c. omega arith) (λ c. omega arith) (λ c. omega (arith, l c .before .loop .inv .6 .room)) (λ c. omega (arith, whole c, small c)) (λ c κs. search needs)
     (λ c. omega (arith, c .count2 .ensures, some (c .before))) (λ c. omega (arith, few (counted (l (c .before))))) (λ c. omega arith)
     (λ c. omega arith) loop-again (λ c. c .before .loop .inv .6 .room) returns)

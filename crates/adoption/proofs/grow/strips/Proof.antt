@@ -2,15 +2,16 @@
 use mathlib.Core.Path.{_≡_, sym, ap, ap₂, _∙_}
 use mathlib.Core.Bool.{true}
 use mathlib.Core.List.{List}
-use Prim.Native.Nat.{ℕ, _*_, _^_, _≤_, _<_}
+use Prim.Native.Nat.{ℕ, _-_, _*_, _^_, _≤_, _<_}
 use native.Mathlib.Omega.{arith}
 use borrow.Author.Needs.{needs}
 use borrow.Author.Tests.{not-true, not-false}
 use lib.Count.{ones, ones-le}
+use lib.ListN.{replicate}
 use lib.Seq.{sets}
 use Rattle.adoption.specs.declared.cells.Masks.{Masks}
 use Rattle.adoption.specs.Stages.{systemAt}
-use Rattle.adoption.proofs.Strips.{few-bits, stripsAt, flag-bits, plain-strips, flagged-strips, no-signals, all-ones, all-equal}
+use Rattle.adoption.proofs.Strips.{few-bits, stripsAt, flag-bits, plain-strips, flagged-strips, no-signals, all-ones, all-equal, zeros-stay}
 use Rattle.holding.specs.Building.{onesIn}
 use Rattle.holding.specs.Pictures.{stripsOf}
 use Rattle.adoption.proofs.grow.strips.Statement.{statement}
@@ -53,11 +54,12 @@ module _ (c : tie.After-struct-known2) where
 
 returns-2 : tie.Need-returns-2
 returns-2 c =
-    let q = c .before .before .before in
-    let x = s (p q) .args in
-    let plain = flagged q ∙ sym (no-signals (x .bytes .now) (x .place) (ones (x .m .satellites)) (x .m .signals) (c .before .before .if2 .taken)) in
-    let k = p q in
-    ((all-ones (m k) plain (k .before .before .count .ensures) (k .count2 .ensures), few k), c .equal2 .ensures ∙ ap (sets (x .strips .now) (x .from)) (all-equal (m k) plain (k .before .before .count .ensures) (k .count2 .ensures)))
+    let k = p (c .before) in
+    let x = s k .args in
+    let none = c .if2 .taken in
+    let plain = flagged (c .before) ∙ sym (no-signals (x .bytes .now) (x .place) (ones (x .m .satellites)) (x .m .signals) none) in
+    let zeros = zeros-stay (x .strips .now) (x .from) (ones (x .m .satellites)) (64 - x .from) (s k .pre .4) (omega (arith, s k .pre .0)) in
+    ((all-ones (m k) plain (k .before .before .count .ensures) (k .count2 .ensures), few k), sym (ap (sets (x .strips .now) (x .from)) (plain ∙ ap (replicate (ones (x .m .satellites))) none) ∙ zeros))
 
 masked-requires : tie.Need-masked-requires
 masked-requires c κs =
@@ -78,5 +80,5 @@ pub strips-spec : {M : Type 1} → statement M
 strips-spec =
     tie.close
     (tie.spec (λ c κs. search needs) (λ c. search needs) (λ c κs. search needs) (λ c κs. search needs)
-    (λ c. omega (arith, few (c .before .before .before))) returns (λ c κs. search needs)
-    (λ c. omega (arith, few (p (c .before .before .before)))) returns-2 masked-requires returns-3)
+    (λ c. omega (arith, few (c .before .before .before))) returns
+    (λ c. omega (arith, few (p (c .before)))) returns-2 masked-requires returns-3)

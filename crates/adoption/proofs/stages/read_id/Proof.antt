@@ -3,6 +3,7 @@ use mathlib.Core.Path.{_≡_, sym, _∙_}
 use mathlib.Core.Bool.{true, cond, not, _&&_}
 use mathlib.Core.List.{List}
 use Prim.Native.Nat.{ℕ, _+_, _<_}
+use native.Mathlib.Nat.{add-zero}
 use native.Mathlib.Omega.{arith}
 use borrow.Author.Needs.{needs}
 use borrow.Author.Tests.{le-leb, lt-leb}
@@ -11,38 +12,42 @@ use Rattle.format.proofs.Ends.{fits, number-short}
 use Rattle.adoption.proofs.StageEnds.{id-end}
 use Rattle.format.specs.Ends.{endFrom}
 use Rattle.adoption.specs.Stages.{endNamed}
-use Rattle.bits.specs.declared.read.Taken.the-variants.{Whole}
+use Rattle.bits.specs.declared.read.Taken.{Taken}
 use Rattle.bits.specs.Short.{takenAt}
 use Rattle.format.specs.Assigned.{known}
 use Rattle.format.specs.declared.Refusal.the-variants.{System}
 use Rattle.format.specs.Messages.{named, systemId}
 use Rattle.format.specs.Programs.{well, badly}
+use Rattle.heads.specs.Fronts.{Opens}
 use Rattle.adoption.proofs.stages.read_id.Statement.{statement}
 use Rattle.adoption.proofs.stages.read_id.Tie as tie
+
+-- its bits as they were taken, of any string with this front
+is : (c : tie.After-taken) {bs : List ℕ} → Opens bs (c .before .before .args .f) → {t : Taken} → c .taken .result ≡ t
+    → takenAt bs (c .before .before .args .f .end) (c .before .before .args .f .start) 4 ≡ t
+is c {bs} opens e = (rw add-zero at (sym (c .taken .ensures bs opens))) ∙ e
 
 -- the ID, where its bits are there
 module _ (c : tie.After-known-told2) where
   abbrev s : tie.Start
-  s = c .before .before .before .before .before .before
+  s = c .before .before .before .before .before
 
   abbrev id : ℕ
-  id = c .before .taken2 .given .0 .0
+  id = c .before .taken3 .given .0 .0
 
   abbrev ids : List ℕ
   ids = take (s .args .count) (s .args .ids .now)
 
-  there : takenAt (s .args .bytes .now) (s .args .end) (s .args .place) 4 ≡ Whole id
-  there = sym (c .before .before .before .take-field .ensures) ∙ c .before .taken2 .given .1
-
   low : id < 16
-  low = fits (s .pre .1) 4 there
+  low = let o = s .pre .1 .opens in fits (o .within) 4 (is (c .before .before .before) o (c .before .taken3 .given .1))
 
-  ends : endFrom (systemId ids) (s .args .bytes .now) (s .args .end) (s .args .place) ≡ cond (known id && not (named id ids)) (well id (s .args .place + 4)) (badly System 0)
-  ends = id-end (s .pre .1) ids there
+  ends : {bs : List ℕ} → Opens bs (s .args .f)
+      → endFrom (systemId ids) bs (s .args .f .end) (s .args .f .start) ≡ cond (known id && not (named id ids)) (well id (s .args .f .start + 4)) (badly System 0)
+  ends opens = id-end (opens .within) ids (is (c .before .before .before) opens (c .before .taken3 .given .1))
 
 returns : tie.Need-returns
 unfolding endNamed known
-returns c = sym (ends (c .before) ∙ rw (lt-leb (id (c .before)) 4 (c .if1 .taken)))
+returns c = λ bs opens. sym (ends (c .before) opens ∙ rw (lt-leb (id (c .before)) 4 (c .if1 .taken)))
 
 -- a known one, by whether it is named
 module _ (c : tie.After-named-in) where
@@ -58,20 +63,20 @@ module _ (c : tie.After-named-in) where
 
 returns-2 : tie.Need-returns-2
 unfolding endNamed
-returns-2 c = sym (ends (p (c .before)) ∙ rw (is-known (c .before), is-named (c .before) ∙ c .if2 .taken))
+returns-2 c = λ bs opens. sym (ends (p (c .before)) opens ∙ rw (is-known (c .before), is-named (c .before) ∙ c .if2 .taken))
 
 returns-3 : tie.Need-returns-3
 unfolding endNamed systemId
 returns-3 c =
     let took = c .before .before .before in
-    sym (number-short (took .before .before .before .pre .1) 4 (sym (took .take-field .ensures) ∙ c .before .taken .given .1) _)
+    λ bs opens. sym (number-short (opens .within) 4 (is took opens (c .before .taken2 .given .1)) _)
 
 returns-4 : tie.Need-returns-4
 unfolding endNamed
-returns-4 c = sym (ends (p (c .before)) ∙ rw (is-known (c .before), is-named (c .before) ∙ c .if2 .left))
+returns-4 c = λ bs opens. sym (ends (p (c .before)) opens ∙ rw (is-known (c .before), is-named (c .before) ∙ c .if2 .left))
 
 pub read-id-spec : {M : Type 1} → statement M
 read-id-spec =
     tie.close
-    (tie.spec (λ c κs. search needs) (λ c. search needs) (λ c. search needs) (λ c. omega (arith, low c)) (λ c. search needs) returns (λ c κs. search needs) returns-2
-    (λ c. search needs) returns-3 returns-4)
+    (tie.spec (λ c κs. (omega arith, omega (arith, c .before .pre .1 .opens .within))) (λ c. search needs) (λ c. search needs) (λ c. omega (arith, low c)) (λ c. search needs) returns (λ c κs. search needs) returns-2 returns-3
+    returns-4)

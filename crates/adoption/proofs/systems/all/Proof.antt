@@ -7,7 +7,7 @@ use native.Mathlib.Nat.{sub-zero}
 use native.Mathlib.Omega.{arith}
 use borrow.Author.Needs.{needs}
 use lib.Count.{ones}
-use Rattle.adoption.proofs.ManySystems.{answer, firstMask, Stands, none-yet, none-left, ids-named, one-refused, room-for, after, too-many, slot, one-fine}
+use Rattle.adoption.proofs.ManySystems.{answer, firstMask, Stands, none-yet, none-left, ids-named, strips-left, one-refused, room-for, after, too-many, slot, one-fine}
 use Rattle.adoption.specs.Adoptions.{adoptionBy}
 use Rattle.adoption.specs.declared.cells.Masks.{Masks}
 use Rattle.adoption.specs.Stages.{cellBits}
@@ -107,7 +107,7 @@ pub all-spec : {M : Type 1} → statement M
 all-spec =
     tie.close
     (tie.spec Inv-loop μ-loop loop-holds (λ c κs. let l = c .before .before .before .before .loop .inv in (ids-named l .0, l .held .few-satellites, l .there)) (λ c. search needs)
-    (λ c κs. search needs) returns (λ c. search needs) (λ c κs. (fits (c .before) .1, fits (c .before) .0, omega (arith, next (c .before)), omega (arith, next (c .before))))
+    (λ c κs. search needs) returns (λ c. search needs) (λ c κs. (fits (c .before) .1, fits (c .before) .0, omega (arith, next (c .before)), omega (arith, next (c .before)), strips-left (stands (read (c .before)))))
     (λ c. omega (arith, c .strips .ensures .0 .1, l (read (q c)) .loop .inv .held .few-cells)) (λ c κs. search needs) returns-2 (λ c κs. search needs)
     (λ c. omega (arith, c .count .ensures, fits (p (c .before)) .1)) (λ c. few (c .before)) (λ c. omega (arith, few (c .before))) (λ c. few (c .before)) (λ c. omega (arith, few (c .before)))
     (λ c. few (c .before)) (λ c. few (c .before)) (λ c. omega (arith, few (c .before))) (λ c κs. fits (p (c .before)) .0)
