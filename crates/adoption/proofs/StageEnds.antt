@@ -3,6 +3,7 @@ use mathlib.Core.Path.{_≡_, refl, sym, subst, _∙_}
 use mathlib.Core.Bool.{Bool, cond, not, _&&_}
 use mathlib.Core.List.{List}
 use Prim.Native.Nat.{ℕ, _+_, _-_, _*_, _^_, _≤_, _<_}
+use native.Mathlib.Nat.{add-zero}
 use native.Mathlib.Omega.{arith}
 use lib.Count.{ones}
 use lib.Dec.{leb, eqb}
@@ -15,6 +16,7 @@ use Rattle.format.proofs.Ends.{done-end, test-end, bits-there, bits-cut, number
 use Rattle.format.proofs.Makes.{flag-width}
 use Rattle.format.specs.Ends.{Within, endFrom}
 use Rattle.bits.specs.BitLists.{spell}
+use Rattle.bits.specs.declared.read.Taken.{Taken}
 use Rattle.bits.specs.declared.read.Taken.the-variants.{Whole}
 use Rattle.bits.specs.Short.{takenAt}
 use Rattle.format.specs.Assigned.{satellitePlaces, signalPlaces, known, assigned}
@@ -29,6 +31,10 @@ use Rattle.holding.proofs.Places.{ones-places}
 -- the front that was taken at a place
 pub opens-at : {bs : List ℕ} {end place : ℕ} → Within bs end place → {f : Front} → f ≡ frontAt bs end place → Opens bs f
 opens-at {bs} at is = subst (Opens bs) (sym is) (record { within = at; bits = refl })
+
+-- the first bits of a front, as they were taken
+pub first-taken : {bs : List ℕ} {f : Front} {r t : Taken} → Opens bs f → (w : ℕ) → ((cs : List ℕ) → Opens cs f → r ≡ takenAt cs (f .end) (f .start + 0) w) → r ≡ t → takenAt bs (f .end) (f .start) w ≡ t
+first-taken {bs} opens w is e = (rw add-zero at (sym (is bs opens))) ∙ e
 
 module _ {bs : List ℕ} {end place : ℕ} (at : Within bs end place) {n : ℕ} where
   pub id-end : (ids : List ℕ) → takenAt bs end place 4 ≡ Whole n

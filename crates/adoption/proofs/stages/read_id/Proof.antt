@@ -3,16 +3,15 @@ use mathlib.Core.Path.{_≡_, sym, _∙_}
 use mathlib.Core.Bool.{true, cond, not, _&&_}
 use mathlib.Core.List.{List}
 use Prim.Native.Nat.{ℕ, _+_, _<_}
-use native.Mathlib.Nat.{add-zero}
 use native.Mathlib.Omega.{arith}
 use borrow.Author.Needs.{needs}
 use borrow.Author.Tests.{le-leb, lt-leb}
 use lib.ListN.{take}
 use Rattle.format.proofs.Ends.{fits, number-short}
-use Rattle.adoption.proofs.StageEnds.{id-end}
+use Rattle.adoption.proofs.StageEnds.{first-taken, id-end}
 use Rattle.format.specs.Ends.{endFrom}
 use Rattle.adoption.specs.Stages.{endNamed}
-use Rattle.bits.specs.declared.read.Taken.{Taken}
+use Rattle.bits.specs.declared.read.Taken.the-variants.{Whole}
 use Rattle.bits.specs.Short.{takenAt}
 use Rattle.format.specs.Assigned.{known}
 use Rattle.format.specs.declared.Refusal.the-variants.{System}
@@ -21,11 +20,6 @@ use Rattle.format.specs.Programs.{well, badly}
 use Rattle.heads.specs.Fronts.{Opens}
 use Rattle.adoption.proofs.stages.read_id.Statement.{statement}
 use Rattle.adoption.proofs.stages.read_id.Tie as tie
-
--- its bits as they were taken, of any string with this front
-is : (c : tie.After-taken) {bs : List ℕ} → Opens bs (c .before .before .args .f) → {t : Taken} → c .taken .result ≡ t
-    → takenAt bs (c .before .before .args .f .end) (c .before .before .args .f .start) 4 ≡ t
-is c {bs} opens e = (rw add-zero at (sym (c .taken .ensures bs opens))) ∙ e
 
 -- the ID, where its bits are there
 module _ (c : tie.After-known-told2) where
@@ -38,12 +32,15 @@ module _ (c : tie.After-known-told2) where
   abbrev ids : List ℕ
   ids = take (s .args .count) (s .args .ids .now)
 
+  there : {bs : List ℕ} → Opens bs (s .args .f) → takenAt bs (s .args .f .end) (s .args .f .start) 4 ≡ Whole id
+  there opens = first-taken opens 4 (c .before .before .before .taken .ensures) (c .before .taken3 .given .1)
+
   low : id < 16
-  low = let o = s .pre .1 .opens in fits (o .within) 4 (is (c .before .before .before) o (c .before .taken3 .given .1))
+  low = let o = s .pre .1 .opens in fits (o .within) 4 (there o)
 
   ends : {bs : List ℕ} → Opens bs (s .args .f)
       → endFrom (systemId ids) bs (s .args .f .end) (s .args .f .start) ≡ cond (known id && not (named id ids)) (well id (s .args .f .start + 4)) (badly System 0)
-  ends opens = id-end (opens .within) ids (is (c .before .before .before) opens (c .before .taken3 .given .1))
+  ends opens = id-end (opens .within) ids (there opens)
 
 returns : tie.Need-returns
 unfolding endNamed known
@@ -69,7 +66,7 @@ returns-3 : tie.Need-returns-3
 unfolding endNamed systemId
 returns-3 c =
     let took = c .before .before .before in
-    λ bs opens. sym (number-short (opens .within) 4 (is took opens (c .before .taken2 .given .1)) _)
+    λ bs opens. sym (number-short (opens .within) 4 (first-taken opens 4 (took .taken .ensures) (c .before .taken2 .given .1)) _)
 
 returns-4 : tie.Need-returns-4
 unfolding endNamed

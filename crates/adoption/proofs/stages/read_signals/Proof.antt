@@ -2,25 +2,19 @@
 use mathlib.Core.Path.{_≡_, refl, sym, _∙_}
 use mathlib.Core.List.{List}
 use Prim.Native.Nat.{ℕ, _^_, _<_}
-use native.Mathlib.Nat.{add-zero}
 use native.Mathlib.Omega.{arith}
 use borrow.Author.Needs.{needs}
 use borrow.Author.Tests.{not-true, not-false}
 use Rattle.format.specs.Messages.{systemSignals}
 use Rattle.format.proofs.Ends.{fits, bits-short}
-use Rattle.adoption.proofs.StageEnds.{signals-end}
+use Rattle.adoption.proofs.StageEnds.{first-taken, signals-end}
 use Rattle.adoption.specs.Stages.{endMasked, FitsMasked}
 use Rattle.bits.specs.BitLists.{spell}
-use Rattle.bits.specs.declared.read.Taken.{Taken}
 use Rattle.bits.specs.declared.read.Taken.the-variants.{Whole}
 use Rattle.bits.specs.Short.{takenAt}
 use Rattle.heads.specs.Fronts.{Opens}
 use Rattle.adoption.proofs.stages.read_signals.Statement.{statement}
 use Rattle.adoption.proofs.stages.read_signals.Tie as tie
-
--- its bits as they were taken, of any string with this front
-is : (c : tie.After-taken) {bs : List ℕ} → Opens bs (c .before .args .f) → {t : Taken} → c .taken .result ≡ t → takenAt bs (c .before .args .f .end) (c .before .args .f .start) 16 ≡ t
-is c {bs} opens e = (rw add-zero at (sym (c .taken .ensures bs opens))) ∙ e
 
 -- the mask, where its bits are there
 module _ (c : tie.After-known-told2) where
@@ -31,7 +25,7 @@ module _ (c : tie.After-known-told2) where
   s = took .before
 
   there : {bs : List ℕ} → Opens bs (s .args .f) → takenAt bs (s .args .f .end) (s .args .f .start) 16 ≡ Whole (c .before .taken3 .given .0 .0)
-  there opens = is took opens (c .before .taken3 .given .1)
+  there opens = first-taken opens 16 (took .taken .ensures) (c .before .taken3 .given .1)
 
   low : c .before .taken3 .given .0 .0 < 2 ^ 16
   low = let o = s .pre .2 .opens in fits (o .within) 16 (there o)
@@ -47,7 +41,7 @@ returns-2 : tie.Need-returns-2
 unfolding endMasked FitsMasked systemSignals
 returns-2 c =
     let took = c .before .before .before in
-    (λ bs opens. sym (bits-short (opens .within) 16 (is took opens (c .before .taken2 .given .1)) _), λ bs opens. tt)
+    (λ bs opens. sym (bits-short (opens .within) 16 (first-taken opens 16 (took .taken .ensures) (c .before .taken2 .given .1)) _), λ bs opens. tt)
 
 returns-3 : tie.Need-returns-3
 unfolding endMasked FitsMasked
