@@ -6,7 +6,6 @@ use Prim.Native.Nat.{ℕ, zero, suc, _+_, _*_, _^_, _≤_, _<_}
 use native.Mathlib.Nat.{suc-inj, zero-add, mod-eq-of-lt, suc-add, le-of-suc-le-suc}
 use native.Mathlib.Omega.{arith}
 use lib.Bits.{bitAnd, and-block, and-le-l}
-use lib.Count.{ones}
 use lib.Dec.{eqb, eqb·suc-suc}
 use lib.ListN.{length, take}
 use lib.Pow.{pow-pos}
@@ -69,11 +68,6 @@ places-spread (false ∷ places) bits k = places-spread places bits (suc k)
 places-spread (true ∷ places) [] k = places-spread places [] (suc k)
 places-spread (true ∷ places) (true ∷ bits) k = ap (λ (ps : List ℕ). k ∷ ps) (places-spread places bits (suc k))
 places-spread (true ∷ places) (false ∷ bits) k = places-spread places bits (suc k)
-
--- so a strip has as many ones as its bits
-pub ones-spread : (places bits : List Bool) → length bits ≡ length (placesFrom 0 places) → ones (number (spread places bits)) ≡ ones (number bits)
-ones-spread places bits e =
-    ones-number (spread places bits) 0 ∙ ap length (places-spread places bits 0) ∙ length-pick bits (placesFrom 0 places) (sym e) ∙ sym (ones-number bits 0)
 
 -- ---- no place set that the other list has not
 
