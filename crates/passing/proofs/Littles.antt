@@ -1,9 +1,13 @@
 -- Numbers of bytes, the least byte first, by places. Assumes nothing.
-use mathlib.Core.Path.{_≡_, sym, ap, _∙_}
+use mathlib.Core.Path.{_≡_, refl, sym, ap, _∙_}
+use mathlib.Core.Bool.{Bool, true, false, _&&_}
 use mathlib.Core.List.{List, [], _∷_, _++_}
 use Prim.Native.Nat.{ℕ, zero, suc, _+_, _*_, _^_, _≤_}
 use native.Mathlib.Nat.{add-zero}
 use native.Mathlib.Omega.{arith}
+use borrow.Author.Tests.{leb-true, leb-false, le-leb, lt-leb}
+use lib.Bits.{bitOr, or-lt, or-add-and, and-le-l, and-le-r}
+use lib.Dec.{leb}
 use lib.ListN.{length, getD, drop, take}
 use lib.Seq.{take-all, drop-cons, drop-drop, getD-drop}
 use Rattle.passing.specs.Bytes.{little, littles}
@@ -78,3 +82,12 @@ littles-more k zero bs =
 littles-more k (suc n) bs =
     let e : k * suc n ≡ k + k * n = omega arith in
     rw (e, ← (drop-drop (k * n) k bs)) (ap (λ (l : List ℕ). little k bs ∷ l) (littles-more k n (drop k bs)))
+
+-- two bytes stand for truths where their bits together do
+pub or-truth : (a b : ℕ) → leb (bitOr a b) 1 ≡ (leb a 1 && leb b 1)
+or-truth a b = go (leb a 1) (leb b 1) refl refl
+  where
+    go : (x y : Bool) → leb a 1 ≡ x → leb b 1 ≡ y → leb (bitOr a b) 1 ≡ (x && y)
+    go true true e f = le-leb (bitOr a b) 1 (omega (arith, or-lt 1 a b (omega (arith, leb-true a 1 e)) (omega (arith, leb-true b 1 f))))
+    go true false e f = lt-leb (bitOr a b) 1 (omega (arith, leb-false b 1 f, or-add-and a b, and-le-l a b))
+    go false y e f = lt-leb (bitOr a b) 1 (omega (arith, leb-false a 1 e, or-add-and a b, and-le-r a b))

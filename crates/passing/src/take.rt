@@ -59,24 +59,13 @@ fn stray() -> Holding
     Holding::empty().with_system(0, 0, 0, false)
 }
 
-// Whether the bytes that stand for a truth are 0 or 1.
+// Whether the bytes that stand for a truth are 0 or 1: all of them are where their bits together are.
 fn truths(bytes: &[u8]) -> bool
     requires { ⌜ size ≤ length (now bytes) ⌝ }
     ensures { λ r. ⌜ r ≡ truths (take 5 (drop 11 (now (bytes .entry)))) ⌝ }
 {
-    if bytes[FLAGS] > 1 {
-        return false;
-    }
-    if bytes[FLAGS + 1] > 1 {
-        return false;
-    }
-    if bytes[FLAGS + 2] > 1 {
-        return false;
-    }
-    if bytes[FLAGS + 3] > 1 {
-        return false;
-    }
-    bytes[FLAGS + 4] <= 1
+    let last = bytes[FLAGS + 3] | bytes[FLAGS + 4];
+    (bytes[FLAGS] | (bytes[FLAGS + 1] | (bytes[FLAGS + 2] | last))) <= 1
 }
 
 // By system: IDs, flags, signal masks and satellite masks.
