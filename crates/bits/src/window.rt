@@ -1,7 +1,7 @@
 // A window: the eight bytes from some byte on, as one number, the first byte highest. Bytes past the
 // end count as zero, so a window is there at every byte, and one formula serves all of a string.
 ghost use mathlib.Core.Path.{_≡_};
-ghost use Prim.Native.Nat.{_+_, _*_, _/_, _^_, _≤_, _<_};
+ghost use Prim.Native.Nat.{_+_, _*_, _^_, _≤_, _<_};
 ghost use lib.ListN.{length};
 ghost use Rattle.bits.specs.BitLists.{bytes, spell, setField};
 ghost use Rattle.bits.specs.Places.{field};

@@ -1,3 +1,4 @@
 pub mod Chosen
 pub mod Lent
 pub mod Written
+pub mod Asking

@@ -1,17 +1,16 @@
 // Rows of cells.
 ghost use mathlib.Core.Path.{_≡_};
-ghost use mathlib.Core.Bool.{true};
 ghost use Prim.Native.Nat.{_≤_, _<_, _^_};
 ghost use lib.Count.{ones};
 ghost use lib.ListN.{length};
 ghost use Rattle.bits.specs.BitLists.{spell};
-ghost use Rattle.body.specs.Chosen.{satelliteOf, cellsIn, striped, chosenLines};
+ghost use Rattle.body.specs.Asking.{stripedIn, Slots, Asks};
+ghost use Rattle.body.specs.Chosen.{satelliteOf, cellsIn, striped};
 ghost use Rattle.body.specs.Written.{numbersAt, Room, Wrote, Handed};
 ghost use Rattle.format.specs.Lengths.{total};
 ghost use Rattle.format.specs.Masks.{pick};
 ghost use Rattle.format.specs.Messages.{cellLines};
 ghost use Rattle.format.specs.Reading.{over};
-ghost use Rattle.holding.specs.Bounds.{narrow};
 ghost use Rattle.holding.specs.Held.{satellitesIn, slotSatellites};
 ghost use Rattle.rows.specs.Shapes.{columnsIn, FormedShape, Narrow};
 use crate::End;
@@ -57,7 +56,7 @@ fn satellite(sat: Satellite, word: u64, s: Shape, bytes: &[u8], at: usize, rows:
 // The rows of one system's cells: the strips, in their order, of the satellites that are chosen. Its mask and the
 // selection each begin at the highest of 64 bits.
 fn slot(id: u8, word: u64, strips: &[u16], wanted: Wanted, bytes: &[u8], rows: &mut [i32]) -> Passed
-    requires { ⌜ (length (satellitesIn 64 id word) ≤ length (now strips)) × FormedShape (wanted .shape) × Narrow (wanted .shape) × Room (chosenLines (wanted .chosen) (striped (columnsIn (wanted .shape)) (satellitesIn 64 id word) (now strips))) (now bytes) (wanted .at) (now rows) ⌝ }
+    requires { ⌜ (length (satellitesIn 64 id word) ≤ length (now strips)) × Asks Narrow (stripedIn wanted (satellitesIn 64 id word) (now strips)) (now bytes) wanted (now rows) ⌝ }
     ensures { λ r. ⌜ Handed (wanted .chosen) (striped (columnsIn (wanted .shape)) (satellitesIn 64 id word) (now (strips .entry))) (now (bytes .entry)) (wanted .at) (now (rows .entry)) (now (rows .exit)) r ⌝ }
 {
     let s = wanted.shape;
@@ -95,8 +94,8 @@ pub fn fill(
     bytes: &[u8],
     rows: &mut [i32],
 )
-    requires { ⌜ (length (now ids) ≤ length (now masks)) × (narrow 40 (now masks) ≡ true) × (length (slotSatellites (now ids) (now masks)) ≤ length (now strips)) × FormedShape (wanted .shape) × Narrow (wanted .shape) × Room (chosenLines (wanted .chosen) (striped (columnsIn (wanted .shape)) (slotSatellites (now ids) (now masks)) (now strips))) (now bytes) (wanted .at) (now rows) ⌝ }
-    ensures { λ _. ⌜ now (rows .exit) ≡ over (numbersAt (chosenLines (wanted .chosen) (striped (columnsIn (wanted .shape)) (slotSatellites (now (ids .entry)) (now (masks .entry))) (now (strips .entry)))) (now (bytes .entry)) (wanted .at)) (now (rows .entry)) ⌝ }
+    requires { ⌜ Slots (now ids) (now masks) × (length (slotSatellites (now ids) (now masks)) ≤ length (now strips)) × Asks Narrow (stripedIn wanted (slotSatellites (now ids) (now masks)) (now strips)) (now bytes) wanted (now rows) ⌝ }
+    ensures { λ _. ⌜ now (rows .exit) ≡ over (numbersAt (stripedIn wanted (slotSatellites (now (ids .entry)) (now (masks .entry))) (now (strips .entry))) (now (bytes .entry)) (wanted .at)) (now (rows .entry)) ⌝ }
 {
     let shape = wanted.shape;
     let mut marks = wanted.chosen;

@@ -8,14 +8,14 @@ pub mod whole;
 ghost use mathlib.Core.Path.{_≡_};
 ghost use mathlib.Core.Bool.{true};
 ghost use mathlib.Core.List.{flatten};
-ghost use Prim.Native.Nat.{_+_, _*_, _^_, _≤_, _<_};
+ghost use Prim.Native.Nat.{_*_, _≤_};
 ghost use lib.ListN.{length};
 ghost use Rattle.bits.specs.BitLists.{spell};
-ghost use Rattle.body.specs.Lent.{viewBy, Lent, Lends};
+ghost use Rattle.body.specs.Asking.{Fills};
+ghost use Rattle.body.specs.Lent.{viewBy, Lends};
 ghost use Rattle.body.specs.Written.{Counts};
 ghost use Rattle.format.specs.Masks.{pick};
-ghost use Rattle.format.specs.Reading.{rowRoom, over};
-ghost use Rattle.format.specs.Rows.{bodyWidth};
+ghost use Rattle.format.specs.Reading.{over};
 ghost use Rattle.holding.specs.Held.{stripCells, slotsOf, viewOf};
 ghost use Rattle.holding.specs.Pictures.{sound};
 ghost use Rattle.rows.specs.At.{rowsAt};
@@ -127,7 +127,7 @@ pub fn fill(
     bytes: &[u8],
     rows: &mut [i32],
 )
-    requires { ⌜ Lent (now ids) (now masks) (now strips) × Fits (placed .body) × (placed .bits ≡ bodyWidth (linesIn (viewBy (now ids) (now masks) (now strips)) (placed .body))) × (placed .at + placed .bits < 2 ^ 32) × (rowRoom ≤ length (now rows)) ⌝ }
+    requires { ⌜ Fills (now ids) (now masks) (now strips) placed (now rows) ⌝ }
     ensures { λ _. ⌜ now (rows .exit) ≡ over (flatten (rowsAt (linesIn (viewBy (now (ids .entry)) (now (masks .entry)) (now (strips .entry))) (placed .body)) (now (bytes .entry)) (placed .at))) (now (rows .entry)) ⌝ }
 {
     let at = placed.at;

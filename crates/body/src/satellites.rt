@@ -1,12 +1,13 @@
 // Rows of satellites.
 ghost use mathlib.Core.Path.{_≡_};
 ghost use mathlib.Core.Bool.{true};
-ghost use Prim.Native.Nat.{_-_, _*_, _/_, _^_, _≤_, _<_};
+ghost use Prim.Native.Nat.{_-_, _*_, _/_, _^_, _≤_};
 ghost use lib.Count.{ones};
 ghost use lib.ListN.{length, drop};
 ghost use Rattle.bits.specs.BitLists.{spell};
+ghost use Rattle.body.specs.Asking.{aloneIn, Slots, Asks};
 ghost use Rattle.body.specs.Chosen.{galileo, galileos, alone, chosenLines};
-ghost use Rattle.body.specs.Written.{numbersAt, Room, Handed, Counts};
+ghost use Rattle.body.specs.Written.{numbersAt, Handed, Counts};
 ghost use Rattle.format.specs.Lengths.{total};
 ghost use Rattle.format.specs.Masks.{pick};
 ghost use Rattle.format.specs.Reading.{over};
@@ -42,7 +43,7 @@ fn width(s: Shape, system: u8) -> usize
 // The rows of one system's satellites that are chosen: its mask and the selection each begin at the highest of
 // 64 bits.
 fn slot(id: u8, word: u64, wanted: Wanted, bytes: &[u8], rows: &mut [i32]) -> Passed
-    requires { ⌜ FormedShape (wanted .shape) × Laid (wanted .shape) × Room (chosenLines (wanted .chosen) (alone (columnsIn (wanted .shape)) (satellitesIn 64 id word))) (now bytes) (wanted .at) (now rows) ⌝ }
+    requires { ⌜ Asks Laid (aloneIn wanted (satellitesIn 64 id word)) (now bytes) wanted (now rows) ⌝ }
     ensures { λ r. ⌜ Handed (wanted .chosen) (alone (columnsIn (wanted .shape)) (satellitesIn 64 id word)) (now (bytes .entry)) (wanted .at) (now (rows .entry)) (now (rows .exit)) r ⌝ }
 {
     let s = wanted.shape;
@@ -71,8 +72,8 @@ fn slot(id: u8, word: u64, wanted: Wanted, bytes: &[u8], rows: &mut [i32]) -> Pa
 
 // The rows of all systems' satellites that are chosen.
 pub fn fill(ids: &[u8], masks: &[u64], wanted: Wanted, bytes: &[u8], rows: &mut [i32])
-    requires { ⌜ (length (now ids) ≤ length (now masks)) × (narrow 40 (now masks) ≡ true) × FormedShape (wanted .shape) × Laid (wanted .shape) × Room (chosenLines (wanted .chosen) (alone (columnsIn (wanted .shape)) (slotSatellites (now ids) (now masks)))) (now bytes) (wanted .at) (now rows) ⌝ }
-    ensures { λ _. ⌜ now (rows .exit) ≡ over (numbersAt (chosenLines (wanted .chosen) (alone (columnsIn (wanted .shape)) (slotSatellites (now (ids .entry)) (now (masks .entry))))) (now (bytes .entry)) (wanted .at)) (now (rows .entry)) ⌝ }
+    requires { ⌜ Slots (now ids) (now masks) × Asks Laid (aloneIn wanted (slotSatellites (now ids) (now masks))) (now bytes) wanted (now rows) ⌝ }
+    ensures { λ _. ⌜ now (rows .exit) ≡ over (numbersAt (aloneIn wanted (slotSatellites (now (ids .entry)) (now (masks .entry)))) (now (bytes .entry)) (wanted .at)) (now (rows .entry)) ⌝ }
 {
     let shape = wanted.shape;
     let mut marks = wanted.chosen;

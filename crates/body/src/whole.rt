@@ -1,13 +1,13 @@
 // The rows of a body behind which the string goes on far enough for windows.
 ghost use mathlib.Core.Path.{_≡_};
-ghost use Prim.Native.Nat.{_+_, _*_, _^_, _≤_, _<_};
+ghost use Prim.Native.Nat.{_+_, _*_, _≤_};
 ghost use lib.ListN.{length};
-ghost use Rattle.body.specs.Lent.{viewBy, Lent};
+ghost use Rattle.body.specs.Asking.{Fills};
+ghost use Rattle.body.specs.Lent.{viewBy};
 ghost use Rattle.body.specs.Written.{numbersAt};
-ghost use Rattle.format.specs.Reading.{rowRoom, over};
-ghost use Rattle.format.specs.Rows.{bodyWidth};
+ghost use Rattle.format.specs.Reading.{over};
 ghost use Rattle.rows.specs.Table.{shapeFor};
-ghost use Rattle.table.specs.Bodies.{linesIn, Fits};
+ghost use Rattle.table.specs.Bodies.{linesIn};
 use crate::Placed;
 use crate::Wanted;
 use crate::cells;
@@ -35,7 +35,7 @@ pub fn fill(
     bytes: &[u8],
     rows: &mut [i32],
 )
-    requires { ⌜ Lent (now ids) (now masks) (now strips) × Fits (placed .body) × (placed .bits ≡ bodyWidth (linesIn (viewBy (now ids) (now masks) (now strips)) (placed .body))) × (placed .at + placed .bits < 2 ^ 32) × (rowRoom ≤ length (now rows)) × (placed .at + placed .bits + 120 ≤ 8 * length (now bytes)) ⌝ }
+    requires { ⌜ Fills (now ids) (now masks) (now strips) placed (now rows) × (placed .at + placed .bits + 120 ≤ 8 * length (now bytes)) ⌝ }
     ensures { λ _. ⌜ now (rows .exit) ≡ over (numbersAt (linesIn (viewBy (now (ids .entry)) (now (masks .entry)) (now (strips .entry))) (placed .body)) (now (bytes .entry)) (placed .at)) (now (rows .entry)) ⌝ }
 {
     let body = placed.body;

@@ -1,7 +1,7 @@
 // For a host written in C (docs/HOST.md, include/hundurzek.h): numbers and lent slices, and nothing of its own.
 ghost use mathlib.Core.Path.{_≡_};
 ghost use mathlib.Core.Bool.{true};
-ghost use Prim.Native.Nat.{_*_, _≤_};
+ghost use Prim.Native.Nat.{_≤_};
 ghost use lib.ListN.{length};
 ghost use Rattle.bits.specs.Parts.{startOf, countOf};
 ghost use Rattle.format.specs.Answers.{numberOf};

@@ -1,7 +1,7 @@
 // A holding out of lent bytes.
 ghost use mathlib.Core.Path.{_≡_};
 ghost use mathlib.Core.List.{map};
-ghost use Prim.Native.Nat.{_+_, _*_, _≤_};
+ghost use Prim.Native.Nat.{_+_, _≤_};
 ghost use lib.ListN.{length, take, drop};
 ghost use Rattle.passing.specs.Bytes.{little, littles};
 ghost use Rattle.passing.specs.Passing.{size, truths, truth, said, stray, holdingIn};

@@ -16,17 +16,17 @@ fill-requires-2 c κs =
     let t = c .before .before .before in
     let s = t .before .before .before .before .before .before .before .before in
     let p = s .pre in
-    let narrow = few-in (p .0) (s .args .placed .body) (p .1) .bits in
+    let narrow = few-in (p .lent) (s .args .placed .body) (p .fits) .bits in
     let long : length (t .copy .last .0) ≡ 584 = search needs in
-    (p .0, p .1, p .2, omega (arith, narrow), p .4, omega (arith, narrow, long))
+    (record { lent = p .lent; fits = p .fits; bits = p .bits; near = omega (arith, p .bits, narrow); room = p .room }, omega (arith, p .bits, narrow, long))
 
 returns-2 : tie.Need-returns-2
 returns-2 c =
     let t = c .before .before .before .before .before in
     let s = t .before .before .before .before .before .before .before .before in
-    let narrow = few-in (s .pre .0) (s .args .placed .body) (s .pre .1) .bits in
+    let narrow = few-in (s .pre .lent) (s .args .placed .body) (s .pre .fits) .bits in
     c .before .fill2 .ensures
-    ∙ ap (λ (l : List (List ℤ)). over (flatten l) (s .args .rows .now)) (copied-rows (s .args .bytes .now) (t .copy .last .0) 584 (s .args .placed .at) _ (t .copy .ensures) (omega (arith, narrow)))
+    ∙ ap (λ (l : List (List ℤ)). over (flatten l) (s .args .rows .now)) (copied-rows (s .args .bytes .now) (t .copy .last .0) 584 (s .args .placed .at) _ (t .copy .ensures) (omega (arith, s .pre .bits, narrow)))
 
 pub fill-spec : {M : Type 1} → statement M
 fill-spec =

@@ -47,7 +47,7 @@ module _ (c : tie.After-shared-slice-known6 Inv-loop μ-loop) where
   strips = start .args .strips .now
 
   slot : Slot (start .args .ids .now) (start .args .masks .now) i
-  slot = slot-at _ _ i (start .pre .0) (start .pre .1) (c .before .before .loop-test .taken)
+  slot = slot-at _ _ i (start .pre .0 .masked) (start .pre .0 .thin) (c .before .before .loop-test .taken)
 
   -- the lines of this slot, whose strips are lent, and those of the slots behind
   abbrev here : List (List Line)
@@ -74,7 +74,8 @@ module _ (c : tie.After-shared-slice-known6 Inv-loop μ-loop) where
 slot-requires : tie.Need-slot-requires Inv-loop μ-loop
 slot-requires c κs =
     let p = c .before .before in
-    (covered p, start p .pre .3, start p .pre .4, slot-call (marks p) (here p) (behind p _) (both p _ refl) (few p) (p .before .before .before .loop .inv .1) .room)
+    let asked = start p .pre .2 in
+    (covered p, record { formed = asked .formed; kind = asked .kind; room = slot-call (marks p) (here p) (behind p _) (both p _ refl) (few p) (p .before .before .before .loop .inv .1) .room })
 
 add-n : tie.Need-add-n Inv-loop μ-loop
 add-n c = let p = c .before .before .before .before .before .before in omega (arith, all p, c .count .ensures, p .before .before .before .loop .inv .0)
@@ -101,7 +102,7 @@ returns c =
 pub fill-spec : {M : Type 1} → statement M
 fill-spec =
     tie.close
-    (tie.spec Inv-loop μ-loop (λ c. let s = c .before .before .before .before .before in (omega (arith, s .pre .2), going-start (s .pre .5)))
+    (tie.spec Inv-loop μ-loop (λ c. let s = c .before .before .before .before .before in (omega (arith, s .pre .1), going-start (s .pre .2 .room)))
     (λ c. search needs) (λ c. search needs) (λ c. search needs) (λ c. search needs) (λ c. search needs) (λ c. search needs) (λ c. search needs)
     (λ c. search needs) (λ c. search needs) (λ c. search needs) (λ c. search needs) slot-requires (λ c κs. search needs) add-n add-k
     (λ c. omega arith) (λ c. omega arith) loop-again (λ c. c .before .loop .inv .1 .same) returns)

@@ -88,7 +88,7 @@ satellite-requires : tie.Need-satellite-requires Inv-loop μ-loop
 satellite-requires c κs =
     let f = c .before .before in
     let r = f .before .before in
-    (omega (arith, fewer r _ refl .inside, f .first .ensures), x r .pre .1, x r .pre .2, call f _ refl .room)
+    (omega (arith, fewer r _ refl .inside, f .first .ensures), x r .pre .1 .formed, x r .pre .1 .kind, call f _ refl .room)
 
 add-k : tie.Need-add-k Inv-loop μ-loop
 add-k c =
@@ -116,7 +116,7 @@ returns c =
 pub slot-spec : {M : Type 1} → statement M
 slot-spec =
     tie.close
-    (tie.spec Inv-loop μ-loop (λ c. let s = c .before .before .before in (omega arith, omega (arith, s .pre .0), walk-start (omega arith) (s .pre .3)))
+    (tie.spec Inv-loop μ-loop (λ c. let s = c .before .before .before in (omega arith, omega (arith, s .pre .0), walk-start (omega arith) (s .pre .1 .room)))
     (λ c κs. search needs) (λ c. omega (arith, fewer (c .before .before) _ refl .inside, c .first .ensures)) (λ c. omega (arith, inside (c .before .before)))
     (λ c. omega (arith, inside (c .before .before .before))) (λ c. omega (arith, c .shared-slice-known3 .given (n (c .before .before .before))))
     (λ c. omega (arith, start c)) start start (λ c. search needs) satellite-requires add-k (λ c κs. search needs)

@@ -39,7 +39,7 @@ module _ (c : tie.After-shared-slice-known5 Inv-loop μ-loop) where
   columns = columnsIn (start .args .wanted .shape)
 
   slot : Slot (start .args .ids .now) (start .args .masks .now) i
-  slot = slot-at _ _ i (start .pre .0) (start .pre .1) (c .before .before .loop-test .taken)
+  slot = slot-at _ _ i (start .pre .0 .masked) (start .pre .0 .thin) (c .before .before .loop-test .taken)
 
   -- the lines of this slot, and those of the slots behind
   abbrev here : List (List Line)
@@ -57,7 +57,8 @@ module _ (c : tie.After-shared-slice-known5 Inv-loop μ-loop) where
 slot-requires : tie.Need-slot-requires Inv-loop μ-loop
 slot-requires c κs =
     let p = c .before in
-    (start p .pre .2, start p .pre .3, slot-call (marks p) (here p) (behind p) (both p) (few p) (p .before .before .before .loop .inv) .room)
+    let asked = start p .pre .1 in
+    record { formed = asked .formed; kind = asked .kind; room = slot-call (marks p) (here p) (behind p) (both p) (few p) (p .before .before .before .loop .inv) .room }
 
 add-k : tie.Need-add-k Inv-loop μ-loop
 add-k c =
@@ -79,6 +80,6 @@ returns c =
 pub fill-spec : {M : Type 1} → statement M
 fill-spec =
     tie.close
-    (tie.spec Inv-loop μ-loop (λ c. going-start (c .before .before .before .before .pre .4)) (λ c. search needs) (λ c. search needs) (λ c. search needs)
+    (tie.spec Inv-loop μ-loop (λ c. going-start (c .before .before .before .before .pre .1 .room)) (λ c. search needs) (λ c. search needs) (λ c. search needs)
     (λ c. search needs) (λ c. search needs) (λ c. search needs) (λ c. search needs) slot-requires add-k (λ c. omega arith) (λ c. omega arith)
     loop-again (λ c. c .before .loop .inv .same) returns)

@@ -24,7 +24,7 @@ module _ (s : tie.Start) where
   body = s .args .placed .body
 
   room : {keys : Keys} → body .keys ≡ keys → Room (linesOver view keys (body .shape)) (s .args .bytes .now) (s .args .placed .at) (s .args .rows .now)
-  room known = roomy (s .pre .0) body (s .pre .1) _ _ _ _ known (s .pre .2) (s .pre .3) (s .pre .4) (s .pre .5)
+  room known = roomy (s .pre .0 .lent) body (s .pre .0 .fits) _ _ _ _ known (s .pre .0 .bits) (s .pre .0 .near) (s .pre .0 .room) (s .pre .1)
 
   -- the rows of the lines of known keys are the body's
   abbrev Rows : List Line → List ℤ
@@ -38,18 +38,25 @@ fill-requires c κs =
     let k = c .before .before .before in
     let s = k .before .before .before .before .before .before .before in
     let known = k .keys .given in
-    let lent = s .pre .0 in
+    let lent = s .pre .0 .lent in
     rw (c .before .wanted .ensures)
-    (lent .masked, lent .thin, made-formed 0 _ refl, satellites-fit (body s) (s .pre .1) (known .1), rw (by-satellites (view s) (known .0 .0) (body s .shape)) (room s (known .1)))
+    (
+      record { masked = lent .masked; thin = lent .thin },
+      record { formed = made-formed 0 _ refl; kind = satellites-fit (body s) (s .pre .0 .fits) (known .1); room = rw (by-satellites (view s) (known .0 .0) (body s .shape)) (room s (known .1)) },
+    )
 
 fill-requires-2 : tie.Need-fill-requires-2
 fill-requires-2 c κs =
     let k = c .before .before .before in
     let s = k .before .before .before .before .before .before .before in
     let known = k .keys2 .given in
-    let lent = s .pre .0 in
+    let lent = s .pre .0 .lent in
     rw (c .before .wanted2 .ensures)
-    (lent .masked, lent .thin, lent .covered, made-formed 0 _ refl, cells-fit (body s) (s .pre .1) (known .1) .0, rw (by-cells (view s) (known .0 .0) (body s .shape)) (room s (known .1)))
+    (
+      record { masked = lent .masked; thin = lent .thin },
+      lent .covered,
+      record { formed = made-formed 0 _ refl; kind = cells-fit (body s) (s .pre .0 .fits) (known .1) .0; room = rw (by-cells (view s) (known .0 .0) (body s .shape)) (room s (known .1)) },
+    )
 
 fill-requires-3 : tie.Need-fill-requires-3
 unfolding linesOver

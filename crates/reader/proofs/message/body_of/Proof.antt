@@ -112,7 +112,7 @@ fill-requires c κs =
     let e = c .before .before .before in
     let p = s (t e) .pre in
     let bits = z e .size .ensures .bits ∙ ap (λ (v : View). bodyWidth (linesIn v (body (t e)))) (sym (lent-view (p .1))) in
-    (lent-well (p .1) (p .0 .held), fits (t e), bits, omega (arith, begins (t e), p .0 .limit, e .if1 .left), p .0 .room)
+    record { lent = lent-well (p .1) (p .0 .held); fits = fits (t e); bits = bits; near = omega (arith, begins (t e), p .0 .limit, e .if1 .left); room = p .0 .room }
 
 returns-3 : tie.Need-returns-3
 unfolding saidBy answerOf rowsAfter headedAt

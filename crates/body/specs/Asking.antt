@@ -1,0 +1,45 @@
+-- What the functions that write rows ask of what they are lent, under one name each.
+use mathlib.Core.Path.{_≡_}
+use mathlib.Core.Bool.{true}
+use mathlib.Core.List.{List}
+use Prim.Native.Nat.{ℕ, _+_, _^_, _≤_, _<_}
+use lib.IntN.{ℤ}
+use lib.ListN.{length}
+use Rattle.format.specs.Masks.{Satellite}
+use Rattle.format.specs.Reading.{rowRoom}
+use Rattle.format.specs.Rows.{Line, bodyWidth}
+use Rattle.holding.specs.Bounds.{narrow}
+use Rattle.rows.specs.declared.shape.Shape.{Shape}
+use Rattle.rows.specs.Shapes.{columnsIn, FormedShape}
+use Rattle.table.specs.Bodies.{linesIn, Fits}
+use Rattle.body.specs.declared.Placed.{Placed}
+use Rattle.body.specs.declared.Wanted.{Wanted}
+use Rattle.body.specs.Chosen.{alone, striped, chosenLines}
+use Rattle.body.specs.Lent.{viewBy, Lent}
+use Rattle.body.specs.Written.{Room}
+
+-- the lines that are wanted: one for each satellite, or one for each cell
+abbrev pub aloneIn : Wanted → List Satellite → List Line
+aloneIn wanted sats = chosenLines (wanted .chosen) (alone (columnsIn (wanted .shape)) sats)
+
+abbrev pub stripedIn : Wanted → List Satellite → List ℕ → List Line
+stripedIn wanted sats strips = chosenLines (wanted .chosen) (striped (columnsIn (wanted .shape)) sats strips)
+
+-- a mask for each ID, none wider than 40 bits
+pub record Slots (ids masks : List ℕ) : Type 0 where
+  pub masked : length ids ≤ length masks
+  pub thin : narrow 40 masks ≡ true
+
+-- a shape that is well formed and of some kind, and room for the lines
+pub record Asks (Kind : Shape → Type 0) (lines : List Line) (bytes : List ℕ) (wanted : Wanted) (rows : List ℤ) : Type 0 where
+  pub formed : FormedShape (wanted .shape)
+  pub kind : Kind (wanted .shape)
+  pub room : Room lines bytes (wanted .at) rows
+
+-- a body under what is lent, of so many bits
+pub record Fills (ids masks strips : List ℕ) (placed : Placed) (rows : List ℤ) : Type 0 where
+  pub lent : Lent ids masks strips
+  pub fits : Fits (placed .body)
+  pub bits : placed .bits ≡ bodyWidth (linesIn (viewBy ids masks strips) (placed .body))
+  pub near : placed .at + placed .bits < 2 ^ 32
+  pub room : rowRoom ≤ length rows
