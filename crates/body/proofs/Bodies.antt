@@ -213,8 +213,7 @@ module _ (h : Holding) (e : sound h ≡ true) where
   pub lends : Lent (take (h .count) (h .ids)) (h .satellites) (h .strips)
   lends =
       record {
-        masked = omega (arith, prefix, s .few-systems, s .shaped .satellites);
-        thin = s .satellites-narrow;
+        slots = record { masked = omega (arith, prefix, s .few-systems, s .shaped .satellites); thin = s .satellites-narrow };
         covered = omega (arith, many, stripped);
         satellites = omega (arith, many, few);
         cells = omega (arith, all-cells, s .few-cells);

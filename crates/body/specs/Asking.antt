@@ -1,6 +1,5 @@
 -- What the functions that write rows ask of what they are lent, under one name each.
 use mathlib.Core.Path.{_≡_}
-use mathlib.Core.Bool.{true}
 use mathlib.Core.List.{List}
 use Prim.Native.Nat.{ℕ, _+_, _^_, _≤_, _<_}
 use lib.IntN.{ℤ}
@@ -8,7 +7,6 @@ use lib.ListN.{length}
 use Rattle.format.specs.Masks.{Satellite}
 use Rattle.format.specs.Reading.{rowRoom}
 use Rattle.format.specs.Rows.{Line, bodyWidth}
-use Rattle.holding.specs.Bounds.{narrow}
 use Rattle.rows.specs.declared.shape.Shape.{Shape}
 use Rattle.rows.specs.Shapes.{columnsIn, FormedShape}
 use Rattle.table.specs.Bodies.{linesIn, Fits}
@@ -24,11 +22,6 @@ aloneIn wanted sats = chosenLines (wanted .chosen) (alone (columnsIn (wanted .sh
 
 abbrev pub stripedIn : Wanted → List Satellite → List ℕ → List Line
 stripedIn wanted sats strips = chosenLines (wanted .chosen) (striped (columnsIn (wanted .shape)) sats strips)
-
--- a mask for each ID, none wider than 40 bits
-pub record Slots (ids masks : List ℕ) : Type 0 where
-  pub masked : length ids ≤ length masks
-  pub thin : narrow 40 masks ≡ true
 
 -- a shape that is well formed and of some kind, and room for the lines
 pub record Asks (Kind : Shape → Type 0) (lines : List Line) (bytes : List ℕ) (wanted : Wanted) (rows : List ℤ) : Type 0 where

@@ -12,10 +12,14 @@ use Rattle.holding.specs.Held.{View, slotSatellites, stripCells}
 abbrev pub viewBy : List ℕ → List ℕ → List ℕ → View
 viewBy ids masks strips = record { satellites = slotSatellites ids masks; strips = strips }
 
--- there is a mask for each ID and a strip for each satellite, and they are no more than document 01's limits
-pub record Lent (ids masks strips : List ℕ) : Type 0 where
+-- a mask for each ID, none wider than 40 bits
+pub record Slots (ids masks : List ℕ) : Type 0 where
   pub masked : length ids ≤ length masks
   pub thin : narrow 40 masks ≡ true
+
+-- and a strip for each satellite; and they are no more than document 01's limits
+pub record Lent (ids masks strips : List ℕ) : Type 0 where
+  pub slots : Slots ids masks
   pub covered : length (slotSatellites ids masks) ≤ length strips
   pub satellites : length (slotSatellites ids masks) ≤ 64
   pub cells : length (stripCells (slotSatellites ids masks) strips) ≤ 256

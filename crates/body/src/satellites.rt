@@ -1,18 +1,17 @@
 // Rows of satellites.
 ghost use mathlib.Core.Path.{_≡_};
-ghost use mathlib.Core.Bool.{true};
 ghost use Prim.Native.Nat.{_-_, _*_, _/_, _^_, _≤_};
 ghost use lib.Count.{ones};
 ghost use lib.ListN.{length, drop};
 ghost use Rattle.bits.specs.BitLists.{spell};
-ghost use Rattle.body.specs.Asking.{aloneIn, Slots, Asks};
+ghost use Rattle.body.specs.Asking.{aloneIn, Asks};
 ghost use Rattle.body.specs.Chosen.{galileo, galileos, alone, chosenLines};
+ghost use Rattle.body.specs.Lent.{Slots};
 ghost use Rattle.body.specs.Written.{numbersAt, Handed, Counts};
 ghost use Rattle.format.specs.Lengths.{total};
 ghost use Rattle.format.specs.Masks.{pick};
 ghost use Rattle.format.specs.Reading.{over};
 ghost use Rattle.format.specs.Rows.{shapeWidth};
-ghost use Rattle.holding.specs.Bounds.{narrow};
 ghost use Rattle.holding.specs.Held.{satellitesIn, slotSatellites};
 ghost use Rattle.rows.specs.Shapes.{columnsIn, FormedShape, Laid};
 ghost use Rattle.rows.specs.Table.{shapeAt};
@@ -138,7 +137,7 @@ fn up_to_galileo(ids: &[u8]) -> usize
 
 // How many satellites of Galileo are chosen.
 fn galileo(ids: &[u8], masks: &[u64], chosen: u64) -> usize
-    requires { ⌜ (length (now ids) ≤ length (now masks)) × (narrow 40 (now masks) ≡ true) × (length (slotSatellites (now ids) (now masks)) ≤ 64) ⌝ }
+    requires { ⌜ Slots (now ids) (now masks) × (length (slotSatellites (now ids) (now masks)) ≤ 64) ⌝ }
     ensures { λ r. ⌜ r ≡ galileos (pick (spell 64 chosen) (slotSatellites (now (ids .entry)) (now (masks .entry)))) ⌝ }
 {
     let mut marks = chosen;
@@ -158,7 +157,7 @@ fn galileo(ids: &[u8], masks: &[u64], chosen: u64) -> usize
 
 // And where an IODE is in them: of one width but for Galileo's.
 pub fn size(n: usize, ids: &[u8], masks: &[u64], shape: usize, chosen: u64) -> Extent
-    requires { ⌜ (length (now ids) ≤ length (now masks)) × (narrow 40 (now masks) ≡ true) × (length (slotSatellites (now ids) (now masks)) ≡ n) × (n ≤ 64) ⌝ }
+    requires { ⌜ Slots (now ids) (now masks) × (length (slotSatellites (now ids) (now masks)) ≡ n) × (n ≤ 64) ⌝ }
     ensures { λ r. ⌜ Counts (chosenLines chosen (alone (shapeAt shape) (slotSatellites (now (ids .entry)) (now (masks .entry))))) r ⌝ }
 {
     let width = shapes::width_of(shape);

@@ -7,12 +7,12 @@ use native.Mathlib.Nat.{zero-add, add-zero, add-suc, suc-add, zero-sub, sub-zero
 use native.Mathlib.Omega.{arith}
 use lib.Count.{ones, leadingZeros, ones-cat, leading-top}
 use lib.Dec.{eqb}
-use lib.ListN.{length, getD, drop}
+use lib.ListN.{length, drop}
 use lib.Pow.{high, pow-pos}
 use Rattle.bits.proofs.BitLists.{number-lt, length-spell, number-spell, spell-low, spell-append}
 use Rattle.bits.specs.BitLists.{number, spell}
 use Rattle.format.proofs.Placed.{blank-number}
-use Rattle.format.specs.Assigned.{blank, assigned}
+use Rattle.format.specs.Assigned.{blank}
 use Rattle.format.specs.Masks.{placesFrom}
 
 -- ---- how many
@@ -100,11 +100,6 @@ unfolding spell
 drop-spell zero w n = rw sub-zero
 drop-spell (suc i) zero n = rw zero-sub
 drop-spell (suc i) (suc w) n = rw suc-sub-suc (drop-spell i w n)
-
--- a row of a table of places, by its ID
-pub by-id : (places : List ℕ) {id : ℕ} (k : ℕ) (mask : List Bool) → id ≡ k → blank (drop (suc (getD places k 0)) mask) ≡ assigned places id mask
-unfolding assigned
-by-id places k mask e = ap (λ (n : ℕ). blank (drop (suc (getD places n 0)) mask)) (sym e)
 
 -- no place behind the highest assigned one is set where the bits below it are 0
 pub assigned-number : (w top n : ℕ) → top < w → n < 2 ^ w → blank (drop (suc top) (spell w n)) ≡ eqb (n % 2 ^ (w - suc top)) 0

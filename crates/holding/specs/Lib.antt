@@ -4,3 +4,4 @@ pub mod Building
 pub mod Bounds
 pub mod Held
 pub mod Testing
+pub mod Assigning

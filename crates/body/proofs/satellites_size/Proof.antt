@@ -33,7 +33,7 @@ size-requires c κs =
     let s = c .before .before .before .before in
     let h = s .args .h in
     let lent = lends h (s .pre .0) in
-    rw (s .pre .1 .named, s .pre .1 .masked) (lent .masked, lent .thin, many h (s .pre .0), few h (s .pre .0))
+    rw (s .pre .1 .named, s .pre .1 .masked) (lent .slots, many h (s .pre .0), few h (s .pre .0))
 
 returns-2 : tie.Need-returns-2
 returns-2 c =

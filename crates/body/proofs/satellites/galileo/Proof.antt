@@ -35,7 +35,7 @@ abbrev μ-loop : tie.MeasureT-loop
 slot : (c : tie.In-loop Inv-loop μ-loop) → let x = c .before .before .before .before .before .args in Slot (x .ids .now) (x .masks .now) (c .before .loop .i)
 slot c =
     let s = c .before .before .before .before .before in
-    slot-at _ _ (c .before .loop .i) (s .pre .0) (s .pre .1) (omega (arith, c .loop-test .taken, c .before .before .up-to-galileo .ensures .0))
+    slot-at _ _ (c .before .loop .i) (s .pre .0 .masked) (s .pre .0 .thin) (omega (arith, c .loop-test .taken, c .before .before .up-to-galileo .ensures .0))
 
 module _ (c : tie.After-shared-slice-known4 Inv-loop μ-loop) where
   abbrev p : tie.In-loop Inv-loop μ-loop
@@ -64,7 +64,7 @@ add-sum c =
     let x = s q .args in
     let most = few-galileos (pick (spell 64 (x .chosen)) (fromSlot (x .ids .now) (x .masks .now) 0)) in
     let fewer = pick-few (spell 64 (x .chosen)) (fromSlot (x .ids .now) (x .masks .now) 0) in
-    omega (arith, most, fewer, s q .pre .2, p q .before .loop .inv .1, next q true (eq-eqb _ 2 (c .before .if1 .taken)), c .picked .ensures)
+    omega (arith, most, fewer, s q .pre .1, p q .before .loop .inv .1, next q true (eq-eqb _ 2 (c .before .if1 .taken)), c .picked .ensures)
 
 loop-again : tie.Need-loop-again Inv-loop μ-loop
 loop-again c =

@@ -29,14 +29,14 @@ module _ (c : tie.After-galileo) where
   more =
       let sats = slotSatellites (s .args .ids .now) (s .args .masks .now) in
       let few : c .galileo .result ≤ 64 =
-      omega (arith, c .galileo .ensures, few-galileos (pick (spell 64 (s .args .chosen)) sats), pick-few (spell 64 (s .args .chosen)) sats, s .pre .2, s .pre .3) in
+      omega (arith, c .galileo .ensures, few-galileos (pick (spell 64 (s .args .chosen)) sats), pick-few (spell 64 (s .args .chosen)) sats, s .pre .1, s .pre .2) in
       let narrow : i .width-in .result - w .width-of .result ≤ 71 = omega (arith, i .width-in .ensures, width-at 2 (s .args .shape)) in
       mul-le-mul few narrow
 
   even : a .size-alike .result .bits ≤ 64 * 71
   even =
       let narrow : w .width-of .result ≤ 71 = omega (arith, w .width-of .ensures, width-at 0 (s .args .shape)) in
-      rw (a .size-alike .ensures) (mul-le-mul (few-ones (s .args .chosen) (s .args .n) (omega arith) (s .pre .3)) narrow)
+      rw (a .size-alike .ensures) (mul-le-mul (few-ones (s .args .chosen) (s .args .n) (omega arith) (s .pre .2)) narrow)
 
 returns : tie.Need-returns
 returns c =
@@ -44,11 +44,11 @@ returns c =
     let x = s g .args in
     let p = s g .pre in
     rw (a g .size-alike .ensures)
-    (satellites-longer (x .shape) (x .chosen) (x .n) _ _ _ _ (omega arith) (p .2) (p .3) (w g .width-of .ensures) (i g .width-in .ensures) (g .galileo .ensures))
+    (satellites-longer (x .shape) (x .chosen) (x .n) _ _ _ _ (omega arith) (p .1) (p .2) (w g .width-of .ensures) (i g .width-in .ensures) (g .galileo .ensures))
 
 pub size-spec : {M : Type 1} → statement M
 size-spec =
     tie.close
-    (tie.spec (λ c κs. search needs) (λ c κs. let s = c .before .before .before in (s .pre .3, omega (arith, c .width-of .ensures, width-at 0 (s .args .shape)))) (λ c κs. search needs)
+    (tie.spec (λ c κs. search needs) (λ c κs. let s = c .before .before .before in (s .pre .2, omega (arith, c .width-of .ensures, width-at 0 (s .args .shape)))) (λ c κs. search needs)
     (λ c. omega (arith, c .width-in .ensures, c .before .before .width-of .ensures, width-longest (c .before .before .before .before .before .args .shape)))
-    (λ c κs. let s = c .before .before .before .before .before in (s .pre .0, s .pre .1, omega (arith, s .pre .2, s .pre .3))) (λ c. omega (arith, more c)) (λ c. omega (arith, more (c .before), even (c .before))) returns)
+    (λ c κs. let s = c .before .before .before .before .before in (s .pre .0, omega (arith, s .pre .1, s .pre .2))) (λ c. omega (arith, more c)) (λ c. omega (arith, more (c .before), even (c .before))) returns)

@@ -40,7 +40,7 @@ fill-requires c κs =
     let known = k .keys .given in
     let lent = s .pre .0 .lent in
     rw (c .before .wanted .ensures) (
-      record { masked = lent .masked; thin = lent .thin },
+      lent .slots,
       record { formed = made-formed 0 _ refl; kind = satellites-fit (body s) (s .pre .0 .fits) (known .1); room = rw (by-satellites (view s) (known .0 .0) (body s .shape)) (room s (known .1)) },
     )
 
@@ -51,7 +51,7 @@ fill-requires-2 c κs =
     let known = k .keys2 .given in
     let lent = s .pre .0 .lent in
     rw (c .before .wanted2 .ensures) (
-      record { masked = lent .masked; thin = lent .thin },
+      lent .slots,
       lent .covered,
       record { formed = made-formed 0 _ refl; kind = cells-fit (body s) (s .pre .0 .fits) (known .1) .0; room = rw (by-cells (view s) (known .0 .0) (body s .shape)) (room s (known .1)) },
     )
