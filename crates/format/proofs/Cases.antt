@@ -3,7 +3,8 @@
 use mathlib.Core.Path.{_≡_, refl}
 use mathlib.Core.Bool.{Bool, true}
 use mathlib.Core.List.{List, [], _∷_, _++_, map, flatMap, flatten}
-use Prim.Native.Nat.{ℕ, _+_, _/_}
+use Prim.Native.Nat.{ℕ, _+_, _-_, _/_}
+use Prim.Native.String.{String}
 use lib.IntN.{ℤ, pos, negℤ}
 use lib.ListN.{length, replicate}
 use Rattle.bits.specs.BitLists.{number, spell, bits, bytes}
@@ -12,18 +13,18 @@ use Rattle.format.specs.Answers.{Said, stop, numberOf, saidAt}
 use Rattle.format.specs.Assigned as Assigned
 use Rattle.format.specs.Good as Good
 use Rattle.format.specs.Masks as Masks
-use Rattle.format.specs.Masks.{nothing, lent}
+use Rattle.format.specs.Masks.{nothing, lent, heldIn}
 use Rattle.format.specs.Messages as Messages
-use Rattle.format.specs.Messages.{Content}
 use Rattle.format.specs.Programs as Programs
 use Rattle.format.specs.Reading as Reading
-use Rattle.format.specs.Reading.{answerOf}
+use Rattle.format.specs.Reading.{answerOf, lentAfter}
 use Rattle.format.specs.Rows as Rows
 use Rattle.format.specs.Rows.{absent}
+use Rattle.format.specs.Saved.{text, digitChar, charDigit, decimal, hex, hexBits, cellText, flagText, systemText, heldText, lineOf}
 use Rattle.format.specs.Table as Table
 use Rattle.format.specs.Tests as Tests
 use Rattle.format.specs.Walking as Walking
-use Rattle.format.specs.Walking.{Walk, walk}
+use Rattle.format.specs.Walking.{HandedOut, Walk, walk, messages, rowCount}
 
 -- ---- bits, field by field
 
@@ -45,24 +46,28 @@ bytesOf fs =
     let l = spellAll fs in
     bytes ((length l + 7) / 8) (l ++ replicate 7 true)
 
--- ---- what a walk says: how and where it stops, then each head with its rows
+-- ---- what a walk says: how and where it stops after so many messages and rows, each message with its rows, and the line that saves what is then held
 
 pub record Report : Type 0 where
   pub stopped : Said
+  pub messages : ℕ
+  pub rows : ℕ
   pub handed : List (List ℤ)
 
-infix 40 _at_says_
-unfoldable pub _at_says_ : ℕ → ℕ → List (List ℤ) → Report
-k at place says handed = record { stopped = stop k place; handed = handed }
+infix 40 _at_after_and_says_
+unfoldable pub _at_after_and_says_ : ℕ → ℕ → ℕ → ℕ → List (List ℤ) → Report
+k at place after messages and rows says handed = record { stopped = stop k place; messages = messages; rows = rows; handed = handed }
 
-unfoldable pub said : List Content → List (List ℤ)
+-- a message's place and length, its head and its row count; then its rows
+unfoldable pub said : List HandedOut → List (List ℤ)
 said [] = []
-said (c ∷ cs) =
-    let h = c .head in
-    (h .subtype ∷ h .epoch ∷ h .interval ∷ h .indicator ∷ h .iod ∷ h .a ∷ h .b ∷ h .c ∷ []) ∷ (c .rows ++ said cs)
+said (d ∷ ds) =
+    let h = d .content .head in
+    let head = h .subtype ∷ h .epoch ∷ h .interval ∷ h .indicator ∷ h .iod ∷ h .a ∷ h .b ∷ h .c ∷ [] in
+    (pos (d .place) ∷ pos (d .next - d .place) ∷ (head ++ (pos (length (d .content .rows)) ∷ []))) ∷ (d .content .rows ++ said ds)
 
 unfoldable pub report : Walk → Report
-report w = record { stopped = saidAt (w .place) (answerOf (w .stop)); handed = said (w .handed) }
+report w = record { stopped = saidAt (w .place) (answerOf (w .stop)); messages = messages w; rows = rowCount (w .handed); handed = said (w .handed) }
 
 -- ---- messages
 
@@ -92,89 +97,117 @@ exampleMask = maskHead 3 1 ++ (4 ∶ 0 ∷ 40 ∶ 0xA000000000 ∷ 16 ∶ 0x8100
 unfoldable pub clock : ℕ → List Field
 clock issue = head 3 issue ++ (15 ∶ 5 ∷ 15 ∶ 16384 ∷ [])
 
-unfoldable pub saidMask : ℕ → ℕ → List ℤ
-saidMask issue systems = n 1 ∷ n 100 ∷ n 5 ∷ n 0 ∷ n issue ∷ n systems ∷ ∅ ∷ ∅ ∷ []
+-- what they say: a mask of so many bits that opens a stretch; a message at a place, of so many bits and rows
+unfoldable pub saidMask : ℕ → ℕ → ℕ → List ℤ
+saidMask long issue systems = n 0 ∷ n long ∷ n 1 ∷ n 100 ∷ n 5 ∷ n 0 ∷ n issue ∷ n systems ∷ ∅ ∷ ∅ ∷ n 0 ∷ []
 
-unfoldable pub saidHead : ℕ → ℕ → List ℤ
-saidHead subType issue = n subType ∷ n 100 ∷ n 2 ∷ n 0 ∷ n issue ∷ ∅ ∷ ∅ ∷ ∅ ∷ []
+unfoldable pub saidHead : ℕ → ℕ → ℕ → ℕ → ℕ → List ℤ
+saidHead place long subType issue rows = n place ∷ n long ∷ n subType ∷ n 100 ∷ n 2 ∷ n 0 ∷ n issue ∷ ∅ ∷ ∅ ∷ ∅ ∷ n rows ∷ []
 
 -- ---- the table
 
+-- a stretch of so many bits, what a walk over it says, and the saved line after it
 record Case : Type 0 where
-  over : List Field
+  bytes : List ℕ
+  end : ℕ
   answer : Report
+  line : List ℕ
 
-infix 30 _gives_
-_gives_ : List Field → Report → Case
-fs gives r = record { over = fs; answer = r }
+infix 30 _gives_keeps_
+_gives_keeps_ : List Field → Report → String → Case
+fs gives r keeps line = record { bytes = bytesOf fs; end = length (spellAll fs); answer = r; line = text line }
+
+-- the same of bits that are given in hex
+infix 30 _of_gives_keeps_
+_of_gives_keeps_ : ℕ → String → Report → String → Case
+k of digits gives r keeps line = record { bytes = bytes ((k + 7) / 8) (hexBits (text digits)); end = k; answer = r; line = text line }
+
+unsaid : String
+unsaid = "S\t-\n"
+
+exampleLine : String
+exampleLine = "S\t3\t0\tA000000000\t8100\t1\tB\n"
+
+saidClock : List (List ℤ)
+saidClock = saidHead 114 67 3 3 2 ∷ (n 0 ∷ n 1 ∷ ∅ ∷ n 5 ∷ ∅ ∷ ∅ ∷ ∅ ∷ ∅ ∷ []) ∷ (n 0 ∷ n 3 ∷ ∅ ∷ negℤ (n 16384) ∷ ∅ ∷ ∅ ∷ ∅ ∷ ∅ ∷ []) ∷ []
 
 cases : List Case
 cases =
-    -- 1: the listing's stretch. The clock's second row is satellite 3
-    ((exampleMask ++ clock 3) gives 0 at 181 says
-    (saidMask 3 1 ∷ saidHead 3 3 ∷ (n 0 ∷ n 1 ∷ ∅ ∷ n 5 ∷ ∅ ∷ ∅ ∷ ∅ ∷ ∅ ∷ []) ∷ (n 0 ∷ n 3 ∷ ∅ ∷ negℤ (n 16384) ∷ ∅ ∷ ∅ ∷ ∅ ∷ ∅ ∷ []) ∷ []))
+    -- 1: the listing's stretch, as the customer gives it, and field by field. The clock's second row is satellite 3
+    (181 of "FE91000645188500000000040806FFA4C1908600160000" gives 0 at 181 after 2 and 2 says (saidMask 114 3 1 ∷ saidClock) keeps exampleLine)
+    ∷ ((exampleMask ++ clock 3) gives 0 at 181 after 2 and 2 says (saidMask 114 3 1 ∷ saidClock) keeps exampleLine)
     -- 2: its first 180 bits
-    ∷ ((exampleMask ++ (head 3 3 ++ (15 ∶ 5 ∷ 14 ∶ 8192 ∷ []))) gives 3 at 114 says (saidMask 3 1 ∷ []))
+    ∷ ((exampleMask ++ (head 3 3 ++ (15 ∶ 5 ∷ 14 ∶ 8192 ∷ []))) gives 3 at 114 after 1 and 0 says (saidMask 114 3 1 ∷ []) keeps exampleLine)
     -- 3: its last 67 bits alone
-    ∷ (clock 3 gives 6 at 0 says [])
+    ∷ (clock 3 gives 6 at 0 after 0 and 0 says [] keeps unsaid)
     -- 4: its clock with IOD 4, whole, and its head alone: the issue comes before the body
-    ∷ ((exampleMask ++ clock 4) gives 7 at 114 says (saidMask 3 1 ∷ []))
-    ∷ ((exampleMask ++ head 3 4) gives 7 at 114 says (saidMask 3 1 ∷ []))
+    ∷ ((exampleMask ++ clock 4) gives 7 at 114 after 1 and 0 says (saidMask 114 3 1 ∷ []) keeps exampleLine)
+    ∷ ((exampleMask ++ head 3 4) gives 7 at 114 after 1 and 0 says (saidMask 114 3 1 ∷ []) keeps exampleLine)
     -- 5: a mask of 0 systems is 49 bits; a clock under it is 37 with no rows
-    ∷ ((maskHead 3 0 ++ head 3 3) gives 0 at 86 says (saidMask 3 0 ∷ saidHead 3 3 ∷ []))
+    ∷ ((maskHead 3 0 ++ head 3 3) gives 0 at 86 after 2 and 0 says (saidMask 49 3 0 ∷ saidHead 49 37 3 3 0 ∷ []) keeps "S\t3\n")
     -- 6: QZSS place 9 good, 10 gives 9; of satellites and of signals
-    ∷ ((maskHead 3 1 ++ system 4 0x0040000000 0x0040) gives 0 at 110 says (saidMask 3 1 ∷ []))
-    ∷ ((maskHead 3 1 ++ system 4 0x0020000000 0x0040) gives 9 at 0 says [])
-    ∷ ((maskHead 3 1 ++ system 4 0x0040000000 0x0020) gives 9 at 0 says [])
+    ∷ ((maskHead 3 1 ++ system 4 0x0040000000 0x0040) gives 0 at 110 after 1 and 0 says (saidMask 110 3 1 ∷ []) keeps "S\t3\t4\t0040000000\t0040\t0\t-\n")
+    ∷ ((maskHead 3 1 ++ system 4 0x0020000000 0x0040) gives 9 at 0 after 0 and 0 says [] keeps unsaid)
+    ∷ ((maskHead 3 1 ++ system 4 0x0040000000 0x0020) gives 9 at 0 after 0 and 0 says [] keeps unsaid)
     -- 7: ID 5, or GPS twice
-    ∷ ((maskHead 3 1 ++ system 5 0 0) gives 8 at 0 says [])
-    ∷ ((maskHead 3 2 ++ (system 0 0 0 ++ system 0 0 0)) gives 8 at 0 says [])
+    ∷ ((maskHead 3 1 ++ system 5 0 0) gives 8 at 0 after 0 and 0 says [] keeps unsaid)
+    ∷ ((maskHead 3 2 ++ (system 0 0 0 ++ system 0 0 0)) gives 8 at 0 after 0 and 0 says [] keeps unsaid)
     -- 8: 40 GPS and 24 BeiDou good; 25 gives 10
-    ∷ ((maskHead 3 2 ++ (system 0 0xFFFFFFFFFF 0 ++ system 3 0xFFFFFF0000 0)) gives 0 at 171 says (saidMask 3 2 ∷ []))
-    ∷ ((maskHead 3 2 ++ (system 0 0xFFFFFFFFFF 0 ++ system 3 0xFFFFFF8000 0)) gives 10 at 0 says [])
+    ∷ ((maskHead 3 2 ++ (system 0 0xFFFFFFFFFF 0 ++ system 3 0xFFFFFF0000 0)) gives 0 at 171 after 1 and 0 says (saidMask 171 3 2 ∷ [])
+    keeps "S\t3\t0\tFFFFFFFFFF\t0000\t0\t-\t3\tFFFFFF0000\t0000\t0\t-\n")
+    ∷ ((maskHead 3 2 ++ (system 0 0xFFFFFFFFFF 0 ++ system 3 0xFFFFFF8000 0)) gives 10 at 0 after 0 and 0 says [] keeps unsaid)
     -- 9: 32 GPS by 8 signals, flag 0, good; by 9 gives 10
-    ∷ ((maskHead 3 1 ++ system 0 0xFFFFFFFF00 0xFF00) gives 0 at 110 says (saidMask 3 1 ∷ []))
-    ∷ ((maskHead 3 1 ++ system 0 0xFFFFFFFF00 0xFF80) gives 10 at 0 says [])
+    ∷ ((maskHead 3 1 ++ system 0 0xFFFFFFFF00 0xFF00) gives 0 at 110 after 1 and 0 says (saidMask 110 3 1 ∷ []) keeps "S\t3\t0\tFFFFFFFF00\tFF00\t0\t-\n")
+    ∷ ((maskHead 3 1 ++ system 0 0xFFFFFFFF00 0xFF80) gives 10 at 0 after 0 and 0 says [] keeps unsaid)
     -- 10: 11 zero bits idle; 11 bits with a one: 3; 12 bits of 4072: 4
-    ∷ ((11 ∶ 0 ∷ []) gives 0 at 0 says [])
-    ∷ ((11 ∶ 1 ∷ []) gives 3 at 0 says [])
-    ∷ ((12 ∶ 4072 ∷ []) gives 4 at 0 says [])
+    ∷ ((11 ∶ 0 ∷ []) gives 0 at 0 after 0 and 0 says [] keeps unsaid)
+    ∷ ((11 ∶ 1 ∷ []) gives 3 at 0 after 0 and 0 says [] keeps unsaid)
+    ∷ ((12 ∶ 4072 ∷ []) gives 4 at 0 after 0 and 0 says [] keeps unsaid)
     -- 11: network 0 gives 11, 31 is good: here with the second satellite alone, and no field of it
-    ∷ ((exampleMask ++ (head 11 3 ++ (3 ∶ 1 ∷ 5 ∶ 0 ∷ 2 ∶ 1 ∷ []))) gives 11 at 114 says (saidMask 3 1 ∷ []))
-    ∷ ((exampleMask ++ (head 11 3 ++ (3 ∶ 1 ∷ 5 ∶ 31 ∷ 2 ∶ 1 ∷ []))) gives 0 at 161 says
-    (saidMask 3 1 ∷ (n 11 ∷ n 100 ∷ n 2 ∷ n 0 ∷ n 3 ∷ n 0 ∷ n 0 ∷ n 31 ∷ []) ∷ (n 0 ∷ n 3 ∷ ∅ ∷ ∅ ∷ ∅ ∷ ∅ ∷ ∅ ∷ ∅ ∷ []) ∷ []))
+    ∷ ((exampleMask ++ (head 11 3 ++ (3 ∶ 1 ∷ 5 ∶ 0 ∷ 2 ∶ 1 ∷ []))) gives 11 at 114 after 1 and 0 says (saidMask 114 3 1 ∷ []) keeps exampleLine)
+    ∷ ((exampleMask ++ (head 11 3 ++ (3 ∶ 1 ∷ 5 ∶ 31 ∷ 2 ∶ 1 ∷ []))) gives 0 at 161 after 2 and 1 says
+    (saidMask 114 3 1 ∷ (n 114 ∷ n 47 ∷ n 11 ∷ n 100 ∷ n 2 ∷ n 0 ∷ n 3 ∷ n 0 ∷ n 0 ∷ n 31 ∷ n 1 ∷ []) ∷ (n 0 ∷ n 3 ∷ ∅ ∷ ∅ ∷ ∅ ∷ ∅ ∷ ∅ ∷ ∅ ∷ []) ∷ [])
+    keeps exampleLine)
     -- 12: one satellite's orbit is 86 bits for GPS, 88 for Galileo
-    ∷ ((maskHead 3 1 ++ (system 0 0x8000000000 0 ++ (head 2 3 ++ (8 ∶ 255 ∷ 15 ∶ 1 ∷ 13 ∶ 2 ∷ 13 ∶ 4096 ∷ [])))) gives 0 at 196 says
-    (saidMask 3 1 ∷ saidHead 2 3 ∷ (n 0 ∷ n 1 ∷ ∅ ∷ n 255 ∷ n 1 ∷ n 2 ∷ negℤ (n 4096) ∷ ∅ ∷ []) ∷ []))
-    ∷ ((maskHead 3 1 ++ (system 2 0x8000000000 0 ++ (head 2 3 ++ (10 ∶ 1023 ∷ 15 ∶ 1 ∷ 13 ∶ 2 ∷ 13 ∶ 4096 ∷ [])))) gives 0 at 198 says
-    (saidMask 3 1 ∷ saidHead 2 3 ∷ (n 2 ∷ n 1 ∷ ∅ ∷ n 1023 ∷ n 1 ∷ n 2 ∷ negℤ (n 4096) ∷ ∅ ∷ []) ∷ []))
+    ∷ ((maskHead 3 1 ++ (system 0 0x8000000000 0 ++ (head 2 3 ++ (8 ∶ 255 ∷ 15 ∶ 1 ∷ 13 ∶ 2 ∷ 13 ∶ 4096 ∷ [])))) gives 0 at 196 after 2 and 1 says
+    (saidMask 110 3 1 ∷ saidHead 110 86 2 3 1 ∷ (n 0 ∷ n 1 ∷ ∅ ∷ n 255 ∷ n 1 ∷ n 2 ∷ negℤ (n 4096) ∷ ∅ ∷ []) ∷ [])
+    keeps "S\t3\t0\t8000000000\t0000\t0\t-\n")
+    ∷ ((maskHead 3 1 ++ (system 2 0x8000000000 0 ++ (head 2 3 ++ (10 ∶ 1023 ∷ 15 ∶ 1 ∷ 13 ∶ 2 ∷ 13 ∶ 4096 ∷ [])))) gives 0 at 198 after 2 and 1 says
+    (saidMask 110 3 1 ∷ saidHead 110 88 2 3 1 ∷ (n 2 ∷ n 1 ∷ ∅ ∷ n 1023 ∷ n 1 ∷ n 2 ∷ negℤ (n 4096) ∷ ∅ ∷ []) ∷ [])
+    keeps "S\t3\t2\t8000000000\t0000\t0\t-\n")
     -- 13: sub type 10 is 62 bits at size 0, 182 at size 3
-    ∷ ((opening 10 ++ (1 ∶ 1 ∷ 3 ∶ 5 ∷ 2 ∶ 0 ∷ 40 ∶ 0x0102030405 ∷ [])) gives 0 at 62 says
-    ((n 10 ∷ ∅ ∷ ∅ ∷ n 1 ∷ ∅ ∷ n 5 ∷ n 0 ∷ ∅ ∷ []) ∷ (∅ ∷ ∅ ∷ n 1 ∷ n 1 ∷ n 2 ∷ n 3 ∷ n 4 ∷ n 5 ∷ []) ∷ []))
-    ∷ ((opening 10 ++ (1 ∶ 0 ∷ 3 ∶ 6 ∷ 2 ∶ 3 ∷ 40 ∶ 1 ∷ 40 ∶ 2 ∷ 40 ∶ 3 ∷ 40 ∶ 0xFF00000000 ∷ [])) gives 0 at 182 says
-    ((n 10 ∷ ∅ ∷ ∅ ∷ n 0 ∷ ∅ ∷ n 6 ∷ n 3 ∷ ∅ ∷ [])
+    ∷ ((opening 10 ++ (1 ∶ 1 ∷ 3 ∶ 5 ∷ 2 ∶ 0 ∷ 40 ∶ 0x0102030405 ∷ [])) gives 0 at 62 after 1 and 1 says
+    ((n 0 ∷ n 62 ∷ n 10 ∷ ∅ ∷ ∅ ∷ n 1 ∷ ∅ ∷ n 5 ∷ n 0 ∷ ∅ ∷ n 1 ∷ []) ∷ (∅ ∷ ∅ ∷ n 1 ∷ n 1 ∷ n 2 ∷ n 3 ∷ n 4 ∷ n 5 ∷ []) ∷ [])
+    keeps unsaid)
+    ∷ ((opening 10 ++ (1 ∶ 0 ∷ 3 ∶ 6 ∷ 2 ∶ 3 ∷ 40 ∶ 1 ∷ 40 ∶ 2 ∷ 40 ∶ 3 ∷ 40 ∶ 0xFF00000000 ∷ [])) gives 0 at 182 after 1 and 4 says
+    ((n 0 ∷ n 182 ∷ n 10 ∷ ∅ ∷ ∅ ∷ n 0 ∷ ∅ ∷ n 6 ∷ n 3 ∷ ∅ ∷ n 4 ∷ [])
     ∷ (∅ ∷ ∅ ∷ n 1 ∷ n 0 ∷ n 0 ∷ n 0 ∷ n 0 ∷ n 1 ∷ []) ∷ (∅ ∷ ∅ ∷ n 2 ∷ n 0 ∷ n 0 ∷ n 0 ∷ n 0 ∷ n 2 ∷ [])
-    ∷ (∅ ∷ ∅ ∷ n 3 ∷ n 0 ∷ n 0 ∷ n 0 ∷ n 0 ∷ n 3 ∷ []) ∷ (∅ ∷ ∅ ∷ n 4 ∷ n 255 ∷ n 0 ∷ n 0 ∷ n 0 ∷ n 0 ∷ []) ∷ []))
+    ∷ (∅ ∷ ∅ ∷ n 3 ∷ n 0 ∷ n 0 ∷ n 0 ∷ n 0 ∷ n 3 ∷ []) ∷ (∅ ∷ ∅ ∷ n 4 ∷ n 255 ∷ n 0 ∷ n 0 ∷ n 0 ∷ n 0 ∷ []) ∷ [])
+    keeps unsaid)
     -- 14: sub type 12
-    ∷ (opening 12 gives 5 at 0 says [])
+    ∷ (opening 12 gives 5 at 0 after 0 and 0 says [] keeps unsaid)
     -- the cells 1011 give satellite 1 place 0, satellite 3 places 0 and 7
-    ∷ ((exampleMask ++ (head 4 3 ++ (11 ∶ 1 ∷ 11 ∶ 2 ∷ 11 ∶ 1024 ∷ []))) gives 0 at 184 says
-    (saidMask 3 1 ∷ saidHead 4 3 ∷ (n 0 ∷ n 1 ∷ n 0 ∷ n 1 ∷ ∅ ∷ ∅ ∷ ∅ ∷ ∅ ∷ []) ∷ (n 0 ∷ n 3 ∷ n 0 ∷ n 2 ∷ ∅ ∷ ∅ ∷ ∅ ∷ ∅ ∷ [])
-    ∷ (n 0 ∷ n 3 ∷ n 7 ∷ negℤ (n 1024) ∷ ∅ ∷ ∅ ∷ ∅ ∷ ∅ ∷ []) ∷ []))
+    ∷ ((exampleMask ++ (head 4 3 ++ (11 ∶ 1 ∷ 11 ∶ 2 ∷ 11 ∶ 1024 ∷ []))) gives 0 at 184 after 2 and 3 says
+    (saidMask 114 3 1 ∷ saidHead 114 70 4 3 3 ∷ (n 0 ∷ n 1 ∷ n 0 ∷ n 1 ∷ ∅ ∷ ∅ ∷ ∅ ∷ ∅ ∷ []) ∷ (n 0 ∷ n 3 ∷ n 0 ∷ n 2 ∷ ∅ ∷ ∅ ∷ ∅ ∷ ∅ ∷ [])
+    ∷ (n 0 ∷ n 3 ∷ n 7 ∷ negℤ (n 1024) ∷ ∅ ∷ ∅ ∷ ∅ ∷ ∅ ∷ []) ∷ [])
+    keeps exampleLine)
     -- with flag 0 every signal counts for every satellite
-    ∷ ((maskHead 3 1 ++ (system 4 0x4000000000 0xC000 ++ (head 5 3 ++ (15 ∶ 7 ∷ 2 ∶ 3 ∷ 15 ∶ 8 ∷ 2 ∶ 1 ∷ [])))) gives 0 at 181 says
-    (saidMask 3 1 ∷ saidHead 5 3 ∷ (n 4 ∷ n 2 ∷ n 0 ∷ n 7 ∷ n 3 ∷ ∅ ∷ ∅ ∷ ∅ ∷ []) ∷ (n 4 ∷ n 2 ∷ n 1 ∷ n 8 ∷ n 1 ∷ ∅ ∷ ∅ ∷ ∅ ∷ []) ∷ []))
+    ∷ ((maskHead 3 1 ++ (system 4 0x4000000000 0xC000 ++ (head 5 3 ++ (15 ∶ 7 ∷ 2 ∶ 3 ∷ 15 ∶ 8 ∷ 2 ∶ 1 ∷ [])))) gives 0 at 181 after 2 and 2 says
+    (saidMask 110 3 1 ∷ saidHead 110 71 5 3 2 ∷ (n 4 ∷ n 2 ∷ n 0 ∷ n 7 ∷ n 3 ∷ ∅ ∷ ∅ ∷ ∅ ∷ []) ∷ (n 4 ∷ n 2 ∷ n 1 ∷ n 8 ∷ n 1 ∷ ∅ ∷ ∅ ∷ ∅ ∷ []) ∷ [])
+    keeps "S\t3\t4\t4000000000\tC000\t0\t-\n")
     ∷ []
 
 -- what a reading computes with
 unfoldable pub computing : Unit {0}
-unfolding _∶_ spellAll bytesOf _at_says_ said report n ∅ opening maskHead head system clock saidMask saidHead spell bits bytes number signed flatMap flatten saidAt numberOf Walking.walkOn Walking.walkFrom Walking.goOn Walking.hand Reading.readingBy Reading.lentTests Tests.verdict Reading.placed Reading.readFrom Reading.bitsFrom Reading.endedAt Reading.rowsAfter Reading.over Programs.run Programs._>>=_ Programs._>>_ Programs.later Programs.unlessShort Programs.numbered Programs.taking Programs.require Table.opening Table.messageBy Table.table Table.kinds Table.alone Table.byKind Table.keeping Table.underMask Table.gate Messages.bodied Messages.overSatellites Messages.overCells Messages.common Messages.headOf Messages.rowsAlone Messages.body Messages.satelliteLines Messages.cellLines Messages.iodeWidth Messages.orbitShape Messages.clockShape Messages.codeShape Messages.phaseShape Messages.combinedShape Messages.packetShape Messages.selection Messages.flagged Messages.packetLines Messages.packet Messages.packetHeading Messages.maskMessage Messages.systems Messages.system Messages.systemId Messages.systemMasks Messages.systemSignals Messages.systemWith Messages.systemCells Messages.flaggedCells Messages.fewCells Messages.named Assigned.known Assigned.blank Assigned.assigned Assigned.satellitePlaces Assigned.signalPlaces Masks.placesFrom Masks.pick Masks.satellitesOf Masks.pairsOf Masks.cellsOf Masks.satellites Masks.cells Masks.skyOf Masks.heldIn Rows.widthOf Rows.valueOf Rows.shapeWidth Rows.valuesOf Rows.bodyWidth Rows.rowsOf Good.isHolding Good.good Good.goodSystems Good.goodSystem Reading.lentAfter answerOf
+unfolding _∶_ spellAll bytesOf _at_after_and_says_ said report n ∅ opening maskHead head system clock saidMask saidHead spell bits bytes number signed flatMap flatten saidAt numberOf Walking.messages Walking.rowCount Walking.walkOn Walking.walkFrom Walking.goOn Walking.hand Reading.readingBy Reading.lentTests Tests.verdict Reading.placed Reading.readFrom Reading.bitsFrom Reading.endedAt Reading.rowsAfter Reading.over Programs.run Programs._>>=_ Programs._>>_ Programs.later Programs.unlessShort Programs.numbered Programs.taking Programs.require Table.opening Table.messageBy Table.table Table.kinds Table.alone Table.byKind Table.keeping Table.underMask Table.gate Messages.bodied Messages.overSatellites Messages.overCells Messages.common Messages.headOf Messages.rowsAlone Messages.body Messages.satelliteLines Messages.cellLines Messages.iodeWidth Messages.orbitShape Messages.clockShape Messages.codeShape Messages.phaseShape Messages.combinedShape Messages.packetShape Messages.selection Messages.flagged Messages.packetLines Messages.packet Messages.packetHeading Messages.maskMessage Messages.systems Messages.system Messages.systemId Messages.systemMasks Messages.systemSignals Messages.systemWith Messages.systemCells Messages.flaggedCells Messages.fewCells Messages.named Assigned.known Assigned.blank Assigned.assigned Assigned.satellitePlaces Assigned.signalPlaces Masks.placesFrom Masks.pick Masks.satellitesOf Masks.pairsOf Masks.cellsOf Masks.satellites Masks.cells Masks.skyOf Masks.heldIn Rows.widthOf Rows.valueOf Rows.shapeWidth Rows.valuesOf Rows.bodyWidth Rows.rowsOf Good.isHolding Good.good Good.goodSystems Good.goodSystem Reading.lentAfter answerOf
 computing = tt
 
 -- from the empty holding
-walked : List Field → Report
-walked fs = report (walk (lent nothing) (bytesOf fs) (length (spellAll fs)) (replicate 2048 (pos 0)))
+walked : Case → Walk
+walked c = walk (lent nothing) (c .bytes) (c .end) (replicate 2048 (pos 0))
 
-cases-hold : map (λ c. walked (c .over)) cases ≡ map (λ c. c .answer) cases
-unfolding computing walked exampleMask _gives_ cases
-cases-hold = refl
+cases-hold :
+    map (λ c. report (walked c)) cases ≡ map (λ c. c .answer) cases
+    × (map (λ c. lineOf (heldIn (lentAfter (walked c .stop)))) cases ≡ map (λ c. c .line) cases)
+unfolding computing walked exampleMask saidClock unsaid exampleLine _gives_keeps_ _of_gives_keeps_ cases text hexBits charDigit digitChar decimal hex cellText flagText systemText heldText lineOf lentAfter heldIn
+cases-hold = (refl, refl)

@@ -20,7 +20,7 @@ use Rattle.format.specs.Table.{Message, Kind, table, byKind, messageBy, 
 use Rattle.format.specs.declared.Refusal.{Refusal}
 use Rattle.format.specs.declared.Refusal.the-variants.{Place, Room}
 use Rattle.format.specs.Tests.{verdict}
-use Rattle.format.specs.Walking.{Walk, hand, goOn, walkOn, walk}
+use Rattle.format.specs.Walking.{handedAt, Walk, hand, goOn, walkOn, walk}
 use Rattle.format.proofs.HeldGood.{stays-good}
 use Rattle.format.proofs.Placed.{Inside, inside, is-placed, length-from, take-from}
 use Rattle.format.proofs.Runs.{run-agree}
@@ -112,7 +112,7 @@ cut-goes :
     (bytes : List ℕ) (end : ℕ) (holding : Lent) (place : ℕ) (rows : List ℤ) (m : Message) (taken : ℕ) (w : Walk)
     → reading holding bytes end place rows ≡ accepted m (place + taken) → run (message (heldIn holding)) (bitsFrom bytes end place) ≡ well m taken
     → Within end (place + taken) w → Cut bytes (lent (m .after)) (place + taken) (rowsAfter (accepted m (place + taken)) rows) w
-    → Cut bytes holding place rows (hand (m .content) w)
+    → Cut bytes holding place rows (hand (handedAt place m (place + taken)) w)
 unfolding hand goOn rowsAfter isHolding heldIn
 cut-goes bytes end stray place rows m taken w e ran within more fine room f = absurd (false≢true fine)
 cut-goes bytes end (lent held) place rows m taken w e ran within more fine room f =
@@ -121,7 +121,7 @@ cut-goes bytes end (lent held) place rows m taken w e ran within more fine room 
     let there : Inside bytes (place + taken) (place + taken) = record { limit = omega arith; lent = omega arith; there = le-refl (place + taken) } in
     let again = reads-cut table held fine bytes place rows room end (w .place) m taken g ran (omega (arith, within .0)) (within .1 (inside .1)) in
     let rest = more (stays-good held fine (bitsFrom bytes end place) m taken ran) (omega (arith, over-long (flatten (m .content .rows)) rows)) there in
-    walk-step table (lent held) bytes (w .place) place rows ∙ rw again (ap (hand (m .content)) rest)
+    walk-step table (lent held) bytes (w .place) place rows ∙ rw again (ap (hand (handedAt place m (place + taken))) rest)
 
 -- so every walk
 all-cut : (bytes : List ℕ) (end : ℕ) → Law table bytes end (λ holding place rows w. Within end place w × Cut bytes holding place rows w)

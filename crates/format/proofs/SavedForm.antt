@@ -10,6 +10,8 @@ use lib.ListN.{length, getD, take}
 use borrow.Author.Tests.{ltb-true, ltb-false, leb-true, eqb-true, lt-ltb, le-ltb, ne-eqb}
 use Rattle.bits.specs.BitLists.{number, spell}
 use Rattle.bits.proofs.BitLists.{number-lt, spell-number}
+use Rattle.format.specs.declared.Refusal.{Refusal}
+use Rattle.format.specs.declared.Refusal.the-variants.{Value}
 use Rattle.format.specs.Assigned.{known}
 use Rattle.format.specs.Good.{good, goodSystem, goodSystems}
 use Rattle.format.specs.Masks.{System, Held, nothing, mask, satellites}
@@ -212,8 +214,8 @@ load-line held g = rw (heldFrom-line held g, g, sameList-refl eqb eqb-refl (line
 loaded-same : (g h : Held) → loaded g ≡ loaded h → g ≡ h
 loaded-same g h e = cc
 
-never-unloaded : (held : Held) → unloaded ≡ loaded held → ⊥
-never-unloaded held e = false≢true cc
+never-unloaded : (r : Refusal) (held : Held) → unloaded r ≡ loaded held → ⊥
+never-unloaded r held e = false≢true cc
 
 -- a line loads only to the good holding whose line it is
 pub line-load : (line : List ℕ) (held : Held) → load line ≡ loaded held → (lineOf held ≡ line) × (good held ≡ true)
@@ -223,15 +225,15 @@ line-load line held e = go (good found) (sameList eqb (lineOf found) line) refl 
     found : Held
     found = heldFrom (fieldsFrom [] line)
 
-    go : (b c : Bool) → good found ≡ b → sameList eqb (lineOf found) line ≡ c → cond (b && c) (loaded found) unloaded ≡ loaded held
+    go : (b c : Bool) → good found ≡ b → sameList eqb (lineOf found) line ≡ c → cond (b && c) (loaded found) (unloaded Value) ≡ loaded held
         → (lineOf held ≡ line) × (good held ≡ true)
     go true true g s f = rw (← (loaded-same found held f)) (sameList-sound eqb eqb-true (lineOf found) line s, g)
-    go true false g s f = absurd (never-unloaded held f)
-    go false c g s f = absurd (never-unloaded held f)
+    go true false g s f = absurd (never-unloaded Value held f)
+    go false c g s f = absurd (never-unloaded Value held f)
 
 -- a line refused is no good holding's
-pub line-refused : (line : List ℕ) → load line ≡ unloaded → (held : Held) → good held ≡ true → lineOf held ≡ line → ⊥
-line-refused line e held g same = never-unloaded held (sym e ∙ ap load (sym same) ∙ load-line held g)
+pub line-refused : (line : List ℕ) (r : Refusal) → load line ≡ unloaded r → (held : Held) → good held ≡ true → lineOf held ≡ line → ⊥
+line-refused line r e held g same = never-unloaded r held (sym e ∙ ap load (sym same) ∙ load-line held g)
 
 -- two good holdings have two lines
 pub line-injective : (g h : Held) → good g ≡ true → good h ≡ true → lineOf g ≡ lineOf h → g ≡ h

@@ -15,7 +15,7 @@ use Rattle.format.specs.Masks.{Held, Lent, stray, lent, heldIn}
 use Rattle.format.specs.Programs.{Program, well, run}
 use Rattle.format.specs.Reading.{Outcome, accepted, idle, refused, bitsFrom, readingBy, lentAfter, rowsAfter}
 use Rattle.format.specs.Table.{Message, Kind, table, byKind, messageBy, message}
-use Rattle.format.specs.Walking.{Walk, hand, goOn, walkFrom, walkOn, walk, messages}
+use Rattle.format.specs.Walking.{handedAt, Walk, hand, goOn, walkFrom, walkOn, walk, messages}
 use Rattle.format.proofs.HeldGood.{held-good, stays-good}
 use Rattle.format.proofs.Lengths.{message-enough}
 use Rattle.format.proofs.Runs.{taken-le}
@@ -62,7 +62,7 @@ module _ (t : ℕ → Kind) (holding : Lent) (bytes : List ℕ) (end place : ℕ
       reading-ends (λ o. goOn o place rows f ≡ goOn o place rows g) t bytes end place rows holding (λ r missing. refl) refl
       (λ m taken e.
       let inside = ends-inside m taken e in
-      ap (hand (m .content)) (same m (place + taken) (omega arith) (inside .1)))
+      ap (hand (handedAt place m (place + taken))) (same m (place + taken) (omega arith) (inside .1)))
 
 -- whatever fuel there is, if it is more than the bits left
 fuel-same :
@@ -103,7 +103,7 @@ module _ (t : ℕ → Kind) (bytes : List ℕ) (end : ℕ) where
     pub goes :
         (holding : Lent) (place : ℕ) (rows : List ℤ) (m : Message) (taken : ℕ) (w : Walk)
         → readingBy t holding bytes end place rows ≡ accepted m (place + taken) → run (messageBy t (heldIn holding)) (bitsFrom bytes end place) ≡ well m taken
-        → P (lent (m .after)) (place + taken) (rowsAfter (accepted m (place + taken)) rows) w → P holding place rows (hand (m .content) w)
+        → P (lent (m .after)) (place + taken) (rowsAfter (accepted m (place + taken)) rows) w → P holding place rows (hand (handedAt place m (place + taken)) w)
 
   module _ (P : Lent → ℕ → List ℤ → Walk → Type 0) (law : Law P) where
     -- by fuel, which each message takes some of

@@ -24,11 +24,12 @@ numberOf Value = 12
 abbrev pub idleNumber : ℕ
 idleNumber = 0
 
--- What an answer to reading at a start says on paper: each of 0 to 12 its number and the start asked for; a message, which has no number there,
--- its head, the place after it and its row count.
+-- What an answer says on paper: each of 0 to 12 its number and a place, the start asked for (0 for the saved form). What is accepted has no number there:
+-- a message read says its head, the place after it and its row count; what was written, the place after it; a line saved, its length.
 pub data Said : Type 0 where
   stop : ℕ → ℕ → Said
   message : Head → ℕ → ℕ → Said
+  done : ℕ → Said
 
 unfoldable pub saidAt : ℕ → Answer → Said
 saidAt start Idle = stop idleNumber start

@@ -1,18 +1,27 @@
 -- The saved holding: document 01, "Saved mask and listing", one line there and back.
 use mathlib.Core.Bool.{Bool, true, false, cond, _&&_}
 use mathlib.Core.List.{List, [], _∷_, _++_, flatMap}
+use Prim.Native.Char.{code}
 use Prim.Native.Nat.{ℕ, _+_, _-_, _*_, _/_, _%_}
+use Prim.Native.String as Str
+use Prim.Native.String.{String}
 use lib.Dec.{leb, ltb, eqb}
 use lib.ListN.{length, getD, take, drop}
 use Rattle.bits.specs.BitLists.{number, spell}
 use Rattle.format.specs.declared.Refusal.{Refusal}
 use Rattle.format.specs.declared.Refusal.the-variants.{Room, Value}
+use Rattle.format.specs.Answers.{Said, stop, done, numberOf}
 use Rattle.format.specs.Good.{good, isHolding}
 use Rattle.format.specs.Masks.{System, Held, nothing, mask, Lent, heldIn, placesFrom}
 use Rattle.format.specs.Same.{sameList}
 use Rattle.format.specs.Tests.{Test, verdict}
 
 -- ---- characters
+
+-- a text as the numbers of its characters
+unfoldable pub text : String → List ℕ
+text Str.[] = []
+text (Str._∷_ c cs) = code c ∷ text cs
 
 abbrev pub tab : ℕ
 tab = 9
@@ -110,15 +119,26 @@ heldFrom (s ∷ []) = nothing
 heldFrom (s ∷ iod ∷ more) =
     cond (eqb (getD iod 0 0) dash) nothing (mask (record { iod = decimalValue 0 iod; systems = systemsFrom more }))
 
--- How loading ends: with a holding, or refused by 12.
+-- How loading ends: with a holding, or refused.
 pub data Loaded : Type 0 where
   loaded : Held → Loaded
-  unloaded : Loaded
+  unloaded : Refusal → Loaded
 
+-- 12 for a line that the form can't produce
 unfoldable pub load : List ℕ → Loaded
 load line =
     let held = heldFrom (fieldsFrom [] line) in
-    cond (good held && sameList eqb (lineOf held) line) (loaded held) unloaded
+    cond (good held && sameList eqb (lineOf held) line) (loaded held) (unloaded Value)
+
+-- the holding that is handed back: the empty one beside a refusal
+unfoldable pub heldLoaded : Loaded → Held
+heldLoaded (loaded held) = held
+heldLoaded (unloaded r) = nothing
+
+-- what is answered beside it: how long the line is, or the refusal's number at 0
+unfoldable pub saidLoaded : List ℕ → Loaded → Said
+saidLoaded line (loaded held) = done (length line)
+saidLoaded line (unloaded r) = stop (numberOf r) 0
 
 -- ---- saving into a lent buffer: 12 comes before 1
 
@@ -133,6 +153,11 @@ saving holding buffer =
     (record { holds = isHolding holding; else = Value }
     ∷ record { holds = leb size (length buffer); else = Room }
     ∷ [])
+
+-- what it answers: how long the line is, or the refusal's number at 0
+unfoldable pub saidSaved : Saved → Said
+saidSaved (saved n) = done n
+saidSaved (unsaved r) = stop (numberOf r) 0
 
 -- later bytes stay
 unfoldable pub bufferAfter : Saved → Held → List ℕ → List ℕ

@@ -8,19 +8,28 @@ use Rattle.format.specs.Messages.{Content}
 use Rattle.format.specs.Table.{Kind, Message, table}
 use Rattle.format.specs.Reading.{Outcome, accepted, idle, refused, readingBy, rowsAfter}
 
+-- an accepted answer: where its message begins, the place after it, what it says
+pub record HandedOut : Type 0 where
+  pub place : ℕ
+  pub next : ℕ
+  pub content : Content
+
+abbrev pub handedAt : ℕ → Message → ℕ → HandedOut
+handedAt place m next = record { place = place; next = next; content = m .content }
+
 -- what a receiver hands out, in order; how and where it stops; what the row buffer then holds
 pub record Walk : Type 0 where
-  pub handed : List Content
+  pub handed : List HandedOut
   pub stop : Outcome
   pub place : ℕ
   pub rows : List ℤ
 
-unfoldable pub hand : Content → Walk → Walk
-hand c w = record { handed = c ∷ w .handed; stop = w .stop; place = w .place; rows = w .rows }
+unfoldable pub hand : HandedOut → Walk → Walk
+hand d w = record { handed = d ∷ w .handed; stop = w .stop; place = w .place; rows = w .rows }
 
 -- goes on with an accepted answer only
 unfoldable pub goOn : Outcome → ℕ → List ℤ → (Message → ℕ → Walk) → Walk
-goOn (accepted m next) place rows more = hand (m .content) (more m next)
+goOn (accepted m next) place rows more = hand (handedAt place m next) (more m next)
 goOn (idle holding) place rows more = record { handed = []; stop = idle holding; place = place; rows = rows }
 goOn (refused r missing holding) place rows more = record { handed = []; stop = refused r missing holding; place = place; rows = rows }
 
@@ -43,6 +52,6 @@ walk holding bytes end rows = walkOn table holding bytes end 0 rows
 unfoldable pub messages : Walk → ℕ
 messages w = length (w .handed)
 
-unfoldable pub rowCount : List Content → ℕ
+unfoldable pub rowCount : List HandedOut → ℕ
 rowCount [] = 0
-rowCount (c ∷ cs) = length (c .rows) + rowCount cs
+rowCount (d ∷ ds) = length (d .content .rows) + rowCount ds

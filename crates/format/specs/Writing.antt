@@ -9,6 +9,7 @@ use Rattle.bits.specs.BitLists.{setBytes}
 use Rattle.format.specs.declared.Head.{Head}
 use Rattle.format.specs.declared.Refusal.{Refusal}
 use Rattle.format.specs.declared.Refusal.the-variants.{Room, Place, SubType, NoMask, OtherIssue, Network, Value}
+use Rattle.format.specs.Answers.{Said, stop, done, numberOf}
 use Rattle.format.specs.Good.{isHolding}
 use Rattle.format.specs.Masks.{Held, nothing, mask, Lent, heldIn}
 use Rattle.format.specs.Programs.{Ended, well, badly, run}
@@ -84,7 +85,12 @@ writing holding h rows count bytes start =
     ∷ record { holds = leb (start + length bits) (limit bytes); else = Room }
     ∷ [])
 
--- what writing leaves in the lent bytes, and the place after the message
+-- what it answers: the place after the message, or the refusal's number and the start asked for
+unfoldable pub saidWritten : ℕ → Written → Said
+saidWritten start (wrote bits) = done (start + length bits)
+saidWritten start (refused r) = stop (numberOf r) start
+
+-- what writing leaves in the lent bytes
 unfoldable pub bytesAfter : Written → List ℕ → ℕ → List ℕ
 bytesAfter (wrote bits) bytes start = setBytes bytes start bits
 bytesAfter (refused r) bytes start = bytes

@@ -1,19 +1,19 @@
--- Two runs of late joiners, computed: one of which all is true that demand 3 supposes, and one where two masks of one issue differ, which shows that this is needed.
+-- Runs of late joiners, computed: two of which all is true that demand 3 supposes, and one where two masks of one issue differ, which shows that this is needed.
 -- Assumes nothing.
 use mathlib.Core.Path.{_≡_, refl, ap}
-use mathlib.Core.Bool.{Bool, true, false, cond}
+use mathlib.Core.Bool.{Bool, true, false, cond, false≢true}
 use mathlib.Core.List.{List, [], _∷_, _++_, flatMap, flatten}
 use Prim.Native.Nat.{ℕ}
 use native.Mathlib.Nat.{le-refl}
 use native.Mathlib.Omega.{arith}
 use lib.IntN.{ℤ, pos, negℤ}
 use lib.ListN.{length, replicate, getD, length-replicate}
-use Rattle.format.specs.Masks.{Held, nothing}
-use Rattle.format.specs.Messages.{Content}
+use Rattle.format.specs.Masks.{Held, nothing, mask}
 use Rattle.format.specs.Reading.{rowRoom}
 use Rattle.format.specs.Rows.{absent}
 use Rattle.format.specs.Table.{table}
-use Rattle.format.proofs.Cases.{Field, spellAll, bytesOf, Report, _at_says_, report, maskHead, system, clock, saidMask, saidHead, computing}
+use Rattle.format.specs.Walking.{HandedOut}
+use Rattle.format.proofs.Cases.{Field, _∶_, spellAll, bytesOf, Report, _at_after_and_says_, report, opening, maskHead, system, clock, saidMask, saidHead, computing}
 use Rattle.promises.specs.LateJoiners as Late
 use Rattle.promises.specs.LateJoiners.{Turn, first, second, firstAfter, secondAfter, Throughout, Unrefused, RoomEnough, SameIssueSameMask, ShowsTheTruth}
 use Rattle.promises.proofs.LateJoiners.{late-joiners}
@@ -52,12 +52,13 @@ reports f s (x ∷ xs) = (report (first table f x) ∷ cond (x .gets) (report (s
 row : ℕ → ℤ → List ℤ
 row satellite clock = pos 0 ∷ pos satellite ∷ absent ∷ clock ∷ absent ∷ absent ∷ absent ∷ absent ∷ []
 
-saidClocks : ℕ → ℕ → List (List ℤ)
-saidClocks issue satellite = saidHead 3 issue ∷ row 1 (pos 5) ∷ row satellite (negℤ (pos 16384)) ∷ []
+-- clocks of two satellites, at a place
+saidClocks : ℕ → ℕ → ℕ → List (List ℤ)
+saidClocks place issue satellite = saidHead place 67 3 issue 2 ∷ row 1 (pos 5) ∷ row satellite (negℤ (pos 16384)) ∷ []
 
 -- the k-th number of the rows that are handed out
-unfoldable pub numberAt : ℕ → List Content → ℤ
-numberAt k cs = getD (flatten (flatMap (λ c. c .rows) cs)) k absent
+unfoldable pub numberAt : ℕ → List HandedOut → ℤ
+numberAt k ds = getD (flatten (flatMap (λ d. d .content .rows) ds)) k absent
 
 -- what the runs compute with
 runs : Unit {0}
@@ -72,10 +73,10 @@ joins = turn false (maskOf 3 one-and-three ++ clock 3) ∷ turn true (clock 3) �
 -- what both hand out in each stretch, and how each stops
 joins-report :
     reports nothing nothing joins
-    ≡ ((0 at 177 says (saidMask 3 1 ∷ saidClocks 3 3)) ∷ [])
-    ∷ ((0 at 67 says saidClocks 3 3) ∷ (6 at 0 says []) ∷ [])
-    ∷ ((0 at 177 says (saidMask 4 1 ∷ saidClocks 4 2)) ∷ (0 at 177 says (saidMask 4 1 ∷ saidClocks 4 2)) ∷ [])
-    ∷ ((0 at 67 says saidClocks 4 2) ∷ (0 at 67 says saidClocks 4 2) ∷ [])
+    ≡ ((0 at 177 after 2 and 2 says (saidMask 110 3 1 ∷ saidClocks 110 3 3)) ∷ [])
+    ∷ ((0 at 67 after 1 and 2 says saidClocks 0 3 3) ∷ (6 at 0 after 0 and 0 says []) ∷ [])
+    ∷ ((0 at 177 after 2 and 2 says (saidMask 110 4 1 ∷ saidClocks 110 4 2)) ∷ (0 at 177 after 2 and 2 says (saidMask 110 4 1 ∷ saidClocks 110 4 2)) ∷ [])
+    ∷ ((0 at 67 after 1 and 2 says saidClocks 0 4 2) ∷ (0 at 67 after 1 and 2 says saidClocks 0 4 2) ∷ [])
     ∷ []
 unfolding runs joins
 joins-report = refl
@@ -95,6 +96,50 @@ joins-truth : Throughout table table (ShowsTheTruth table) nothing nothing joins
 unfolding Throughout joins
 joins-truth = late-joiners joins joins-unrefused (enough _ _ _ _, (enough _ _ _ _, (enough _ _ _ _, (enough _ _ _ _, tt)))) joins-equal
 
+-- ---- one that lags: it misses a new mask, and then shows what needs none and stops with "other issue", short of the end
+
+-- a packet's part
+part : List Field
+part = opening 10 ++ (1 ∶ 1 ∷ 3 ∶ 5 ∷ 2 ∶ 0 ∷ 40 ∶ 0x0102030405 ∷ [])
+
+saidPart : List (List ℤ)
+saidPart =
+    (pos 0 ∷ pos 62 ∷ pos 10 ∷ absent ∷ absent ∷ pos 1 ∷ absent ∷ pos 5 ∷ pos 0 ∷ absent ∷ pos 1 ∷ [])
+    ∷ (absent ∷ absent ∷ pos 1 ∷ pos 1 ∷ pos 2 ∷ pos 3 ∷ pos 4 ∷ pos 5 ∷ [])
+    ∷ []
+
+lags : List Turn
+lags = turn true (maskOf 3 one-and-three) ∷ turn false (maskOf 4 one-and-two) ∷ turn true (part ++ clock 4) ∷ []
+
+-- of the last stretch it hands out the first of two messages, and refuses the other at its place
+lags-report :
+    reports nothing nothing lags
+    ≡ ((0 at 110 after 1 and 0 says (saidMask 110 3 1 ∷ [])) ∷ (0 at 110 after 1 and 0 says (saidMask 110 3 1 ∷ [])) ∷ [])
+    ∷ ((0 at 110 after 1 and 0 says (saidMask 110 4 1 ∷ [])) ∷ [])
+    ∷ ((0 at 129 after 2 and 3 says (saidPart ++ saidClocks 62 4 2)) ∷ (7 at 62 after 1 and 1 says saidPart) ∷ [])
+    ∷ []
+unfolding runs part saidPart lags
+lags-report = refl
+
+-- none refused
+lags-unrefused : Throughout table table (Unrefused table) nothing nothing lags
+unfolding runs part lags
+lags-unrefused = (tt, (tt, (tt, tt)))
+
+-- masks of one issue are equal: they hold none, or masks of two issues
+issueOf : Held → ℕ
+issueOf nothing = 0
+issueOf (mask m) = m .iod
+
+lags-equal : Throughout table table SameIssueSameMask nothing nothing lags
+unfolding runs part lags issueOf
+lags-equal = ((λ _ m n _ e _. cc), ((λ gets. absurd (false≢true gets)), ((λ _ m n e g same. absurd (omega (arith, ap issueOf e, ap issueOf g, same))), tt)))
+
+-- so the demand speaks of this run
+lags-truth : Throughout table table (ShowsTheTruth table) nothing nothing lags
+unfolding Throughout lags
+lags-truth = late-joiners lags lags-unrefused (enough _ _ _ _, (enough _ _ _ _, (enough _ _ _ _, tt))) lags-equal
+
 -- ---- two masks of one issue: the second misses the later one, and shows a neighbour's clock
 
 clashes : List Turn
@@ -103,9 +148,9 @@ clashes = turn true (maskOf 3 one-and-three) ∷ turn false (maskOf 3 one-and-tw
 -- both read the last stretch to its end, to different satellites
 clashes-report :
     reports nothing nothing clashes
-    ≡ ((0 at 110 says (saidMask 3 1 ∷ [])) ∷ (0 at 110 says (saidMask 3 1 ∷ [])) ∷ [])
-    ∷ ((0 at 110 says (saidMask 3 1 ∷ [])) ∷ [])
-    ∷ ((0 at 67 says saidClocks 3 2) ∷ (0 at 67 says saidClocks 3 3) ∷ [])
+    ≡ ((0 at 110 after 1 and 0 says (saidMask 110 3 1 ∷ [])) ∷ (0 at 110 after 1 and 0 says (saidMask 110 3 1 ∷ [])) ∷ [])
+    ∷ ((0 at 110 after 1 and 0 says (saidMask 110 3 1 ∷ [])) ∷ [])
+    ∷ ((0 at 67 after 1 and 2 says saidClocks 0 3 2) ∷ (0 at 67 after 1 and 2 says saidClocks 0 3 3) ∷ [])
     ∷ []
 unfolding runs clashes
 clashes-report = refl

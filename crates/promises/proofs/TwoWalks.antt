@@ -1,6 +1,6 @@
 -- A stretch walked by two receivers, where the first reads it to its end: what the second hands out, how it stops, and that it then holds what is good.
 -- Assumes nothing.
-use mathlib.Core.Path.{_≡_, refl, sym, ap₂}
+use mathlib.Core.Path.{_≡_, refl, sym, ap, ap₂}
 use mathlib.Core.Bool.{true}
 use mathlib.Core.List.{List, [], _∷_, flatten}
 use mathlib.Core.Logic.{inl, inr, ⊎-elim}
@@ -11,9 +11,10 @@ use lib.ListN.{length}
 use Rattle.format.specs.declared.Refusal.{Refusal}
 use Rattle.format.specs.Good.{good}
 use Rattle.format.specs.Masks.{Held, Lent, lent, heldIn}
+use Rattle.format.specs.Messages.{Content}
 use Rattle.format.specs.Reading.{rowRoom, Outcome, accepted, bitsFrom, subTypeIn, lentAfter, rowsAfter}
 use Rattle.format.specs.Table.{Kind, Message}
-use Rattle.format.specs.Walking.{Walk, hand, goOn, walkOn}
+use Rattle.format.specs.Walking.{HandedOut, handedAt, Walk, hand, goOn, walkOn}
 use Rattle.format.proofs.CutWalks.{over-long}
 use Rattle.format.proofs.Walks.{walk-step, Law, every-walk}
 use Rattle.promises.specs.LateJoiners.{IsIdle, OpeningPart, AtTheEnd, StoppedWith, TruthBut, heldAfter}
@@ -37,14 +38,15 @@ module _ {More : Refusal → Type 0} {f s : Held} {k : Kind} (place : ℕ) (othe
   -- or reads a message: the second reads one of the same content, or stops, having handed out an opening part of anything
   went : {m : Message} {next : ℕ} {p : Outcome} {a : Walk} {sure : Message → Type 0} → Abreast More f s k (accepted m next) p
       → ((n : Message) → Alike f s k m n → (Sure f s k → sure n) × Along More (sure n) a (more n next))
-      → Along More (Sure f s k) (hand (m .content) a) (goOn p place others more)
+      → Along More (Sure f s k) (hand (handedAt place m next) a) (goOn p place others more)
   unfolding goOn hand OpeningPart AtTheEnd StoppedWith heldAfter lentAfter heldIn
-  went (both-read {m} {n} alike) on =
-      let (still, (it, fine)) = on n alike in (
+  went (both-read {m} {n} {next} alike) on =
+      let (still, (it, fine)) = on n alike in
+      let same : handedAt place n next ≡ handedAt place m next = ap (λ (c : Content). record { place = place; next = next; content = c }) (alike .content) in (
         record {
-          opening = (it .opening .0, ap₂ _∷_ (sym (alike .content)) (it .opening .1));
+          opening = (it .opening .0, ap₂ _∷_ (sym same) (it .opening .1));
           stopping = it .stopping;
-          all = λ yes. ⊎-elim (λ whole. inl (ap₂ _∷_ (alike .content) whole)) inr (it .all (still yes));
+          all = λ yes. ⊎-elim (λ whole. inl (ap₂ _∷_ same whole)) inr (it .all (still yes));
         },
         fine,
       )

@@ -10,10 +10,10 @@ use lib.ListN.{length}
 use Rattle.format.specs.declared.Refusal.{Refusal}
 use Rattle.format.specs.declared.Refusal.the-variants.{NoMask, OtherIssue}
 use Rattle.format.specs.Masks.{Mask, Held, mask, Lent, lent, heldIn}
-use Rattle.format.specs.Messages.{Content, maskType}
+use Rattle.format.specs.Messages.{maskType}
 use Rattle.format.specs.Reading.{rowRoom, Outcome, accepted, idle, refused, bitsFrom, subTypeIn, lentAfter}
 use Rattle.format.specs.Table.{Kind}
-use Rattle.format.specs.Walking.{Walk, walkOn}
+use Rattle.format.specs.Walking.{HandedOut, Walk, walkOn}
 
 -- "One receiver starts without a mask and reads a run of stretches. A second starts the same way and gets some of those stretches, whole and in order":
 -- a stretch of the run, the row buffer that the first lends for it, whether the second gets it, and the row buffer that the second then lends
@@ -71,9 +71,9 @@ SameIssueSameMask f s x = x .gets ≡ true → (m n : Mask) → f ≡ mask m →
 
 -- ---- what then holds in each stretch that the second gets
 
--- "an opening part of the first receiver's messages, record for record"
-unfoldable pub OpeningPart : List Content → List Content → Type 0
-OpeningPart part all = (rest : List Content) × (all ≡ part ++ rest)
+-- "an opening part of the first receiver's messages, record for record", each at its place
+unfoldable pub OpeningPart : List HandedOut → List HandedOut → Type 0
+OpeningPart part all = (rest : List HandedOut) × (all ≡ part ++ rest)
 
 -- "stopping at the end": idle, where the first stops
 unfoldable pub AtTheEnd : Walk → Walk → Type 0

@@ -14,7 +14,7 @@ use Rattle.format.specs.Masks.{Lent, lent, heldIn}
 use Rattle.format.specs.Reading.{stretchLimit, rowRoom, Outcome, accepted, placed, lentTests, readingBy, reading, answerOf, lentAfter, rowsAfter}
 use Rattle.format.specs.Table.{Message, table}
 use Rattle.format.specs.Tests.{verdict}
-use Rattle.format.specs.Walking.{Walk, hand, goOn, walkOn, messages, rowCount}
+use Rattle.format.specs.Walking.{HandedOut, handedAt, Walk, hand, goOn, walkOn, messages, rowCount}
 use Rattle.format.proofs.CutWalks.{over-long}
 use Rattle.format.proofs.HeldGood.{reading-good}
 use Rattle.format.proofs.Stops.{Stopped, reading-ends, stop-holds}
@@ -47,11 +47,11 @@ moves holding bytes end place rows m next =
     (omega arith, omega arith))
 
 -- one more message was handed out
-counted : (a b : ℕ) (m : Message) (w : Walk) → walkedWith a b (hand (m .content) w) ≡ walkedWith (a + 1) (b + length (m .content .rows)) w
+counted : (a b : ℕ) (d : HandedOut) (w : Walk) → walkedWith a b (hand d w) ≡ walkedWith (a + 1) (b + length (d .content .rows)) w
 unfolding walkedWith hand messages rowCount
-counted a b m w =
+counted a b d w =
     let one : a + suc (length (w .handed)) ≡ a + 1 + length (w .handed) = omega arith in
-    rw (one, ← (add-assoc b (length (m .content .rows)) (rowCount (w .handed)))) refl
+    rw (one, ← (add-assoc b (length (d .content .rows)) (rowCount (w .handed)))) refl
 
 abbrev pub nextStand : Stand → Message → ℕ → Stand
 nextStand s m next = record {
@@ -93,7 +93,7 @@ module _ (bytes : List ℕ) (end : ℕ) (s : Stand) (stands : Stands bytes end s
     unfolding lentAfter isHolding
     good-after = rw (there ∙ said) at (reading-good held bytes end (s .tally .place) (s .rows) good-held)
 
-    rest-next : restOf bytes end s ≡ hand (m .content) (restOf bytes end t)
+    rest-next : restOf bytes end s ≡ hand (handedAt (s .tally .place) m next) (restOf bytes end t)
     unfolding restOf goOn
     rest-next =
         walk-step table held bytes end (s .tally .place) (s .rows)
@@ -104,7 +104,7 @@ module _ (bytes : List ℕ) (end : ℕ) (s : Stand) (stands : Stands bytes end s
     unfolding walkedFrom rowsFrom hand
     next-gone past = record {
       forth = omega (arith, past);
-      walked = ap (walkedWith (s .tally .messages) (s .tally .rows)) rest-next ∙ counted (s .tally .messages) (s .tally .rows) m (restOf bytes end t);
+      walked = ap (walkedWith (s .tally .messages) (s .tally .rows)) rest-next ∙ counted (s .tally .messages) (s .tally .rows) (handedAt (s .tally .place) m next) (restOf bytes end t);
       numbers = ap (λ (w : Walk). w .rows) rest-next;
     }
 
