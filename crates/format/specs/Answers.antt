@@ -24,14 +24,22 @@ numberOf Value = 12
 abbrev pub idleNumber : ℕ
 idleNumber = 0
 
--- What an answer says on paper: each of 0 to 12 its number and a place, the start asked for (0 for the saved form). What is accepted has no number there:
--- a message read says its head, the place after it and its row count; what was written, the place after it; a line saved, its length.
+-- What an answer to reading at a start says on paper: each of 0 to 12 its number and the start asked for; a message, which has no number there,
+-- its head, the place after it and its row count.
 pub data Said : Type 0 where
   stop : ℕ → ℕ → Said
   message : Head → ℕ → ℕ → Said
-  done : ℕ → Said
 
 unfoldable pub saidAt : ℕ → Answer → Said
 saidAt start Idle = stop idleNumber start
 saidAt start (Refused r missing) = stop (numberOf r) start
 saidAt start (Message h next rows) = message h next rows
+
+-- And the writer's, and the saved form's: what is done has no number there either, and says the place after the message, or how long the line is;
+-- a refusal its number, and the start asked for, 0 for the saved form.
+pub data Done : Type 0 where
+  done : ℕ → Done
+  undone : ℕ → ℕ → Done
+
+unfoldable pub undoneAt : ℕ → Refusal → Done
+undoneAt start r = undone (numberOf r) start

@@ -10,7 +10,7 @@ use lib.ListN.{length, getD, take, drop}
 use Rattle.bits.specs.BitLists.{number, spell}
 use Rattle.format.specs.declared.Refusal.{Refusal}
 use Rattle.format.specs.declared.Refusal.the-variants.{Room, Value}
-use Rattle.format.specs.Answers.{Said, stop, done, numberOf}
+use Rattle.format.specs.Answers.{Done, done, undoneAt}
 use Rattle.format.specs.Good.{good, isHolding}
 use Rattle.format.specs.Masks.{System, Held, nothing, mask, Lent, heldIn, placesFrom}
 use Rattle.format.specs.Same.{sameList}
@@ -136,9 +136,9 @@ heldLoaded (loaded held) = held
 heldLoaded (unloaded r) = nothing
 
 -- what is answered beside it: how long the line is, or the refusal's number at 0
-unfoldable pub saidLoaded : List ℕ → Loaded → Said
-saidLoaded line (loaded held) = done (length line)
-saidLoaded line (unloaded r) = stop (numberOf r) 0
+unfoldable pub doneLoading : List ℕ → Loaded → Done
+doneLoading line (loaded held) = done (length line)
+doneLoading line (unloaded r) = undoneAt 0 r
 
 -- ---- saving into a lent buffer: 12 comes before 1
 
@@ -155,9 +155,9 @@ saving holding buffer =
     ∷ [])
 
 -- what it answers: how long the line is, or the refusal's number at 0
-unfoldable pub saidSaved : Saved → Said
-saidSaved (saved n) = done n
-saidSaved (unsaved r) = stop (numberOf r) 0
+unfoldable pub doneSaving : Saved → Done
+doneSaving (saved n) = done n
+doneSaving (unsaved r) = undoneAt 0 r
 
 -- later bytes stay
 unfoldable pub bufferAfter : Saved → Held → List ℕ → List ℕ

@@ -9,7 +9,7 @@ use Rattle.bits.specs.BitLists.{setBytes}
 use Rattle.format.specs.declared.Head.{Head}
 use Rattle.format.specs.declared.Refusal.{Refusal}
 use Rattle.format.specs.declared.Refusal.the-variants.{Room, Place, SubType, NoMask, OtherIssue, Network, Value}
-use Rattle.format.specs.Answers.{Said, stop, done, numberOf}
+use Rattle.format.specs.Answers.{Done, done, undoneAt}
 use Rattle.format.specs.Good.{isHolding}
 use Rattle.format.specs.Masks.{Held, nothing, mask, Lent, heldIn}
 use Rattle.format.specs.Programs.{Ended, well, badly, run}
@@ -86,9 +86,9 @@ writing holding h rows count bytes start =
     ∷ [])
 
 -- what it answers: the place after the message, or the refusal's number and the start asked for
-unfoldable pub saidWritten : ℕ → Written → Said
-saidWritten start (wrote bits) = done (start + length bits)
-saidWritten start (refused r) = stop (numberOf r) start
+unfoldable pub doneWriting : ℕ → Written → Done
+doneWriting start (wrote bits) = done (start + length bits)
+doneWriting start (refused r) = undoneAt start r
 
 -- what writing leaves in the lent bytes
 unfoldable pub bytesAfter : Written → List ℕ → ℕ → List ℕ

@@ -9,9 +9,10 @@ use lib.IntN.{ℤ, pos}
 use lib.ListN.{length, take, drop}
 use denote.Enum.Declared.{tagOf}
 use denote.Ref.{RefT, now, ptr}
-use Rattle.bits.specs.Parts.{partOf, IsPart}
+use Rattle.bits.specs.Parts.{startOf, countOf, partOf, IsPart}
 use Rattle.format.specs.declared.Answer.{Answer}
 use Rattle.format.specs.declared.Answer.the-variants as Answers
+use Rattle.format.specs.Answers.{saidAt}
 use Rattle.format.specs.Good.{good, isHolding}
 use Rattle.format.specs.Masks.{Held, mask, Lent, stray, lent}
 use Rattle.format.specs.Messages.{Adopted, maskType, maskMessage}
@@ -27,7 +28,7 @@ use Rattle.holding.specs.declared.Holding.{Holding}
 use Rattle.holding.specs.Pictures.{maskOf, sound}
 use Rattle.holding.proofs.Pictured.{sound-picture}
 use Rattle.holding.proofs.Sounds.{sounds}
-use Rattle.host.specs.Handing.{handed, handedTo, placeSaid, bytesAfter, holdingBytes, hostOutcome}
+use Rattle.host.specs.Handing.{handedBy, handed, bytesAfter, holdingBytes, hostOutcome}
 use Rattle.passing.specs.Passing.{size, bytesOf, holdingIn}
 use Rattle.passing.proofs.Returns.{passed, sound-passes, bytes-return}
 use Rattle.reader.specs.declared.message.Found.{Found}
@@ -124,25 +125,26 @@ message-bytes hb bs end start rows small m next said other = go (soughtAt (holdi
 
 -- ---- what is handed of an outcome
 
--- the place that the answer itself says is where the raw part ends
-pub hand-outcome : (start : ℕ) (a : Answer) (o : Outcome) → a ≡ answerOf o → handedTo start (placeSaid start a) a ≡ handed start o
-unfolding answerOf rawEnd placeSaid
-hand-outcome start a (accepted m next) e = rw e refl
-hand-outcome start a (idle l) e = rw e refl
-hand-outcome start a (refused r missing l) e = rw e refl
-
 -- a stop's raw part has offset and count 0
 pub stop-raw : (start : ℕ) (o : Outcome) → Stopped o → (handed start o .offset ≡ 0) × (handed start o .count ≡ 0)
-unfolding handedTo rawEnd
+unfolding handedBy saidAt answerOf
 stop-raw start (accepted m next) stopped = absurd stopped
-stop-raw start (idle l) stopped = (none-starts start, none-counts start)
-stop-raw start (refused r missing l) stopped = (none-starts start, none-counts start)
+stop-raw start (idle l) stopped = (refl, refl)
+stop-raw start (refused r missing l) stopped = (refl, refl)
 
--- offset and count are those of the part that `reader::raw` gives for the answer: its bytes, and where it lies
+-- offset and count are those of the raw part
+raw-handed : (start : ℕ) (o : Outcome) → (startOf start (rawEnd o start) ≡ handed start o .offset) × (countOf start (rawEnd o start) ≡ handed start o .count)
+unfolding handedBy saidAt answerOf rawEnd
+raw-handed start (accepted m next) = (refl, refl)
+raw-handed start (idle l) = (none-starts start, none-counts start)
+raw-handed start (refused r missing l) = (none-starts start, none-counts start)
+
+-- so they are those of the part that `reader::raw` gives for the answer: its bytes, and where it lies
 pub handed-raw : (hb : List ℕ) (whole part : RefT (List ℕ)) (end start : ℕ) (rows : List ℤ) → let o = hostOutcome hb (now whole) end start rows in
     IsPart whole part start (rawTo (now whole) start (answerOf o))
     → (now part ≡ take (handed start o .count) (drop (handed start o .offset) (now whole))) × (ptr part .1 ≡ ptr whole .1 + handed start o .offset)
-unfolding hostOutcome outcomeAt handedTo partOf
+unfolding hostOutcome outcomeAt partOf
 handed-raw hb whole part end start rows p =
     let q = subst (IsPart whole part start) (raw-read (lentBy (holdingIn hb)) (now whole) end start rows) p in
-    (q .bytes, q .offset)
+    let same = raw-handed start (outcomeAt (holdingIn hb) (now whole) end start rows) in
+    (rw (same .0, same .1) at (q .bytes), rw (same .0) at (q .offset))

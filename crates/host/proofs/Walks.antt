@@ -11,6 +11,7 @@ use denote.Enum.Declared.{tagOf}
 use Rattle.bits.proofs.Windows.{Bytes}
 use Rattle.format.specs.declared.Answer.{Answer}
 use Rattle.format.specs.declared.Answer.the-variants as Answers
+use Rattle.format.specs.Answers.{saidAt}
 use Rattle.format.specs.Good.{isHolding}
 use Rattle.format.specs.Masks.{Lent}
 use Rattle.format.specs.Reading.{lentAfter}
@@ -19,7 +20,7 @@ use Rattle.format.proofs.Answer.{the-type}
 use Rattle.format.proofs.Walks.{none-kept, walk-good, walk-stray}
 use Rattle.holding.specs.declared.Holding.{Holding}
 use Rattle.holding.specs.Pictures.{sound}
-use Rattle.host.specs.Handing.{messageNumber, answerNumber, walkedTo, bytesAfter, leftBytes, walkBytes}
+use Rattle.host.specs.Handing.{messageNumber, numberSaid, walkedTo, bytesAfter, leftBytes, walkBytes}
 use Rattle.host.proofs.Outcomes.{bytes-pass, bytes-stay, after-sound, after-bytes}
 use Rattle.passing.specs.Passing.{size, holdingIn}
 use Rattle.reader.specs.Readings.{lentBy, structOf}
@@ -28,11 +29,11 @@ use Rattle.walk.specs.declared.Halt.{Halt}
 use Rattle.walk.specs.Walks.{walkAt, walkedOf}
 
 -- a message's number, by its tag
-pub message-number : (a : Answer) → tagOf the-type a ≡ 0 → messageNumber ≡ answerNumber a
-unfolding answerNumber
-message-number (Answers.Message h next rows) e = refl
-message-number Answers.Idle e = absurd (omega arith)
-message-number (Answers.Refused r missing) e = absurd (omega arith)
+pub message-number : (a : Answer) → tagOf the-type a ≡ 0 → (place : ℕ) → messageNumber ≡ numberSaid (saidAt place a)
+unfolding numberSaid saidAt
+message-number (Answers.Message h next rows) e place = refl
+message-number Answers.Idle e place = absurd (omega arith)
+message-number (Answers.Refused r missing) e place = absurd (omega arith)
 
 module _ (hb bs : List ℕ) (end : ℕ) (rows : List ℤ) where
   abbrev h : Holding
@@ -83,6 +84,6 @@ module _ (hb bs : List ℕ) (end : ℕ) (rows : List ℤ) where
     unfolding walkedOf
     left small = ap (λ (x : Halt). leftBytes (x .tally .messages) (x .holding) hb) said ∙ left-so small
 
-    pub walked-to : record { answer = answerNumber (d .stop); place = d .tally .place; messages = d .tally .messages; rows = d .tally .rows } ≡ walkedTo w
+    pub walked-to : record { answer = numberSaid (saidAt (d .tally .place) (d .stop)); place = d .tally .place; messages = d .tally .messages; rows = d .tally .rows } ≡ walkedTo w
     unfolding walkedOf walkedTo
-    walked-to = ap (λ (x : Halt). record { answer = answerNumber (x .stop); place = x .tally .place; messages = x .tally .messages; rows = x .tally .rows }) said
+    walked-to = ap (λ (x : Halt). record { answer = numberSaid (saidAt (x .tally .place) (x .stop)); place = x .tally .place; messages = x .tally .messages; rows = x .tally .rows }) said

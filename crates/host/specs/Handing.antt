@@ -6,12 +6,10 @@ use lib.Dec.{eqb, leb}
 use lib.IntN.{ℤ}
 use lib.ListN.{length}
 use Rattle.bits.specs.Parts.{startOf, countOf}
-use Rattle.format.specs.declared.Answer.{Answer}
-use Rattle.format.specs.declared.Answer.the-variants as Answers
 use Rattle.format.specs.declared.Head.{Head}
-use Rattle.format.specs.Answers.{numberOf, idleNumber}
+use Rattle.format.specs.Answers.{Said, stop, message, saidAt}
 use Rattle.format.specs.Masks.{nothing, Lent, stray, lent}
-use Rattle.format.specs.Reading.{Outcome, lentAfter, answerOf, over, rawEnd}
+use Rattle.format.specs.Reading.{Outcome, lentAfter, answerOf, over}
 use Rattle.format.specs.Rows.{absent}
 use Rattle.format.specs.Walking.{Walk, messages, rowCount}
 use Rattle.holding.specs.declared.Holding.{Holding}
@@ -29,36 +27,19 @@ noHead = record { subtype = absent; epoch = absent; interval = absent; indicator
 abbrev pub messageNumber : ℕ
 messageNumber = 255
 
--- document 01's number of a stop, and the one for a message
-unfoldable pub answerNumber : Answer → ℕ
-answerNumber (Answers.Message h next rows) = messageNumber
-answerNumber Answers.Idle = idleNumber
-answerNumber (Answers.Refused r missing) = numberOf r
+-- what is handed of what an answer to reading at a start says: a stop has no rows, no raw part and no head
+unfoldable pub handedBy : ℕ → Said → Handed
+handedBy start (stop number place) = record { answer = number; place = place; rows = 0; offset = 0; count = 0; head = noHead }
+handedBy start (message h next rows) =
+    record { answer = messageNumber; place = next; rows = rows; offset = startOf start next; count = countOf start next; head = h }
 
--- row count and head; none for a stop
-unfoldable pub rowsSaid : Answer → ℕ
-rowsSaid (Answers.Message h next rows) = rows
-rowsSaid Answers.Idle = 0
-rowsSaid (Answers.Refused r missing) = 0
-
-unfoldable pub headSaid : Answer → Head
-headSaid (Answers.Message h next rows) = h
-headSaid Answers.Idle = noHead
-headSaid (Answers.Refused r missing) = noHead
-
--- what is handed of an answer to reading at a start whose raw part ends at a place: that is the place after it, too
-unfoldable pub handedTo : ℕ → ℕ → Answer → Handed
-handedTo start to a = record { answer = answerNumber a; place = to; rows = rowsSaid a; offset = startOf start to; count = countOf start to; head = headSaid a }
-
--- and of an outcome: a message's ends behind it, a stop's at the start asked for
 abbrev pub handed : ℕ → Outcome → Handed
-handed start o = handedTo start (rawEnd o start) (answerOf o)
+handed start o = handedBy start (saidAt start (answerOf o))
 
--- the place that the answer itself says
-unfoldable pub placeSaid : ℕ → Answer → ℕ
-placeSaid start (Answers.Message h next rows) = next
-placeSaid start Answers.Idle = start
-placeSaid start (Answers.Refused r missing) = start
+-- and the number alone
+unfoldable pub numberSaid : Said → ℕ
+numberSaid (stop number place) = number
+numberSaid (message h next rows) = messageNumber
 
 -- the bytes that say what is lent after it; those that say no holding stay as they were
 unfoldable pub bytesAfter : Lent → List ℕ → List ℕ
@@ -79,7 +60,7 @@ unfoldable pub hostWalk : List ℕ → List ℕ → ℕ → List ℤ → Walk
 hostWalk holding bytes end rows = walkAt (holdingIn holding) bytes end rows
 
 unfoldable pub walkedTo : Walk → Walked
-walkedTo w = record { answer = answerNumber (answerOf (w .stop)); place = w .place; messages = messages w; rows = rowCount (w .handed) }
+walkedTo w = record { answer = numberSaid (saidAt (w .place) (answerOf (w .stop))); place = w .place; messages = messages w; rows = rowCount (w .handed) }
 
 -- what is written after so many messages: nothing where none was accepted
 unfoldable pub leftBytes : ℕ → Holding → List ℕ → List ℕ

@@ -1,10 +1,10 @@
 // For a host written in C (docs/HOST.md, include/hundurzek.h): numbers and lent slices, and nothing of its own.
 ghost use mathlib.Core.Path.{_≡_};
 ghost use mathlib.Core.Bool.{true};
-ghost use Prim.Native.Nat.{_≤_};
+ghost use Prim.Native.Nat.{ℕ, _≤_};
 ghost use lib.ListN.{length};
-ghost use Rattle.bits.specs.Parts.{startOf, countOf};
-ghost use Rattle.format.specs.Answers.{numberOf};
+ghost use Rattle.format.specs.Answers as Said;
+ghost use Rattle.format.specs.Answers.{numberOf, saidAt};
 ghost use Rattle.format.specs.Ends.{Within};
 ghost use Rattle.format.specs.Messages.{maskMessage};
 ghost use Rattle.format.specs.Programs.{run};
@@ -12,7 +12,7 @@ ghost use Rattle.format.specs.Reading.{bitsFrom, lentAfter, answerOf, over, row
 ghost use Rattle.heads.specs.Sorting.{adoptedBy};
 ghost use Rattle.holding.specs.Pictures.{maskOf, sound};
 ghost use Rattle.passing.specs.Passing.{size, bytesOf};
-ghost use Rattle.host.specs.Handing.{noHead, messageNumber, handed, handedTo, placeSaid, bytesAfter, holdingBytes, hostOutcome, answerNumber, hostWalk, walkedTo, leftBytes, walkBytes, emptied, emptiedNumber};
+ghost use Rattle.host.specs.Handing.{handedBy, handed, numberSaid, bytesAfter, holdingBytes, hostOutcome, hostWalk, walkedTo, leftBytes, walkBytes, emptied, emptiedNumber};
 use bits::part::begins;
 use bits::part::counts;
 use format::ABSENT;
@@ -69,7 +69,7 @@ fn number(r: Refusal) -> u64
 
 // Document 01's number of a stop, and the one for a message.
 fn answer_number(answer: Answer) -> u64
-    ensures { λ n. ⌜ n ≡ answerNumber answer ⌝ }
+    ensures { λ n. ⌜ ((place : ℕ) → n ≡ numberSaid (saidAt place answer)) ⌝ }
 {
     match answer {
         Answer::Message(_, _, _) => MESSAGE,
@@ -80,7 +80,7 @@ fn answer_number(answer: Answer) -> u64
 
 // Idle or a refusal: nothing was read.
 fn stop(number: u64, start: usize) -> Handed
-    ensures { λ r. ⌜ r ≡ record { answer = number; place = start; rows = 0; offset = startOf start start; count = countOf start start; head = noHead } ⌝ }
+    ensures { λ r. ⌜ r ≡ handedBy start (Said.stop number start) ⌝ }
 {
     Handed {
         answer: number,
@@ -103,7 +103,7 @@ fn stop(number: u64, start: usize) -> Handed
 
 // A message.
 fn message(head: Head, start: usize, next: usize, rows: usize) -> Handed
-    ensures { λ r. ⌜ r ≡ record { answer = messageNumber; place = next; rows = rows; offset = startOf start next; count = countOf start next; head = head } ⌝ }
+    ensures { λ r. ⌜ r ≡ handedBy start (Said.message head next rows) ⌝ }
 {
     Handed {
         answer: MESSAGE,
@@ -117,7 +117,7 @@ fn message(head: Head, start: usize, next: usize, rows: usize) -> Handed
 
 // What an answer to reading at a start hands out.
 fn hand(answer: Answer, start: usize) -> Handed
-    ensures { λ r. ⌜ r ≡ handedTo start (placeSaid start answer) answer ⌝ }
+    ensures { λ r. ⌜ r ≡ handedBy start (saidAt start answer) ⌝ }
 {
     match answer {
         Answer::Idle => stop(0, start),

@@ -1,19 +1,21 @@
 -- `host::answer_number` meets its contract. Assumes nothing.
 use mathlib.Core.Path.{sym, ap, _∙_}
 use borrow.Author.Needs.{needs}
-use Rattle.host.specs.Handing.{answerNumber}
+use Rattle.format.specs.declared.Answer.{Answer}
+use Rattle.format.specs.Answers.{saidAt}
+use Rattle.host.specs.Handing.{numberSaid}
 use Rattle.host.proofs.Outcomes.{idle-tag}
 use Rattle.host.proofs.Walks.{message-number}
 use Rattle.host.proofs.answer_number.Statement.{statement}
 use Rattle.host.proofs.answer_number.Tie as tie
 
 returns-2 : tie.Need-returns-2
-unfolding answerNumber
-returns-2 c = sym (ap answerNumber (idle-tag (c .before .before .args .answer) (c .before .match .keys2)))
+unfolding numberSaid saidAt
+returns-2 c place = sym (ap (λ (a : Answer). numberSaid (saidAt place a)) (idle-tag (c .before .before .args .answer) (c .before .match .keys2)))
 
 returns-3 : tie.Need-returns-3
-unfolding answerNumber
-returns-3 c = c .number .ensures ∙ sym (ap answerNumber (c .before .before .answer .given .1))
+unfolding numberSaid saidAt
+returns-3 c place = c .number .ensures ∙ sym (ap (λ (a : Answer). numberSaid (saidAt place a)) (c .before .before .answer .given .1))
 
 pub answer-number-spec : {M : Type 1} → statement M
 answer-number-spec =

@@ -7,14 +7,16 @@ use lib.ListN.{length}
 use borrow.Author.Needs.{needs}
 use denote.Enum.Declared.{tagOf}
 use Rattle.bits.proofs.Windows.{Bytes}
+use Rattle.format.specs.declared.Answer.{Answer}
+use Rattle.format.specs.Answers.{saidAt}
 use Rattle.format.specs.Messages.{maskMessage}
 use Rattle.format.specs.Programs.{run}
 use Rattle.format.specs.Reading.{Outcome, bitsFrom, lentAfter, answerOf, over, rowsAfter}
 use Rattle.heads.specs.Sorting.{adoptedBy}
 use Rattle.holding.specs.declared.Holding.{Holding}
 use Rattle.holding.specs.Pictures.{maskOf, sound}
-use Rattle.host.specs.Handing.{bytesAfter, hostOutcome}
-use Rattle.host.proofs.Outcomes.{bytes-pass, hand-outcome, sought-bytes}
+use Rattle.host.specs.Handing.{handedBy, bytesAfter, hostOutcome}
+use Rattle.host.proofs.Outcomes.{bytes-pass, sought-bytes}
 use Rattle.host.proofs.hundurzek_read.Statement.{statement}
 use Rattle.host.proofs.hundurzek_read.Tie as tie
 use Rattle.passing.specs.Passing.{bytesOf, holdingIn}
@@ -48,7 +50,7 @@ returns c =
     let k = g .before .before .before in
     let x = s k .args in
     let it = sought-answer (holdingIn (lent k)) (x .bytes .now) (x .end) (x .start) (x .rows .now) (g .found .given .0 .0) (sym (said k .0) ∙ g .found .given .1) in (
-      c .hand .ensures ∙ hand-outcome (x .start) (g .found .given .0 .0) (outcome k) (it .says),
+      c .hand .ensures ∙ ap (λ (a : Answer). handedBy (x .start) (saidAt (x .start) a)) (it .says),
       (sym (sought-bytes (lent k) (x .bytes .now) (x .end) (x .start) (x .rows .now) (small k) it), said k .1),
     )
 
@@ -88,7 +90,7 @@ returns-2 : tie.Need-returns-2
 returns-2 c =
     let a = c .before .before .before in
     let e = a .before .before in (
-      c .hand2 .ensures ∙ hand-outcome (s (k e) .args .start) _ (outcome (k e)) (a .adopt .ensures .0 ∙ ap answerOf (adopts e)),
+      c .hand2 .ensures ∙ ap (λ (b : Answer). handedBy (s (k e) .args .start) (saidAt (s (k e) .args .start) b)) (a .adopt .ensures .0 ∙ ap answerOf (adopts e)),
       (a .adopt .ensures .1 ∙ ap (λ (o : Outcome). bytesAfter (lentAfter o) (lent (k e))) (adopts e), said (k e) .1),
     )
 

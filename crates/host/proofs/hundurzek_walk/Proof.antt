@@ -45,7 +45,7 @@ returns c =
     let x = s v .args in
     let t = v .walk .result .tally in
     let told = walked-to (lent v) (x .bytes .now) (x .end) (x .rows .now) (v .walk .result) (said v .0) in (
-      ap (λ (n : ℕ). record { answer = n; place = t .place; messages = t .messages; rows = t .rows }) (c .answer-number .ensures) ∙ told,
+      ap (λ (n : ℕ). record { answer = n; place = t .place; messages = t .messages; rows = t .rows }) (c .answer-number .ensures (t .place)) ∙ told,
       (o .leave .ensures ∙ left (lent v) (x .bytes .now) (x .end) (x .rows .now) (v .walk .result) (said v .0) (small v), said v .1),
     )
 
