@@ -1,6 +1,5 @@
 -- What a walk does by what is found where it stands: a message under the mask, a stop, a mask. Assumes nothing.
 use mathlib.Core.Path.{_≡_, refl, sym, ap, subst, _∙_}
-use mathlib.Core.Bool.{Bool, true, false}
 use mathlib.Core.List.{List, [], flatten}
 use mathlib.Core.Logic.{_⊎_, inl, inr}
 use Prim.Native.Nat.{ℕ, _+_}
@@ -30,8 +29,16 @@ use Rattle.reader.proofs.Findings.{FoundMask, found-mask, FoundAnswer, found-an
 use Rattle.reader.proofs.Lents.{kept}
 use Rattle.reader.proofs.message.Found.{the-type}
 use Rattle.walk.specs.declared.Halt.{Halt}
-use Rattle.walk.specs.Standing.{Stand, standAt, Stands, walkedFrom, rowsFrom, Gone, Halts, Came, Once, CameBy}
+use Rattle.walk.specs.Standing.{Stand, standAt, Stands, walkedFrom, rowsFrom}
+use Rattle.walk.specs.Pausing.{behind}
 use Rattle.walk.proofs.Going.{nextStand, Goes, within, next-goes, stop-lent, stop-walked, stop-numbers}
+
+-- a mask, or a stop
+unfoldable pub Halts : Found → Type 0
+Halts Mask = Unit {0}
+Halts (Answered (Answers.Message head next n)) = ⊥
+Halts (Answered Answers.Idle) = Unit {0}
+Halts (Answered (Answers.Refused r missing)) = Unit {0}
 
 -- an answer that is a message: the outcome is
 pub record Accepted (o : Outcome) (next n : ℕ) : Type 0 where
@@ -93,13 +100,13 @@ module _ (bytes : List ℕ) (end : ℕ) (s : Stand) (stands : Stands bytes end s
 
   -- a message: the walk goes on behind it
   pub under-goes : (head : Head) (next n : ℕ) → found ≡ Answered (Answers.Message head next n)
-      → Goes bytes end s (standAt (s .holding) (record { place = next; messages = s .tally .messages + 1; rows = s .tally .rows + n }) (rowsAfter outcome (s .rows)))
+      → Goes bytes end s (behind bytes end s next n)
   unfolding lentAfter structOf
   under-goes head next n e =
       let told = answered _ e in
       let it = message-of outcome head next n (sym (told .says)) in
       let hold : pictureOf (it .message .after) ≡ s .holding = ap (structOf (s .holding)) (ap lentAfter (sym (it .outcome)) ∙ told .keeps) ∙ kept (s .holding) (stands .held) in
-      let same : nextStand s (it .message) next ≡ standAt (s .holding) (record { place = next; messages = s .tally .messages + 1; rows = s .tally .rows + n }) (rowsAfter outcome (s .rows)) =
+      let same : nextStand s (it .message) next ≡ behind bytes end s next n =
       λ i. standAt (hold i) (record { place = next; messages = s .tally .messages + 1; rows = s .tally .rows + it .count i }) (rowsAfter (sym (it .outcome) i) (s .rows)) in
       subst (Goes bytes end s) same (next-goes bytes end s stands (it .message) next (it .outcome))
 
@@ -136,36 +143,12 @@ module _ (bytes : List ℕ) (end : ℕ) (s : Stand) (stands : Stands bytes end s
             stop-numbers bytes end s stands stopped,
           )
 
-  -- ---- where reading under the mask comes to
+  -- ---- a mask or a stop leaves the row buffer as it was
 
-  halt-leaves : (f : Found) → f ≡ found → Halts f → rowsAfter outcome (s .rows) ≡ s .rows
+  pub halt-leaves : (f : Found) → f ≡ found → Halts f → rowsAfter outcome (s .rows) ≡ s .rows
   halt-leaves Mask e halts =
       ap (λ (o : Outcome). rowsAfter o (s .rows)) (mask-found (ap (tagOf the-type) (sym e)) .adopts) ∙ sym (adopted-rows (maskOf (s .holding)) (s .tally .place + 16) _ (s .rows))
   halt-leaves (Answered a) e halts = stop-leaves outcome (s .rows) (stop-of outcome a (answered a (sym e) .says) halts)
-
-  came : (start : Stand) → start .holding ≡ s .holding → Gone bytes end start s → (f : Found) → f ≡ found → Halts f → (rows : List ℤ) → rows ≡ rowsAfter outcome (s .rows)
-      → Came bytes end start (record { found = f; tally = s .tally }) rows
-  came start same gone f e halts rows left =
-      let was : s .rows ≡ rows = sym (left ∙ halt-leaves f e halts) in
-      let stand : s ≡ standAt (start .holding) (s .tally) rows = λ i. standAt (sym same i) (s .tally) (was i) in
-      record {
-        gone = subst (Gone bytes end start) stand gone;
-        stands = subst (Stands bytes end) stand stands;
-        found = e ∙ ap (λ (h : Holding). foundAt h bytes end (s .tally .place)) (sym same);
-        halts = halts;
-      }
-
-  -- or where one reading comes to: it stands where it started
-  pub came-once : (start : Stand) → start ≡ s → (f : Found) → f ≡ found → (rows : List ℤ) → rows ≡ rowsAfter outcome (s .rows)
-      → Once bytes end start (record { found = f; tally = s .tally }) rows
-  came-once start same f e rows left =
-      subst (λ (t : Stand). Once bytes end t (record { found = f; tally = s .tally }) rows) (sym same) (record { found = e; tally = refl; numbers = left })
-
-  pub came-by : (once : Bool) (start : Stand) → (once ≡ true → start ≡ s) → start .holding ≡ s .holding → Gone bytes end start s → (f : Found) → f ≡ found → Halts f
-      → (rows : List ℤ) → rows ≡ rowsAfter outcome (s .rows) → CameBy once bytes end start (record { found = f; tally = s .tally }) rows
-  unfolding CameBy
-  came-by true start stays same gone f e halts rows left = came-once start (stays refl) f e rows left
-  came-by false start stays same gone f e halts rows left = came start same gone f e halts rows left
 
   -- ---- a stop
 

@@ -24,7 +24,13 @@ use Rattle.holding.proofs.Pictured.{mask-picture, sound-picture}
 use Rattle.holding.proofs.Sounds.{sounds}
 use Rattle.reader.specs.Readings.{readAt}
 use Rattle.reader.proofs.FewRows.{few-rows}
-use Rattle.walk.specs.Standing.{Stand, Stands, restOf, walkedWith, walkedFrom, rowsFrom, Gone}
+use Rattle.walk.specs.Standing.{Stand, Stands, restOf, walkedWith, walkedFrom, rowsFrom}
+
+-- the walk went from one stand to another, and not back: what it answers and leaves is the same from both
+pub record Gone (bytes : List ℕ) (end : ℕ) (s t : Stand) : Type 0 where
+  pub forth : s .tally .place ≤ t .tally .place
+  pub walked : walkedFrom bytes end s ≡ walkedFrom bytes end t
+  pub numbers : rowsFrom bytes end s ≡ rowsFrom bytes end t
 
 pub gone-nowhere : (bytes : List ℕ) (end : ℕ) (s : Stand) → Gone bytes end s s
 gone-nowhere bytes end s = record { forth = le-refl (s .tally .place); walked = refl; numbers = refl }

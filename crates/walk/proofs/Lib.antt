@@ -1,3 +1,4 @@
 pub mod Going
 pub mod Found
 pub mod Begins
+pub mod Pausing

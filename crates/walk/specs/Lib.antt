@@ -1,2 +1,3 @@
 pub mod Walks
 pub mod Standing
+pub mod Pausing

@@ -1,23 +1,18 @@
 -- Where a walk stands between two readings, and what is left of it from there.
 use mathlib.Core.Path.{_≡_}
-use mathlib.Core.Bool.{Bool, true, false}
+use mathlib.Core.Bool.{true}
 use mathlib.Core.List.{List}
 use Prim.Native.Nat.{ℕ, _+_, _*_, _≤_}
 use lib.IntN.{ℤ}
 use lib.ListN.{length}
-use Rattle.format.specs.declared.Answer.the-variants as Answers
 use Rattle.format.specs.Masks.{lent, heldIn}
-use Rattle.format.specs.Reading.{stretchLimit, rowRoom, lentAfter, answerOf, rowsAfter}
+use Rattle.format.specs.Reading.{stretchLimit, rowRoom, lentAfter, answerOf}
 use Rattle.format.specs.Table.{table}
 use Rattle.format.specs.Walking.{Walk, walkOn, messages, rowCount}
 use Rattle.holding.specs.declared.Holding.{Holding}
 use Rattle.holding.specs.Pictures.{pictureOf, maskOf, sound}
-use Rattle.reader.specs.declared.message.Found.{Found}
-use Rattle.reader.specs.declared.message.Found.the-variants.{Mask, Answered}
-use Rattle.reader.specs.Readings.{readAt, foundAt}
 use Rattle.walk.specs.declared.Tally.{Tally}
 use Rattle.walk.specs.declared.Halt.{Halt}
-use Rattle.walk.specs.declared.under.Pause.{Pause}
 
 -- what is held, the place with what was handed out before it, the row buffer
 pub record Stand : Type 0 where
@@ -59,33 +54,3 @@ walkedFrom bytes end s = walkedWith (s .tally .messages) (s .tally .rows) (restO
 
 unfoldable pub rowsFrom : List ℕ → ℕ → Stand → List ℤ
 rowsFrom bytes end s = restOf bytes end s .rows
-
--- the walk went from one stand to another, and not back: what it answers and leaves is the same from both
-pub record Gone (bytes : List ℕ) (end : ℕ) (s t : Stand) : Type 0 where
-  pub forth : s .tally .place ≤ t .tally .place
-  pub walked : walkedFrom bytes end s ≡ walkedFrom bytes end t
-  pub numbers : rowsFrom bytes end s ≡ rowsFrom bytes end t
-
--- a mask, or a stop
-unfoldable pub Halts : Found → Type 0
-Halts Mask = Unit {0}
-Halts (Answered (Answers.Message head next n)) = ⊥
-Halts (Answered Answers.Idle) = Unit {0}
-Halts (Answered (Answers.Refused r missing)) = Unit {0}
-
--- where reading under one mask came to
-pub record Came (bytes : List ℕ) (end : ℕ) (s : Stand) (p : Pause) (rows : List ℤ) : Type 0 where
-  pub gone : Gone bytes end s (standAt (s .holding) (p .tally) rows)
-  pub stands : Stands bytes end (standAt (s .holding) (p .tally) rows)
-  pub found : p .found ≡ foundAt (s .holding) bytes end (p .tally .place)
-  pub halts : Halts (p .found)
-
--- where one reading came to
-pub record Once (bytes : List ℕ) (end : ℕ) (s : Stand) (p : Pause) (rows : List ℤ) : Type 0 where
-  pub found : p .found ≡ foundAt (s .holding) bytes end (s .tally .place)
-  pub tally : p .tally ≡ s .tally
-  pub numbers : rows ≡ rowsAfter (readAt (s .holding) bytes end (s .tally .place)) (s .rows)
-
-unfoldable pub CameBy : Bool → List ℕ → ℕ → Stand → Pause → List ℤ → Type 0
-CameBy true bytes end s p rows = Once bytes end s p rows
-CameBy false bytes end s p rows = Came bytes end s p rows

@@ -1,5 +1,7 @@
 // Messages under one mask.
-ghost use Rattle.walk.specs.Standing.{standAt, Stands, CameBy};
+ghost use mathlib.Core.Path.{_≡_};
+ghost use Rattle.walk.specs.Standing.{standAt, Stands};
+ghost use Rattle.walk.specs.Pausing.{rowsIn, pausesIn, pauseIn};
 use crate::Tally;
 use format::Answer;
 use holding::Holding;
@@ -23,7 +25,8 @@ pub fn under(
     rows: &mut [i32],
 ) -> Pause
     requires { ⌜ Stands (now bytes) end (standAt holding from (now rows)) ⌝ }
-    ensures { λ r. ⌜ CameBy once (now (bytes .entry)) end (standAt holding from (now (rows .entry))) r (now (rows .exit)) ⌝ }
+    ensures { λ r. ⌜ r ≡ pauseIn (now (bytes .entry)) end (pausesIn once (now (bytes .entry)) end (standAt holding from (now (rows .entry)))) ⌝ }
+    ensures { λ _. ⌜ now (rows .exit) ≡ rowsIn (now (bytes .entry)) end (pausesIn once (now (bytes .entry)) end (standAt holding from (now (rows .entry)))) ⌝ }
 {
     let ids = holding.ids;
     let masks = holding.satellites;

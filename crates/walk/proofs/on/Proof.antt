@@ -16,9 +16,12 @@ use Rattle.reader.specs.declared.Reading.{Reading}
 use Rattle.reader.specs.Readings.{readAt, readingOf, foundAt}
 use Rattle.reader.proofs.Adopted.{adopted-new, adopted-not}
 use Rattle.reader.proofs.message.Found.{the-type}
-use Rattle.walk.specs.Standing.{Stand, standAt, standFirst, Stands, Gone, Halts, Came, CameBy}
-use Rattle.walk.proofs.Found.{no-message, answered-stop, mask-found, mask-goes, mask-stop}
-use Rattle.walk.proofs.Going.{gone-nowhere, gone-on, Goes}
+use Rattle.walk.specs.declared.under.Pause.{Pause}
+use Rattle.walk.specs.Pausing.{foundIn, pausesIn}
+use Rattle.walk.specs.Standing.{Stand, standAt, standFirst, Stands}
+use Rattle.walk.proofs.Found.{Halts, no-message, answered-stop, mask-found, mask-goes, mask-stop}
+use Rattle.walk.proofs.Going.{Gone, gone-nowhere, gone-on, Goes}
+use Rattle.walk.proofs.Pausing.{Came, under-comes, stand-there}
 use Rattle.walk.proofs.on.Statement.{statement}
 use Rattle.walk.proofs.on.Tie as tie
 
@@ -51,9 +54,17 @@ module _ (c : tie.After-under Inv-loop μ-loop) where
   abbrev outcome : Outcome
   outcome = readAt (l .loop .held) (s .args .bytes .now) (s .args .end) (c .under .result .tally .place)
 
-  came : Came (s .args .bytes .now) (s .args .end) (standAt (l .loop .held) (l .loop .tally) (l .loop .rows)) (c .under .result) (c .under .last .1 .1 .1 .1 .1 .0)
-  unfolding CameBy
-  came = c .under .ensures
+  came : Came (s .args .bytes .now) (s .args .end) (standAt (l .loop .held) (l .loop .tally) (l .loop .rows)) here
+  unfolding pausesIn
+  came =
+      subst (Came _ _ _) (stand-there (s .args .bytes .now) (s .args .end) _ (l .loop .inv .0) _ _ (c .under .ensures .0) (c .under .ensures .1))
+      (under-comes _ _ _ (l .loop .inv .0))
+
+  found : c .under .result .found ≡ foundIn (s .args .bytes .now) (s .args .end) here
+  unfolding pausesIn
+  found =
+      ap (λ (p : Pause). p .found) (c .under .ensures .0)
+      ∙ ap (foundIn (s .args .bytes .now) (s .args .end)) (stand-there (s .args .bytes .now) (s .args .end) _ (l .loop .inv .0) _ _ (c .under .ensures .0) (c .under .ensures .1))
 
   gone : Gone (s .args .bytes .now) (s .args .end) (standFirst (s .args .holding) (s .args .rows .now)) here
   gone = gone-on (l .loop .inv .1) (came .gone)
@@ -62,7 +73,7 @@ returns : tie.Need-returns Inv-loop μ-loop
 returns c =
     let u = c .before .before .before .before .before in
     let a = c .before .found .given in
-    let stop = answered-stop _ _ (here u) (came u .stands) (a .0 .0) (sym (came u .found) ∙ a .1) (subst Halts (a .1) (came u .halts)) in
+    let stop = answered-stop _ _ (here u) (came u .stands) (a .0 .0) (sym (found u) ∙ a .1) (subst Halts (sym (found u) ∙ a .1) (came u .halts)) in
     (stop .0 ∙ sym (gone u .walked), stop .1 ∙ sym (gone u .numbers))
 
 -- a mask
@@ -71,7 +82,7 @@ module _ (c : tie.After-enum-told Inv-loop μ-loop) where
   u = c .before .before .before .before
 
   masked : tagOf the-type (foundAt (l u .loop .held) (s u .args .bytes .now) (s u .args .end) (u .under .result .tally .place)) ≡ 0
-  masked = ap (tagOf the-type) (sym (came u .found) ∙ c .enum-told .given .1)
+  masked = ap (tagOf the-type) (sym (found u) ∙ c .enum-told .given .1)
 
 add-adopt : tie.Need-add-adopt Inv-loop μ-loop
 add-adopt c =

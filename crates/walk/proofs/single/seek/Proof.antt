@@ -6,7 +6,8 @@ use Rattle.format.specs.Reading.{Outcome, rowsAfter}
 use Rattle.reader.specs.declared.Verdict.the-variants.{Good}
 use Rattle.reader.specs.Readings.{testsOf, testedBy, soughtBy}
 use Rattle.reader.proofs.Sought.{refused-lent, good-lent, good-reads}
-use Rattle.walk.specs.Standing.{standAt, Once, CameBy}
+use Rattle.walk.specs.declared.under.Pause.{Pause}
+use Rattle.walk.specs.Pausing.{pausesIn}
 use Rattle.walk.proofs.Begins.{begin}
 use Rattle.walk.proofs.single.seek.Statement.{statement}
 use Rattle.walk.proofs.single.seek.Tie as tie
@@ -38,14 +39,13 @@ under-requires c κs =
     begin (good-lent (x .holding) (x .bytes .now) (x .end) (x .start) (x .rows .now) (good e))
 
 returns-2 : tie.Need-returns-2
-unfolding soughtBy CameBy
+unfolding soughtBy pausesIn
 returns-2 c =
     let u = c .before in
     let e = u .before .before in
     let x = s e .args in
-    let once : Once (x .bytes .now) (x .end) (standAt (x .holding) (record { place = x .start; messages = 0; rows = 0 }) (x .rows .now)) (u .under .result) (u .under .last .1 .1 .1 .1 .1 .0) = u .under .ensures in
     let same = good-reads (x .holding) (x .bytes .now) (x .end) (x .start) (x .rows .now) (good e) in
-    (once .found ∙ rw (good e), once .numbers ∙ sym (ap (λ (o : Outcome). rowsAfter o (x .rows .now)) same))
+    (ap (λ (p : Pause). p .found) (u .under .ensures .0) ∙ rw (good e), u .under .ensures .1 ∙ sym (ap (λ (o : Outcome). rowsAfter o (x .rows .now)) same))
 
 pub seek-spec : {M : Type 1} → statement M
 seek-spec =

@@ -1,6 +1,6 @@
 -- `walk::under::under` meets its contract. The loop's invariant: it stands where the walk went. Assumes nothing.
 use mathlib.Core.Path.{_≡_, refl, sym, ap, subst, _∙_}
-use mathlib.Core.Bool.{true, false≢true}
+use mathlib.Core.Bool.{true, false}
 use mathlib.Core.List.{List}
 use Prim.Native.Nat.{_+_, _-_}
 use native.Mathlib.Omega.{arith}
@@ -8,28 +8,30 @@ use lib.IntN.{ℤ}
 use lib.ListN.{length}
 use borrow.Author.Needs.{needs}
 use Rattle.body.proofs.Bodies.{counted, prefix}
+use Rattle.format.specs.declared.Answer.the-variants.{Message}
 use Rattle.holding.specs.Pictures.{sound}
 use Rattle.holding.proofs.Sounds.{sounds}
 use Rattle.reader.specs.declared.message.Found.{Found}
 use Rattle.reader.specs.declared.message.Found.the-variants.{Answered}
-use Rattle.walk.specs.Standing.{Stand, standAt, Stands, Gone, Halts, CameBy}
-use Rattle.walk.proofs.Found.{no-message, mask-tag, under-goes, came-once, came-by}
-use Rattle.walk.proofs.Going.{gone-nowhere, gone-on, Goes}
+use Rattle.walk.specs.Standing.{Stand, standAt, Stands}
+use Rattle.walk.specs.Pausing.{foundIn, rowsIn, pausesIn, pauseIn}
+use Rattle.walk.proofs.Found.{Halts, no-message, mask-tag, under-goes}
+use Rattle.walk.proofs.Going.{Goes}
+use Rattle.walk.proofs.Pausing.{pauses-once, pauses-behind, pauses-here}
 use Rattle.walk.proofs.under.under.Statement.{statement}
 use Rattle.walk.proofs.under.under.Tie as tie
 
 abbrev Inv-loop : tie.InvT-loop
 Inv-loop holding bytes end once rows₀ ids masks strips count tally₀ rows tally =
     Stands bytes end (standAt holding tally rows)
-    × Gone bytes end (standAt holding tally₀ rows₀) (standAt holding tally rows)
+    × (pausesIn once bytes end (standAt holding tally₀ rows₀) ≡ pausesIn once bytes end (standAt holding tally rows))
     × (length rows ≡ length rows₀)
-    × (once ≡ true → standAt holding tally₀ rows₀ ≡ standAt holding tally rows)
 
 abbrev μ-loop : tie.MeasureT-loop
 μ-loop holding bytes end once rows₀ ids masks strips count tally₀ rows tally = end - tally .place
 
 loop-holds : tie.Need-loop-holds Inv-loop μ-loop
-loop-holds c = (c .before .before .before .before .pre, gone-nowhere _ _ _, refl, λ e. refl)
+loop-holds c = (c .before .before .before .before .pre, refl, refl)
 
 -- where the loop stands
 module _ (c : tie.At-loop Inv-loop μ-loop) where
@@ -57,26 +59,32 @@ find-requires c κs =
 abbrev at : tie.After-find Inv-loop μ-loop → tie.At-loop Inv-loop μ-loop
 at f = f .before .before .before .before .before
 
+-- the pause is where the loop stands
+paused : (f : tie.After-find Inv-loop μ-loop) (g : Found) → g ≡ f .find .result
+    → let l = at f in let t = pausesIn (s l .args .once) (s l .args .bytes .now) (s l .args .end) (start l) in
+    t ≡ here l
+    → (record { found = g; tally = l .loop .tally } ≡ pauseIn (s l .args .bytes .now) (s l .args .end) t) × (f .find .last .1 .1 .1 .1 .1 .1 .1 .0 ≡ rowsIn (s l .args .bytes .now) (s l .args .end) t)
+paused f g e there = rw there ((λ i. record { found = (e ∙ f .find .ensures .0) i; tally = at f .loop .tally }), f .find .ensures .1)
+
 -- a mask, or a stop
 halted : (f : tie.After-find Inv-loop μ-loop) (g : Found) → g ≡ f .find .result → Halts g
-    → CameBy (s (at f) .args .once) (s (at f) .args .bytes .now) (s (at f) .args .end) (start (at f)) (record { found = g; tally = at f .loop .tally })
-    (f .find .last .1 .1 .1 .1 .1 .1 .1 .0)
+    → let l = at f in pausesIn (s l .args .once) (s l .args .bytes .now) (s l .args .end) (start l) ≡ here l
 halted f g e halts =
     let l = at f in
-    came-by (s l .args .bytes .now) (s l .args .end) (here l) (l .loop .inv .0) (s l .args .once) (start l) (l .loop .inv .3) refl (l .loop .inv .1) g (e ∙ f .find .ensures .0) halts _
-    (f .find .ensures .1)
+    l .loop .inv .1 ∙ pauses-here (s l .args .bytes .now) (s l .args .end) (here l) (l .loop .inv .0) (s l .args .once) (subst Halts (e ∙ f .find .ensures .0) halts)
 
 returns : tie.Need-returns Inv-loop μ-loop
 unfolding Halts
 returns c =
     let f = c .before .before .before in
     let mask = mask-tag (f .find .result) (c .before .match .keys2) in
-    halted f _ refl (subst Halts mask tt)
+    paused f _ refl (halted f _ refl (subst Halts mask tt))
 
 returns-2 : tie.Need-returns-2 Inv-loop μ-loop
 returns-2 c =
     let a = c .before .before .found .given in
-    halted (c .before .before .before .before .before) (Answered (a .0 .0)) (sym (a .1)) (no-message (a .0 .0) (c .match2 .keys2))
+    let f = c .before .before .before .before .before in
+    paused f (Answered (a .0 .0)) (sym (a .1)) (halted f (Answered (a .0 .0)) (sym (a .1)) (no-message (a .0 .0) (c .match2 .keys2)))
 
 -- a message
 module _ (c : tie.After-known-told2 Inv-loop μ-loop) where
@@ -86,25 +94,35 @@ module _ (c : tie.After-known-told2 Inv-loop μ-loop) where
   abbrev l : tie.At-loop Inv-loop μ-loop
   l = at f
 
-  goes : Goes (s l .args .bytes .now) (s l .args .end) (here l)
-      (standAt (s l .args .holding) (record { place = c .before .answer .given .0 .1 .0; messages = l .loop .tally .messages + 1; rows = l .loop .tally .rows + c .before .answer .given .0 .1 .1 .0 }) (f .find .last .1 .1 .1 .1 .1 .1 .1 .0))
+  -- the stand behind it, with the row buffer that reading it left
+  abbrev next : List ℤ → Stand
+  next rows =
+      standAt (s l .args .holding)
+      (record { place = c .before .answer .given .0 .1 .0; messages = l .loop .tally .messages + 1; rows = l .loop .tally .rows + c .before .answer .given .0 .1 .1 .0 }) rows
+
+  abbrev left : List ℤ
+  left = f .find .last .1 .1 .1 .1 .1 .1 .1 .0
+
+  message : foundIn (s l .args .bytes .now) (s l .args .end) (here l) ≡ Answered (Message (c .before .answer .given .0 .0) (c .before .answer .given .0 .1 .0) (c .before .answer .given .0 .1 .1 .0))
+  message = sym (f .find .ensures .0) ∙ c .before .before .before .before .found .given .1 ∙ ap Answered (c .before .answer .given .1)
+
+  goes : Goes (s l .args .bytes .now) (s l .args .end) (here l) (next left)
   goes =
-      let a = c .before .answer .given in
-      let g = c .before .before .before .before .found .given in
-      let said = sym (f .find .ensures .0) ∙ g .1 ∙ ap Answered (a .1) in
-      subst (λ (rows : List ℤ). Goes (s l .args .bytes .now) (s l .args .end) (here l) (standAt (s l .args .holding) (record { place = a .0 .1 .0; messages = l .loop .tally .messages + 1; rows = l .loop .tally .rows + a .0 .1 .1 .0 }) rows))
-      (sym (f .find .ensures .1))
-      (under-goes (s l .args .bytes .now) (s l .args .end) (here l) (l .loop .inv .0) (a .0 .0) (a .0 .1 .0) (a .0 .1 .1 .0) said)
+      subst (λ (rows : List ℤ). Goes (s l .args .bytes .now) (s l .args .end) (here l) (next rows)) (sym (f .find .ensures .1))
+      (under-goes (s l .args .bytes .now) (s l .args .end) (here l) (l .loop .inv .0) _ _ _ message)
+
+  same : s l .args .once ≡ false → pausesIn (s l .args .once) (s l .args .bytes .now) (s l .args .end) (here l) ≡ pausesIn (s l .args .once) (s l .args .bytes .now) (s l .args .end) (next left)
+  same on =
+      pauses-behind (s l .args .bytes .now) (s l .args .end) (here l) (l .loop .inv .0) (s l .args .once) on _ _ _ message
+      ∙ ap (λ (rows : List ℤ). pausesIn (s l .args .once) (s l .args .bytes .now) (s l .args .end) (next rows)) (sym (f .find .ensures .1))
 
 -- one reading
 returns-3 : tie.Need-returns-3 Inv-loop μ-loop
-unfolding CameBy
 returns-3 c =
     let m = c .before in
     let x = s (l m) .args in
     let a = m .before .before .before .before .found .given in
-    rw (c .if1 .taken)
-    (came-once (x .bytes .now) (x .end) (here (l m)) (l m .loop .inv .0) (start (l m)) (l m .loop .inv .3 (c .if1 .taken)) (Answered (a .0 .0)) (sym (a .1) ∙ f m .find .ensures .0) _ (f m .find .ensures .1))
+    paused (f m) (Answered (a .0 .0)) (sym (a .1)) (l m .loop .inv .1 ∙ pauses-once (x .bytes .now) (x .end) (here (l m)) (l m .loop .inv .0) (x .once) (c .if1 .taken))
 
 add-messages : tie.Need-add-t26 Inv-loop μ-loop
 add-messages c =
@@ -124,7 +142,7 @@ loop-less c =
 loop-again : tie.Need-loop-again Inv-loop μ-loop
 loop-again c =
     let m = c .before .before .before in
-    (goes m .stands, gone-on (l m .loop .inv .1) (goes m .gone), f m .find .kept .1 .1 .1 .1 .1 .1 .1 .0 ∙ l m .loop .inv .2, λ e. absurd (false≢true (sym (c .before .before .if1 .left) ∙ e)))
+    (goes m .stands, l m .loop .inv .1 ∙ same m (c .before .before .if1 .left), f m .find .kept .1 .1 .1 .1 .1 .1 .1 .0 ∙ l m .loop .inv .2)
 
 pub under-spec : {M : Type 1} → statement M
 under-spec =
