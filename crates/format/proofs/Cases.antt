@@ -12,6 +12,8 @@ use Rattle.bits.specs.Signed.{signed}
 use Rattle.format.specs.Answers.{Said, stop, numberOf, saidAt}
 use Rattle.format.specs.Assigned as Assigned
 use Rattle.format.specs.Good as Good
+use Rattle.format.specs.Listing as Listing
+use Rattle.format.specs.Listing.{Listed, listing}
 use Rattle.format.specs.Masks as Masks
 use Rattle.format.specs.Masks.{nothing, lent, heldIn}
 use Rattle.format.specs.Messages as Messages
@@ -20,9 +22,11 @@ use Rattle.format.specs.Reading as Reading
 use Rattle.format.specs.Reading.{answerOf, lentAfter}
 use Rattle.format.specs.Rows as Rows
 use Rattle.format.specs.Rows.{absent}
-use Rattle.format.specs.Saved.{text, digitChar, charDigit, decimal, hex, hexBits, cellText, flagText, systemText, heldText, lineOf}
+use Rattle.format.specs.Same.{sameList, sameℤ}
+use Rattle.format.specs.Saved.{cellText, flagText, systemText, heldText, lineOf}
 use Rattle.format.specs.Table as Table
 use Rattle.format.specs.Tests as Tests
+use Rattle.format.specs.Text.{text, digitChar, charDigit, digitsFrom, decimal, decimalValue, hex, hexBits, fieldsFrom}
 use Rattle.format.specs.Walking as Walking
 use Rattle.format.specs.Walking.{HandedOut, Walk, walk, messages, rowCount}
 
@@ -202,6 +206,11 @@ unfoldable pub computing : Unit {0}
 unfolding _∶_ spellAll bytesOf _at_after_and_says_ said report n ∅ opening maskHead head system clock saidMask saidHead spell bits bytes number signed flatMap flatten saidAt numberOf Walking.messages Walking.rowCount Walking.walkOn Walking.walkFrom Walking.goOn Walking.hand Reading.readingBy Reading.lentTests Tests.verdict Reading.placed Reading.readFrom Reading.bitsFrom Reading.endedAt Reading.rowsAfter Reading.over Programs.run Programs._>>=_ Programs._>>_ Programs.later Programs.unlessShort Programs.numbered Programs.taking Programs.require Table.opening Table.messageBy Table.table Table.kinds Table.alone Table.byKind Table.keeping Table.underMask Table.gate Messages.bodied Messages.overSatellites Messages.overCells Messages.common Messages.headOf Messages.rowsAlone Messages.body Messages.satelliteLines Messages.cellLines Messages.iodeWidth Messages.orbitShape Messages.clockShape Messages.codeShape Messages.phaseShape Messages.combinedShape Messages.packetShape Messages.selection Messages.flagged Messages.packetLines Messages.packet Messages.packetHeading Messages.maskMessage Messages.systems Messages.system Messages.systemId Messages.systemMasks Messages.systemSignals Messages.systemWith Messages.systemCells Messages.flaggedCells Messages.fewCells Messages.named Assigned.known Assigned.blank Assigned.assigned Assigned.satellitePlaces Assigned.signalPlaces Masks.placesFrom Masks.pick Masks.satellitesOf Masks.pairsOf Masks.cellsOf Masks.satellites Masks.cells Masks.skyOf Masks.heldIn Rows.widthOf Rows.valueOf Rows.shapeWidth Rows.valuesOf Rows.bodyWidth Rows.rowsOf Good.isHolding Good.good Good.goodSystems Good.goodSystem Reading.lentAfter answerOf
 computing = tt
 
+-- and what a text and a saved line compute with
+texts : Unit {0}
+unfolding text hexBits charDigit digitChar digitsFrom decimal decimalValue hex fieldsFrom cellText flagText systemText heldText lineOf lentAfter heldIn sameList sameℤ
+texts = tt
+
 -- from the empty holding
 walked : Case → Walk
 walked c = walk (lent nothing) (c .bytes) (c .end) (replicate 2048 (pos 0))
@@ -209,5 +218,16 @@ walked c = walk (lent nothing) (c .bytes) (c .end) (replicate 2048 (pos 0))
 cases-hold :
     map (λ c. report (walked c)) cases ≡ map (λ c. c .answer) cases
     × (map (λ c. lineOf (heldIn (lentAfter (walked c .stop)))) cases ≡ map (λ c. c .line) cases)
-unfolding computing walked exampleMask saidClock unsaid exampleLine _gives_keeps_ _of_gives_keeps_ cases text hexBits charDigit digitChar decimal hex cellText flagText systemText heldText lineOf lentAfter heldIn
+unfolding computing walked exampleMask saidClock unsaid exampleLine _gives_keeps_ _of_gives_keeps_ cases texts
 cases-hold = (refl, refl)
+
+-- ---- the worked example, whole: what is listed of the customer's line, and the saved mask after it
+
+example : Listed
+example = listing nothing (text "181\tFE91000645188500000000040806FFA4C1908600160000\n")
+
+example-listed :
+    (example .text ≡ text "M\t0\t114\t1\t100\t5\t0\t3\t1\t-\t-\t0\nM\t114\t67\t3\t100\t2\t0\t3\t-\t-\t-\t2\nR\t0\t1\t-\t5\t-\t-\t-\t-\nR\t0\t3\t-\t-16384\t-\t-\t-\t-\nE\t0\t181\t2\t2\n")
+    × (lineOf (example .held) ≡ text exampleLine)
+unfolding computing example exampleLine texts Listing.stretchLine Listing.bitsSaid Listing.lineSays Listing.bytesSaid Listing.valueText Listing.recordText Listing.headValues Listing.messageText Listing.stopValues Listing.walkText Listing.badText Listing.walkSaid Listing.listLine Listing.linesFrom Listing.listLines listing
+example-listed = (refl, refl)

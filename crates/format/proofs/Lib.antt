@@ -4,6 +4,7 @@ pub mod Cases
 pub mod Stops
 pub mod Openings
 pub mod Sames
+pub mod Texts
 pub mod SavedForm
 pub mod Steps
 pub mod Makes

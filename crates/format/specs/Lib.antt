@@ -13,5 +13,7 @@ pub mod Reading
 pub mod Ends
 pub mod Walking
 pub mod Writing
+pub mod Text
 pub mod Saved
+pub mod Listing
 pub mod Lengths

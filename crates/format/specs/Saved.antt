@@ -1,13 +1,9 @@
 -- The saved holding: document 01, "Saved mask and listing", one line there and back.
 use mathlib.Core.Bool.{Bool, true, false, cond, _&&_}
 use mathlib.Core.List.{List, [], _∷_, _++_, flatMap}
-use Prim.Native.Char.{code}
-use Prim.Native.Nat.{ℕ, _+_, _-_, _*_, _/_, _%_}
-use Prim.Native.String as Str
-use Prim.Native.String.{String}
-use lib.Dec.{leb, ltb, eqb}
+use Prim.Native.Nat.{ℕ, _*_}
+use lib.Dec.{leb, eqb}
 use lib.ListN.{length, getD, take, drop}
-use Rattle.bits.specs.BitLists.{number, spell}
 use Rattle.format.specs.declared.Refusal.{Refusal}
 use Rattle.format.specs.declared.Refusal.the-variants.{Room, Value}
 use Rattle.format.specs.Answers.{Done, done, undoneAt}
@@ -15,54 +11,12 @@ use Rattle.format.specs.Good.{good, isHolding}
 use Rattle.format.specs.Masks.{System, Held, nothing, mask, Lent, heldIn, placesFrom}
 use Rattle.format.specs.Same.{sameList}
 use Rattle.format.specs.Tests.{Test, verdict}
+use Rattle.format.specs.Text.{tab, lineFeed, dash, digitChar, decimal, decimalValue, hex, hexBits, fieldsFrom}
 
--- ---- characters
-
--- a text as the numbers of its characters
-unfoldable pub text : String → List ℕ
-text Str.[] = []
-text (Str._∷_ c cs) = code c ∷ text cs
-
-abbrev pub tab : ℕ
-tab = 9
-
-abbrev pub lineFeed : ℕ
-lineFeed = 10
-
-abbrev pub dash : ℕ
-dash = 45
+-- ---- the line
 
 abbrev pub letterS : ℕ
 letterS = 83
-
--- a digit, capitals from ten on
-unfoldable pub digitChar : ℕ → ℕ
-digitChar n = cond (ltb n 10) (48 + n) (55 + n)
-
-unfoldable pub charDigit : ℕ → ℕ
-charDigit c = cond (ltb c 58) (c - 48) (c - 55)
-
--- a number below 100, decimal without leading zeros
-unfoldable pub decimal : ℕ → List ℕ
-decimal n = cond (ltb n 10) (digitChar n ∷ []) (digitChar (n / 10) ∷ digitChar (n % 10) ∷ [])
-
-unfoldable pub decimalValue : ℕ → List ℕ → ℕ
-decimalValue sum [] = sum
-decimalValue sum (c ∷ cs) = decimalValue (10 * sum + charDigit c) cs
-
--- bits by fours, padded at the end with zero bits
-unfoldable pub hex : List Bool → List ℕ
-hex [] = []
-hex (a ∷ []) = digitChar (number (a ∷ false ∷ false ∷ false ∷ [])) ∷ []
-hex (a ∷ b ∷ []) = digitChar (number (a ∷ b ∷ false ∷ false ∷ [])) ∷ []
-hex (a ∷ b ∷ c ∷ []) = digitChar (number (a ∷ b ∷ c ∷ false ∷ [])) ∷ []
-hex (a ∷ b ∷ c ∷ d ∷ l) = digitChar (number (a ∷ b ∷ c ∷ d ∷ [])) ∷ hex l
-
-unfoldable pub hexBits : List ℕ → List Bool
-hexBits [] = []
-hexBits (c ∷ cs) = spell 4 (charDigit c) ++ hexBits cs
-
--- ---- the line
 
 -- `-` when the flag is 0 or the cell mask has no bits
 unfoldable pub cellText : List Bool → List ℕ
@@ -85,12 +39,6 @@ unfoldable pub lineOf : Held → List ℕ
 lineOf held = letterS ∷ (tab ∷ (heldText held ++ (lineFeed ∷ [])))
 
 -- ---- and back: what the line says if it is one, and then the test that it is
-
--- the fields of a line, parted by tabs; a line feed ends it
-unfoldable pub fieldsFrom : List ℕ → List ℕ → List (List ℕ)
-fieldsFrom before [] = before ∷ []
-fieldsFrom before (c ∷ cs) =
-    elim (eqb c lineFeed) [ true ↦ before ∷ [] | false ↦ elim (eqb c tab) [ true ↦ before ∷ fieldsFrom [] cs | false ↦ fieldsFrom (before ++ (c ∷ [])) cs ] ]
 
 unfoldable pub systemFrom : List ℕ → List ℕ → List ℕ → List ℕ → List ℕ → System
 systemFrom id sats signals flag bits =
