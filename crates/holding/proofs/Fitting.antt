@@ -1,5 +1,5 @@
 -- The tests of specs/Testing.antt, one strip or slot at a time. Assumes nothing.
-use mathlib.Core.Path.{_≡_, refl, ap, _∙_}
+use mathlib.Core.Path.{_≡_, ap, _∙_}
 use mathlib.Core.Bool.{Bool, true, false, _&&_, not}
 use mathlib.Core.List.{List}
 use Prim.Native.Nat.{ℕ, suc, _+_, _-_, _^_, _≤_, _<_}
@@ -33,22 +33,14 @@ strip-fit flag signals strips i to more inside =
 
 -- ---- slots
 
-and-regroup : (a b c d e : Bool) → (a && (b && (c && (d && e)))) ≡ ((a && (b && (c && d))) && e)
-and-regroup false b c d e = refl
-and-regroup true false c d e = refl
-and-regroup true true false d e = refl
-and-regroup true true true d e = refl
-
 pub empty-slot : (ids sats signals : List ℕ) (flags : List Bool) (i : ℕ) → i < length ids
     → emptySlots (length ids - i) (drop i ids) (drop i sats) (drop i signals) (drop i flags)
-    ≡ ((eqb (getD ids i 0) 0 && (eqb (getD sats i 0) 0 && (eqb (getD signals i 0) 0 && not (getD flags i false))))
-    && emptySlots (length ids - suc i) (drop (suc i) ids) (drop (suc i) sats) (drop (suc i) signals) (drop (suc i) flags))
+    ≡ (eqb (getD ids i 0) 0 && (eqb (getD sats i 0) 0 && (eqb (getD signals i 0) 0 && (not (getD flags i false)
+    && emptySlots (length ids - suc i) (drop (suc i) ids) (drop (suc i) sats) (drop (suc i) signals) (drop (suc i) flags)))))
 unfolding emptySlots
 empty-slot ids sats signals flags i inside =
     let next : length ids - i ≡ suc (length ids - suc i) = omega arith in
-    let rest = emptySlots (length ids - suc i) (drop (suc i) ids) (drop (suc i) sats) (drop (suc i) signals) (drop (suc i) flags) in
-    ap (λ (m : ℕ). emptySlots m (drop i ids) (drop i sats) (drop i signals) (drop i flags)) next
-    ∙ simp (getD-drop, drop-drop, add-zero, add-one) (and-regroup (eqb (getD ids i 0) 0) (eqb (getD sats i 0) 0) (eqb (getD signals i 0) 0) (not (getD flags i false)) rest)
+    ap (λ (m : ℕ). emptySlots m (drop i ids) (drop i sats) (drop i signals) (drop i flags)) next ∙ simp (getD-drop, drop-drop, add-zero, add-one)
 
 -- masks that fit leave no more than 64 satellites
 pub few-with : (n id sats signals : ℕ) → masksFit n id sats signals ≡ true → n + ones sats ≤ 64

@@ -1,6 +1,6 @@
 -- Tests as Booleans, and a test of each number of a list, in parts. Assumes nothing.
 use mathlib.Core.Path.{_≡_, refl, sym, ap, _∙_}
-use mathlib.Core.Bool.{Bool, true, false, _&&_, and-true}
+use mathlib.Core.Bool.{Bool, true, false, _&&_, and-comm}
 use mathlib.Core.List.{List, [], _∷_, _++_}
 use Prim.Native.Nat.{ℕ, _+_, _-_, _≤_}
 use native.Mathlib.Omega.{arith}
@@ -13,11 +13,18 @@ pub and-assoc : (a b c : Bool) → (a && (b && c)) ≡ ((a && b) && c)
 and-assoc false b c = refl
 and-assoc true b c = refl
 
+pub and-left : (a b c : Bool) → (a && (b && c)) ≡ (b && (a && c))
+and-left a b c = and-assoc a b c ∙ ap (λ (t : Bool). t && c) (and-comm a b) ∙ sym (and-assoc b a c)
+
+-- tests in any order
+pub ruleset and-sorts = (← and-assoc, and-comm, and-left)
+
 pub and-swap : (a b c : Bool) → ((a && b) && c) ≡ ((a && c) && b)
-and-swap false b c = refl
-and-swap true false false = refl
-and-swap true false true = refl
-and-swap true true c = sym (and-true c)
+and-swap a b c = simp and-sorts
+
+-- four tests of one kind, and four of another
+pub and-fours : (a b c d p q r s : Bool) → ((a && p) && ((b && q) && ((c && r) && (d && s)))) ≡ ((a && (b && (c && d))) && (p && (q && (r && s))))
+and-fours a b c d p q r s = simp and-sorts
 
 -- a test that was made already
 pub and-again : (a b c : Bool) → ((a && b) && (b && c)) ≡ (a && (b && c))
@@ -40,13 +47,17 @@ module _ (test : ℕ → Bool) where
   every-append [] m = refl
   every-append (n ∷ l) m = ap (λ (t : Bool). test n && t) (every-append l m) ∙ and-assoc (test n) (every test l) (every test m)
 
+  -- the next ones and those behind them
+  pub every-next : (l : List ℕ) (i a b : ℕ) → every test (take (a + b) (drop i l)) ≡ (every test (take a (drop i l)) && every test (take b (drop (i + a) l)))
+  every-next l i a b = rw (take-add a b (drop i l), every-append, drop-drop a i l)
+
   -- those from one on to another meet it just if they do up to one between and from it on
   pub every-parts : (l : List ℕ) (from i to : ℕ) → from ≤ i → i ≤ to
       → every test (take (to - from) (drop from l)) ≡ (every test (take (i - from) (drop from l)) && every test (take (to - i) (drop i l)))
   every-parts l from i to low high =
       let whole : to - from ≡ (i - from) + (to - i) = omega arith in
       let place : from + (i - from) ≡ i = omega arith in
-      rw (whole, take-add (i - from) (to - i) (drop from l), every-append, drop-drop (i - from) from l, place)
+      rw (whole, every-next l from (i - from) (to - i), place)
 
   -- so the first of them do
   pub every-fewer : (l : List ℕ) (from i to : ℕ) → from ≤ i → i ≤ to → every test (take (to - from) (drop from l)) ≡ true → every test (take (i - from) (drop from l)) ≡ true

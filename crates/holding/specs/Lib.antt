@@ -5,3 +5,4 @@ pub mod Bounds
 pub mod Held
 pub mod Testing
 pub mod Assigning
+pub mod Gathering

@@ -17,18 +17,19 @@ ghost use Rattle.holding.specs.Pictures.{pictureOf, sound};
 // What is held, as specs/Pictures.antt pictures it: a slot for each system in the order sent (its ID, its
 // satellite and signal masks with place 0 as the highest of their 40 and 16 bits, its cell flag); for each
 // satellite over all systems its strip of the cell mask, the signals that count for it at their own places; how
-// many satellites and cells there are. What is not used is zero.
+// many satellites and cells there are. What is not used is zero. The order leaves no gap before the strips, which makes
+// each copy shorter.
 pub struct Holding {
     pub held: bool,
     pub iod: u8,
-    pub count: usize,
     pub ids: [u8; Holding::SYSTEMS],
-    pub satellites: [u64; Holding::SYSTEMS],
-    pub signals: [u16; Holding::SYSTEMS],
     pub flags: [bool; Holding::SYSTEMS],
-    pub strips: [u16; Holding::SATELLITES],
+    pub signals: [u16; Holding::SYSTEMS],
+    pub count: usize,
     pub nsat: usize,
     pub ncell: usize,
+    pub satellites: [u64; Holding::SYSTEMS],
+    pub strips: [u16; Holding::SATELLITES],
 }
 
 impl Holding {

@@ -4,12 +4,16 @@ ghost use mathlib.Core.Bool.{_&&_};
 ghost use Prim.Native.Nat.{_+_, _≤_};
 ghost use lib.Dec.{eqb};
 ghost use lib.ListN.{length, take, drop};
+ghost use Rattle.holding.specs.Gathering.{nought};
 ghost use Rattle.holding.specs.Testing.{emptyStrips};
 use crate::Holding;
 use crate::joined::joined;
 
-// The first of the last four.
-const LAST: usize = Holding::SATELLITES - 4;
+// As many strips are gathered in a round.
+const ROUND: usize = 16;
+
+// The first of the last round.
+const LAST: usize = Holding::SATELLITES - ROUND;
 
 // Whether no strip from one on is used, one by one.
 fn each_empty(strips: &[u16], from: usize) -> bool
@@ -33,7 +37,28 @@ fn gathered(any: u64, strips: &[u16], i: usize) -> u64
     any | joined(strips[i], strips[i + 1], strips[i + 2], strips[i + 3])
 }
 
-// Whether no strip from one on is used, the last four first, of which some may be gathered again.
+// What is gathered in rounds, in four numbers that do not wait for each other.
+struct Lanes {
+    a: u64,
+    b: u64,
+    c: u64,
+    d: u64,
+}
+
+// The same, with sixteen strips from one on.
+fn sixteen(any: Lanes, strips: &[u16], i: usize) -> Lanes
+    requires { ⌜ i + 16 ≤ length (now strips) ⌝ }
+    ensures { λ r. ⌜ nought r ≡ (nought any && emptyStrips (take 16 (drop i (now (strips .entry))))) ⌝ }
+{
+    Lanes {
+        a: gathered(any.a, strips, i),
+        b: gathered(any.b, strips, i + 4),
+        c: gathered(any.c, strips, i + 8),
+        d: gathered(any.d, strips, i + 12),
+    }
+}
+
+// Whether no strip from one on is used, the last round first, of which some may be gathered again.
 pub fn strips_empty(strips: &[u16], from: usize) -> bool
     requires { ⌜ (length (now strips) ≡ 64) × (from ≤ 64) ⌝ }
     ensures { λ r. ⌜ r ≡ emptyStrips (drop from (now (strips .entry))) ⌝ }
@@ -41,11 +66,17 @@ pub fn strips_empty(strips: &[u16], from: usize) -> bool
     if from > LAST {
         return each_empty(strips, from);
     }
-    let mut any = gathered(0, strips, LAST);
+    let none = Lanes {
+        a: 0,
+        b: 0,
+        c: 0,
+        d: 0,
+    };
+    let mut any = sixteen(none, strips, LAST);
     let mut i = from;
     while i < LAST {
-        any = gathered(any, strips, i);
-        i += 4;
+        any = sixteen(any, strips, i);
+        i += ROUND;
     }
-    any == 0
+    any.a | (any.b | (any.c | any.d)) == 0
 }

@@ -1,6 +1,6 @@
 // The test of a lent holding, slot by slot and strip by strip (specs/Testing.antt).
 ghost use mathlib.Core.Path.{_≡_};
-ghost use mathlib.Core.Bool.{true, cond, not, _&&_};
+ghost use mathlib.Core.Bool.{true, cond, _&&_};
 ghost use mathlib.Core.List.{[]};
 ghost use Prim.Native.Nat.{_-_, _≤_, _<_};
 ghost use lib.Dec.{eqb, leb, ltb};
@@ -48,35 +48,22 @@ fn masks_fit(n: usize, id: usize, satellites: u64, signals: u16) -> bool
     assigned::signals_assigned(id, signals as u64)
 }
 
-// Whether a slot is as it is where it is not used.
-fn slot_empty(id: u8, satellites: u64, signals: u16, flag: bool) -> bool
-    ensures { λ r. ⌜ r ≡ (eqb id 0 && (eqb satellites 0 && (eqb signals 0 && not flag))) ⌝ }
-{
-    if id != 0 {
-        return false;
-    }
-    if satellites != 0 {
-        return false;
-    }
-    if signals != 0 {
-        return false;
-    }
-    !flag
-}
-
-// Whether no slot from one on is used.
+// Whether no slot from one on is used: gathered by width, the last slot first, and tested once.
 fn slots_empty(ids: &[u8], satellites: &[u64], signals: &[u16], flags: &[bool], from: usize) -> bool
     requires { ⌜ (from ≤ length (now ids)) × (length (now satellites) ≡ length (now ids)) × (length (now signals) ≡ length (now ids)) × (length (now flags) ≡ length (now ids)) ⌝ }
     ensures { λ r. ⌜ r ≡ emptySlots (length (now (ids .entry)) - from) (drop from (now (ids .entry))) (drop from (now (satellites .entry))) (drop from (now (signals .entry))) (drop from (now (flags .entry))) ⌝ }
 {
-    let mut i = from;
-    while i < ids.len() {
-        if !slot_empty(ids[i], satellites[i], signals[i], flags[i]) {
-            return false;
-        }
-        i += 1;
+    let mut wide = 0u64;
+    let mut half = 0u16;
+    let mut thin = 0u8;
+    let mut i = ids.len();
+    while i > from {
+        i -= 1;
+        wide |= satellites[i];
+        half |= signals[i];
+        thin |= ids[i] | (flags[i] as u8);
     }
-    true
+    wide | ((half as u64) | (thin as u64)) == 0
 }
 
 // Whether a slot fits after n satellites, its strips being those from the n-th on.

@@ -4,7 +4,7 @@ ghost use mathlib.Core.List.{map};
 ghost use Prim.Native.Nat.{_+_, _≤_};
 ghost use lib.ListN.{length, take, drop};
 ghost use Rattle.passing.specs.Bytes.{little, littles};
-ghost use Rattle.passing.specs.Passing.{size, truths, truth, said, stray, holdingIn};
+ghost use Rattle.passing.specs.Passing.{size, truths, truth, passes, said, stray, holdingIn};
 use crate::FLAGS;
 use crate::IDS;
 use crate::SATELLITES;
@@ -140,18 +140,25 @@ fn said(bytes: &[u8]) -> Holding
     }
 }
 
+// Whether there are 194, and those that stand for a truth are 0 or 1.
+fn passes(bytes: &[u8]) -> bool
+    ensures { λ r. ⌜ r ≡ passes (now (bytes .entry)) ⌝ }
+{
+    if bytes.len() < SIZE {
+        return false;
+    }
+    if bytes[0] > 1 {
+        return false;
+    }
+    truths(bytes)
+}
+
 // What lent bytes say: other bytes, or fewer, say no holding.
 pub fn holding_in(bytes: &[u8]) -> Holding
     ensures { λ r. ⌜ r ≡ holdingIn (now (bytes .entry)) ⌝ }
 {
-    if bytes.len() < SIZE {
-        return stray();
+    if passes(bytes) {
+        return said(bytes);
     }
-    if bytes[0] > 1 {
-        return stray();
-    }
-    if !truths(bytes) {
-        return stray();
-    }
-    said(bytes)
+    stray()
 }

@@ -28,17 +28,18 @@ returns-3 c =
     let after = c .before .before .before .before .before .before .before .before .before .before .before in
     let start = after .before .before .before .before in
     let h = start .args .self in
-    let lists = start .good .0 .1 .1 .1 .1 .1 in
-    let known = after .before .struct-known .given .1 .1 .1 .1 .1 in
+    let lists = start .good .0 .1 .1 .1 .1 in
+    let wide = lists .1 .1 .1 .1 .1 .1 in
+    let known = after .before .struct-known .given .1 .1 .1 .1 in
     let shaped : Shaped h =
     record {
       ids = as-long (h .ids) 5 (lists .0 .1 .0 .1);
-      satellites = as-long (h .satellites) 5 (lists .1 .0 .1 .0 .1);
+      satellites = as-long (h .satellites) 5 (wide .0 .1 .0 .1);
       signals = as-long (h .signals) 5 (lists .1 .1 .0 .1 .0 .1);
-      flags = as-long (h .flags) 5 (lists .1 .1 .1 .0 .1 .0 .1);
-      strips = as-long (h .strips) 64 (lists .1 .1 .1 .1 .0 .1 .0 .1);
+      flags = as-long (h .flags) 5 (lists .1 .0 .1 .0 .1);
+      strips = as-long (h .strips) 64 (wide .1 .0 .1 .0 .1);
       signals-narrow = narrow-typed (h .signals) (known .0);
-      strips-narrow = narrow-typed (h .strips) (known .1 .1 .0);
+      strips-narrow = narrow-typed (h .strips) (known .1 .1 .1 .1 .1 .0);
     } in
     let issue = sym (after .before .before .before .issue-fits .ensures) ∙ not-false _ (after .before .before .if1 .left) in
     c .slots-fit .ensures ∙ (rw (issue, le-leb (h .count) 5 (after .if2 .left)) at (tested-is-sound h shaped))

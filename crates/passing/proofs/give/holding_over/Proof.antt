@@ -1,5 +1,5 @@
 -- `passing::give::holding_over` meets its contract. Assumes nothing.
-use mathlib.Core.Path.{_∙_, ap}
+use mathlib.Core.Path.{_∙_, sym, ap}
 use native.Mathlib.Omega.{arith}
 use borrow.Author.Needs.{needs}
 use mathlib.Core.List.{List}
@@ -17,6 +17,11 @@ start-requires c κs =
     let e = c .before .before .before .before .before .before .before in
     let s = sounds (e .args .h) (e .pre .1) in
     (length-take-le 6 (e .args .bytes .now) (omega (arith, e .pre .0)), omega (arith, s .few-systems), omega (arith, s .few-satellites), omega (arith, s .few-cells))
+
+slice-aggregate-words : tie.Need-slice-aggregate-words
+slice-aggregate-words c =
+    let e = c .before .before .before .before .before .before .before .before .before .before .before .before .before .before .before .before .before .before .before .before in
+    sym (sounds (e .args .h) (e .pre .1) .shaped .strips)
 
 words-requires : tie.Need-words-requires
 words-requires c κs =
@@ -40,4 +45,4 @@ holding-over-spec =
     tie.close
     (tie.spec (λ c. search needs) (λ c. search needs) (λ c. search needs) start-requires (λ c. search needs) (λ c. search needs) (λ c. search needs)
     (λ c. search needs) (λ c. search needs) (λ c. search needs) (λ c. search needs) (λ c κs. search needs) (λ c. search needs) (λ c. search needs)
-    (λ c. search needs) (λ c. search needs) words-requires (λ c. search needs) returns)
+    (λ c. search needs) slice-aggregate-words words-requires (λ c. search needs) returns)
