@@ -1,3 +1,7 @@
+pub mod Layouts
+pub mod Lines
+pub mod Rowed
+pub mod Stands
 pub mod Runs
 pub mod Tables
 pub mod Cases

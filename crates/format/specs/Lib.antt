@@ -15,3 +15,4 @@ pub mod Walking
 pub mod Writing
 pub mod Saved
 pub mod Lengths
+pub mod Layouts
