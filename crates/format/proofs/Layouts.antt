@@ -23,7 +23,7 @@ use Rattle.format.specs.Rows.{Column, Line, rowsOf}
 use Rattle.format.specs.Spelling.{putRows, putPacket, putFlagged, putMask}
 use Rattle.format.specs.Table.{Message, Kind, MaskedKind, other, free, masked, adopts, alone, kinds, table, keeping, byKind, message}
 use Rattle.format.proofs.Bodies.{All, none, more, all-map, sure}
-use Rattle.format.proofs.Lines.{selected-pick, all-cells, packet-parts, satellite-rows, cell-rows, combined-columns}
+use Rattle.format.proofs.Lines.{all-satellites, selected-pick, all-cells, packet-parts, satellite-rows, cell-rows, combined-columns}
 use Rattle.format.proofs.Runs.{taken-le}
 use Rattle.format.proofs.Stands.{Stand, stand-front, stand-back, stand-number, stand-flag, stand-taken}
 use Rattle.format.proofs.Steps.{Gives, gives-done, gives-refuse, gives-require, gives-taking, gives-numbered, gives-bind, gives-so, gives-itself}
@@ -116,7 +116,7 @@ satellites-laid : (n : ℕ) (shape fields : ℕ → List Column) → ((system : 
     → LaidUnder (λ bytes start m. body 37 (map (ofSatellite fields) (allSatellites m))) (record { program = rowsAlone n (overSatellites shape); spelling = putRows (overSatellites shape) })
 unfolding overSatellites satelliteLines skyOf
 satellites-laid n shape fields same fit =
-    alone-laid n (overSatellites shape) _ (λ m. satellite-rows shape fields same (satellites (m .systems))) (λ m. all-map _ (satellites (m .systems)) (λ s. fit (s .system)))
+    alone-laid n (overSatellites shape) _ (λ m. ap (map (ofSatellite fields)) (all-satellites m) ∙ satellite-rows shape fields same (satellites (m .systems))) (λ m. all-map _ (satellites (m .systems)) (λ s. fit (s .system)))
 
 cells-laid : (n : ℕ) (shape : ℕ → List Column) (fields : List Column) → ((system : ℕ) → five fields ≡ shape system) → ((system : ℕ) → Fit (shape system))
     → LaidUnder (λ bytes start m. body 37 (map (ofCell fields) (allCells m))) (record { program = rowsAlone n (overCells shape); spelling = putRows (overCells shape) })
@@ -154,18 +154,19 @@ packet-means held =
 
 -- the satellites that the selection selects, and where the body begins behind it; all of them, at once, when the network flag is 0
 selection-laid : (m : Mask) (flag : ℕ) → flag < 2
-    → Gives (selection (allSatellites m) flag) (λ s b. (bytes : List ℕ) (start : ℕ) (row : Satellite → Line) → Stand bytes start 40 b
+    → Gives (selection (satellites (m .systems)) flag) (λ s b. (bytes : List ℕ) (start : ℕ) (row : Satellite → Line) → Stand bytes start 40 b
     → cond (eqb flag 1) (body (45 + length (allSatellites m)) (map row (selected bytes (start + 45) m))) (body 40 (map row (allSatellites m)))
     ≡ body (40 + length b) (map row (s .chosen)))
 unfolding selection
-selection-laid m zero small = gives-done λ bytes start row s. refl
+selection-laid m zero small = gives-done λ bytes start row s. ap (λ (sats : List Satellite). body 40 (map row sats)) (all-satellites m)
 selection-laid m (suc zero) small =
     gives-numbered _ _ λ network _.
     gives-require _ _ _ λ _.
     gives-taking _ _ λ bits whole.
     gives-done λ bytes start row s.
     let chosen = selected-pick m bits whole (stand-front bits [] (stand-back (spell 5 network) _ 5 (length-spell 5 network) s)) in
-    let from : 45 + length (allSatellites m) ≡ 40 + length (spell 5 network ++ (bits ++ [])) = simp (length-append, length-spell) (omega arith) in
+    let from : 45 + length (allSatellites m) ≡ 40 + length (spell 5 network ++ (bits ++ [])) =
+    rw (all-satellites m) (simp (length-append, length-spell) (omega arith)) in
     ap₂ (λ (p : ℕ) (sats : List Satellite). body p (map row sats)) from chosen
 selection-laid m (suc (suc flag)) small = absurd (omega arith)
 
@@ -212,7 +213,7 @@ kinds-mean =
 
 -- ---- a message, and a reading
 
--- of some bits that a message took, wherever they stand
+-- a message, wherever the bits that it took stand; and it took some
 message-means : (held : Held)
     → Gives (message held) (λ m b. (0 < length b) × ((bytes : List ℕ) (start : ℕ) → Stand bytes start 0 b → Means held bytes start (start + length b) (m .content .rows)))
 unfolding Means

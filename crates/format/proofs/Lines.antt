@@ -4,12 +4,12 @@ use mathlib.Core.Path.{_≡_, refl, sym, ap, ap₂, _∙_}
 use mathlib.Core.Bool.{Bool, true, false, cond}
 use mathlib.Core.List.{List, [], _∷_, _++_, map, flatMap}
 use Prim.Native.Nat.{ℕ, zero, suc, _+_, _*_, _<_}
-use native.Mathlib.Nat.{add-zero, zero-mul}
+use native.Mathlib.Nat.{add-zero, zero-add, zero-mul}
 use native.Mathlib.Omega.{arith}
 use lib.IntN.{pos}
 use lib.ListN.{length, drop, getD, length-map}
 use lib.Seq.{drop-drop, getD-drop}
-use Rattle.format.specs.Layouts.{numbers, those, counting, cellsFrom, allCells, isSet, selected, five, ofSatellite, ofCell, ofPart, orbit, clock, combined}
+use Rattle.format.specs.Layouts.{numbers, those, places, namedBy, allSatellites, counting, cellsFrom, allCells, isSet, selected, five, ofSatellite, ofCell, ofPart, orbit, clock, combined}
 use Rattle.format.specs.Masks.{System, Mask, Satellite, Cell, placesFrom, pick, satellitesOf, pairsOf, cellsOf, satellites, cells}
 use Rattle.format.specs.Messages.{satelliteLines, cellLines, combinedShape, iodeWidth, packetShape, packetLines}
 use Rattle.format.specs.Rows.{Column, Line, absent}
@@ -39,12 +39,33 @@ module _ {A : Type 0} (passes : ℕ → Bool) where
       let no : passes k ≡ false = rw add-zero at (same 0 (omega arith)) in
       rw no (those-pick (suc k) bits xs (behind k (false ∷ bits) x xs same))
 
--- the satellites of a selection whose bits stand at a place
+-- ---- satellites
+
+pick-numbers : (k : ℕ) (bits : List Bool) → pick bits (numbers k (length bits)) ≡ placesFrom k bits
+unfolding pick numbers placesFrom
+pick-numbers k [] = refl
+pick-numbers k (true ∷ bits) = ap (λ (l : List ℕ). k ∷ l) (pick-numbers (suc k) bits)
+pick-numbers k (false ∷ bits) = pick-numbers (suc k) bits
+
+places-set : (bits : List Bool) → places bits ≡ placesFrom 0 bits
+unfolding places
+places-set bits = those-pick (λ p. getD bits p false) 0 bits (numbers 0 (length bits)) (λ j h. ap (λ (p : ℕ). getD bits p false) (zero-add j)) ∙ pick-numbers 0 bits
+
+named-by : (s : System) → namedBy s ≡ satellitesOf s
+unfolding namedBy satellitesOf
+named-by s = ap (map _) (places-set (s .satellites))
+
+pub all-satellites : (m : Mask) → allSatellites m ≡ satellites (m .systems)
+unfolding allSatellites satellites
+all-satellites m = λ i. flatMap (λ s. named-by s i) (m .systems)
+
+-- those of a selection whose bits stand at a place
 pub selected-pick : {bytes : List ℕ} {start from : ℕ} (m : Mask) (b : List Bool) → length b ≡ length (satellites (m .systems)) → Stand bytes start from b
     → selected bytes (start + from) m ≡ pick b (satellites (m .systems))
 unfolding selected
 selected-pick {bytes} {start} {from} m b whole s =
-    those-pick (λ k. isSet bytes (start + from + k)) 0 b (satellites (m .systems)) λ j h.
+    ap (those (λ k. isSet bytes (start + from + k)) 0) (all-satellites m)
+    ∙ those-pick (λ k. isSet bytes (start + from + k)) 0 b (satellites (m .systems)) λ j h.
     let e : start + from + (0 + j) ≡ start + from + j = omega arith in
     ap (isSet bytes) e ∙ sym (stand-bit j (omega arith) s)
 
@@ -61,7 +82,7 @@ module _ (s : System) where
   counted : (i : ℕ) (b : Bool) → s .flag ≡ b → counting s i ≡ cond b (pick (drop (i * length signals) (s .cells)) signals) signals
   unfolding counting
   counted i b flag =
-      ap (λ (c : Bool). cond c (those (λ j. getD (s .cells) (i * length signals + j) false) 0 signals) signals) flag
+      ap₂ (λ (c : Bool) (l : List ℕ). cond c (those (λ j. getD (s .cells) (i * length l + j) false) 0 l) l) flag (places-set (s .signals))
       ∙ ap (λ (l : List ℕ). cond b l signals) (those-pick _ 0 (drop (i * length signals) (s .cells)) signals λ j h.
       let e : i * length signals + (0 + j) ≡ i * length signals + j = omega arith in
       ap (λ (p : ℕ). getD (s .cells) p false) e ∙ sym (getD-drop (i * length signals) (s .cells) j false))
@@ -89,9 +110,9 @@ module _ (s : System) where
       ap₂ _++_ (some-counted i sat flag) (cells-some flag (suc i) sats ∙ ap (λ (l : List Bool). pick l (flatMap paired sats)) rest)
       ∙ sym (pick-append bits (paired sat) (flatMap paired sats))
 
-  cells-here : cellsFrom s 0 (satellitesOf s) ≡ cellsOf s
+  cells-here : cellsFrom s 0 (namedBy s) ≡ cellsOf s
   unfolding cellsOf pairsOf
-  cells-here = go (s .flag) refl
+  cells-here = ap (cellsFrom s 0) (named-by s) ∙ go (s .flag) refl
     where
       go : (b : Bool) → s .flag ≡ b → cellsFrom s 0 (satellitesOf s) ≡ cond b (pick (s .cells) (pairsOf s)) (pairsOf s)
       go true flag = cells-some flag 0 (satellitesOf s) ∙ ap (λ (n : ℕ). pick (drop n (s .cells)) (pairsOf s)) (zero-mul (length signals))

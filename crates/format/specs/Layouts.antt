@@ -9,7 +9,7 @@ use lib.Dec.{eqb}
 use lib.IntN.{ℤ, pos}
 use lib.ListN.{length, take, getD, replicate}
 use Rattle.bits.specs.Places.{bitAt, field}
-use Rattle.format.specs.Masks.{System, Mask, Held, nothing, mask, Satellite, Cell, placesFrom, satellitesOf, satellites}
+use Rattle.format.specs.Masks.{System, Mask, Held, nothing, mask, Satellite, Cell}
 use Rattle.format.specs.Rows.{Column, gap, plain, counts, Line, absent, widthOf, valueOf, shapeWidth, bodyWidth}
 
 -- n numbers from k on
@@ -22,13 +22,24 @@ unfoldable pub those : {A : Type 0} → (ℕ → Bool) → ℕ → List A → Li
 those passes k [] = []
 those passes k (x ∷ xs) = cond (passes k) (x ∷ those passes (suc k) xs) (those passes (suc k) xs)
 
--- ---- whose the rows are
+-- ---- whose the rows are: what a mask names, the systems in the order sent
 
--- The signals that count for a system's i-th satellite, the first being the 0th: all of them with flag 0; else those whose bit of the cell mask is 1,
--- Nsig bits standing there for each satellite before it.
+-- the places whose bit is 1, the first bit's being 0
+unfoldable pub places : List Bool → List ℕ
+places bits = those (λ p. getD bits p false) 0 (numbers 0 (length bits))
+
+-- satellite number is place + 1
+unfoldable pub namedBy : System → List Satellite
+namedBy s = map (λ place. record { system = s .id; number = suc place }) (places (s .satellites))
+
+unfoldable pub allSatellites : Mask → List Satellite
+allSatellites m = flatMap namedBy (m .systems)
+
+-- The signals that count for a system's i-th satellite, the first being the 0th: all of them with flag 0; else those whose bit of the cell mask is 1, which
+-- has Nsig bits for each satellite before it.
 unfoldable pub counting : System → ℕ → List ℕ
 counting s i =
-    let signals = placesFrom 0 (s .signals) in
+    let signals = places (s .signals) in
     cond (s .flag) (those (λ j. getD (s .cells) (i * length signals + j) false) 0 signals) signals
 
 -- the cells, satellite by satellite
@@ -37,10 +48,7 @@ cellsFrom s i [] = []
 cellsFrom s i (sat ∷ sats) = map (λ place. record { satellite = sat; signal = place }) (counting s i) ++ cellsFrom s (suc i) sats
 
 unfoldable pub allCells : Mask → List Cell
-allCells m = flatMap (λ s. cellsFrom s 0 (satellitesOf s)) (m .systems)
-
-abbrev pub allSatellites : Mask → List Satellite
-allSatellites m = satellites (m .systems)
+allCells m = flatMap (λ s. cellsFrom s 0 (namedBy s)) (m .systems)
 
 -- a bit that is 1
 abbrev pub isSet : List ℕ → ℕ → Bool
