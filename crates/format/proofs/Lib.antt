@@ -1,7 +1,3 @@
-pub mod Layouts
-pub mod Lines
-pub mod Rowed
-pub mod Stands
 pub mod Runs
 pub mod Tables
 pub mod Cases
@@ -20,6 +16,10 @@ pub mod RoundTrips
 pub mod Lengths
 pub mod HeldGood
 pub mod Placed
+pub mod Stands
+pub mod Rowed
+pub mod Lines
+pub mod Layouts
 pub mod Together
 pub mod Ends
 pub mod Walks
