@@ -1,5 +1,5 @@
--- Demand 2, "the k-th field going to the k-th satellite or signal selected": which rows a message has, by document 01's layouts and by places of bits alone.
--- No program of the reader occurs here; that a reading hands out just these rows is `proofs/Layouts.antt`.
+-- Demand 2, "value for value, the k-th field going to the k-th satellite or signal selected": which head and rows a message has, by document 01's layouts and
+-- by places of bits alone. No program of the reader occurs here; that a reading hands out just these is `proofs/Layouts.antt`.
 use mathlib.Core.Path.{_≡_}
 use mathlib.Core.Logic.{_↔_}
 use mathlib.Core.Bool.{Bool, false, cond}
@@ -9,7 +9,9 @@ use lib.Dec.{eqb}
 use lib.IntN.{ℤ, pos}
 use lib.ListN.{length, take, getD, replicate}
 use Rattle.bits.specs.Places.{bitAt, field}
+use Rattle.format.specs.declared.Head.{Head}
 use Rattle.format.specs.Masks.{System, Mask, Held, nothing, mask, Satellite, Cell}
+use Rattle.format.specs.Messages.{Content}
 use Rattle.format.specs.Rows.{Column, gap, plain, counts, Line, absent, widthOf, valueOf, shapeWidth, bodyWidth}
 
 -- n numbers from k on
@@ -95,11 +97,11 @@ combined orbits clocks system = cond orbits (orbit system) (replicate 4 gap) ++ 
 
 -- ---- the layouts
 
--- what a sub type is: no message of it is accepted; it has no rows; or where its body begins, from the message's start on, and the rows to come
+-- what a sub type is: no message of it is accepted; a head alone; or a head, where the body begins, from the message's start on, and the rows to come
 pub data Layout : Type 0 where
   never : Layout
-  rowless : Layout
-  body : ℕ → List Line → Layout
+  rowless : List ℤ → Layout
+  body : List ℤ → ℕ → List Line → Layout
 
 -- what stands under the held mask does so by its issue alone
 unfoldable pub underMask : Held → ℕ → (Mask → Layout) → Layout
@@ -107,21 +109,36 @@ underMask nothing issue layout = never
 underMask (mask m) issue layout = cond (eqb issue (m .iod)) (layout m) never
 
 module _ (bytes : List ℕ) (start : ℕ) where
-  -- 10: number 12, sub type 4, indicator 1, counter 3, data size 2; one row per 40 bits, signal column 1 upward
-  unfoldable pub parts : Layout
-  parts = body 22 (map ofPart (numbers 1 (suc (field bytes (start + 20) 2))))
+  -- the number in w bits, so many from the start on
+  abbrev pub numberAt : ℕ → ℕ → ℤ
+  numberAt from w = pos (field bytes (start + from) w)
 
-  -- 11: after the head orbit flag, clock flag, network flag; if this is 1, network ID 5 and a bit for each satellite. One row per selected satellite, all of
-  -- them when it is 0
+  -- 2, 3, 4, 5 and 11 share a 37-bit head: number 12, sub type 4, hourly epoch 12, interval 4, indicator 1, IOD SSR 4; a, b, c
+  unfoldable pub head : ℤ → ℤ → ℤ → List ℤ
+  head a b c = numberAt 12 4 ∷ numberAt 16 12 ∷ numberAt 28 4 ∷ numberAt 32 1 ∷ numberAt 33 4 ∷ a ∷ b ∷ c ∷ []
+
+  unfoldable pub alone : List Line → Layout
+  alone lines = body (head absent absent absent) 37 lines
+
+  -- 1: epoch 20, update interval 4, indicator 1, IOD SSR 4, number of systems 4, which is a
+  unfoldable pub masks : Layout
+  masks = rowless (numberAt 12 4 ∷ numberAt 16 20 ∷ numberAt 36 4 ∷ numberAt 40 1 ∷ numberAt 41 4 ∷ numberAt 45 4 ∷ absent ∷ absent ∷ [])
+
+  -- 10: indicator 1, counter 3, data size 2, the last two a and b; one row per 40 bits, signal column 1 upward
+  unfoldable pub parts : Layout
+  parts =
+      body (numberAt 12 4 ∷ absent ∷ absent ∷ numberAt 16 1 ∷ absent ∷ numberAt 17 3 ∷ numberAt 20 2 ∷ absent ∷ []) 22
+      (map ofPart (numbers 1 (suc (field bytes (start + 20) 2))))
+
+  -- 11: orbit flag, clock flag, network flag; if this is 1, network ID 5 and a bit for each satellite. One row per selected satellite, all of them when it is 0
   unfoldable pub flagged : Mask → Layout
   flagged m =
       let row = ofSatellite (combined (isSet bytes (start + 37)) (isSet bytes (start + 38))) in
       cond (isSet bytes (start + 39))
-      (body (45 + length (allSatellites m)) (map row (selected bytes (start + 45) m)))
-      (body 40 (map row (allSatellites m)))
+      (body (head (numberAt 37 1) (numberAt 38 1) (numberAt 40 5)) (45 + length (allSatellites m)) (map row (selected bytes (start + 45) m)))
+      (body (head (numberAt 37 1) (numberAt 38 1) absent) 40 (map row (allSatellites m)))
 
   module _ (held : Held) where
-    -- 2, 3, 4, 5 and 11 share a 37-bit head, the IOD SSR last
     unfoldable pub headed : (Mask → Layout) → Layout
     headed layout = underMask held (field bytes (start + 33) 4) layout
 
@@ -129,11 +146,11 @@ module _ (bytes : List ℕ) (start : ℕ) where
     unfoldable pub layouts : List Layout
     layouts =
         never
-        ∷ rowless
-        ∷ headed (λ m. body 37 (map (ofSatellite orbit) (allSatellites m)))
-        ∷ headed (λ m. body 37 (map (ofSatellite clock) (allSatellites m)))
-        ∷ headed (λ m. body 37 (map (ofCell codeBias) (allCells m)))
-        ∷ headed (λ m. body 37 (map (ofCell phaseBias) (allCells m)))
+        ∷ masks
+        ∷ headed (λ m. alone (map (ofSatellite orbit) (allSatellites m)))
+        ∷ headed (λ m. alone (map (ofSatellite clock) (allSatellites m)))
+        ∷ headed (λ m. alone (map (ofCell codeBias) (allCells m)))
+        ∷ headed (λ m. alone (map (ofCell phaseBias) (allCells m)))
         ∷ never ∷ never ∷ never ∷ never
         ∷ parts
         ∷ headed flagged
@@ -168,12 +185,16 @@ pub record Rowed (bytes : List ℕ) (place next : ℕ) (lines : List Line) (rows
   -- and nothing stands behind them
   pub ends : place + bodyWidth lines ≡ next
 
--- rows as a layout has them
-unfoldable pub Follows : Layout → List ℕ → ℕ → ℕ → List (List ℤ) → Type 0
-Follows never bytes start next rows = ⊥
-Follows rowless bytes start next rows = rows ≡ []
-Follows (body from lines) bytes start next rows = Rowed bytes (start + from) next lines rows
+-- a head of eight numbers: sub type, epoch, interval, indicator, IOD SSR, a, b, c
+unfoldable pub eight : Head → List ℤ
+eight h = h .subtype ∷ h .epoch ∷ h .interval ∷ h .indicator ∷ h .iod ∷ h .a ∷ h .b ∷ h .c ∷ []
 
--- The rows of a message from a start to the place after it mean what document 01 says of its sub type, which stands behind the message number, under the held mask.
-unfoldable pub Means : Held → List ℕ → ℕ → ℕ → List (List ℤ) → Type 0
-Means held bytes start next rows = Follows (layoutOf bytes start held (field bytes (start + 12) 4)) bytes start next rows
+-- head and rows as a layout has them
+unfoldable pub Follows : Layout → List ℕ → ℕ → ℕ → Content → Type 0
+Follows never bytes start next c = ⊥
+Follows (rowless h) bytes start next c = (eight (c .head) ≡ h) × (c .rows ≡ [])
+Follows (body h from lines) bytes start next c = (eight (c .head) ≡ h) × Rowed bytes (start + from) next lines (c .rows)
+
+-- A message from a start to the place after it means what document 01 says of its sub type, which stands behind the message number, under the held mask.
+unfoldable pub Means : Held → List ℕ → ℕ → ℕ → Content → Type 0
+Means held bytes start next c = Follows (layoutOf bytes start held (field bytes (start + 12) 4)) bytes start next c
