@@ -178,7 +178,8 @@ selection-laid m (suc zero) small =
     let chosen = selected-pick m bits whole (stand-front bits [] (stand-back (spell 5 network) _ 5 (length-spell 5 network) s)) in
     let from : 45 + length (allSatellites m) ≡ 40 + length (spell 5 network ++ (bits ++ [])) =
     rw (all-satellites m) (simp (length-append, length-spell) (omega arith)) in
-    rw (stand-number 5 network _ n s, ← from, chosen)
+    let said = stand-number 5 network _ n s in
+    λ i. body (front (pos (said i))) (from i) (map row (chosen i))
 selection-laid m (suc (suc flag)) small = absurd (omega arith)
 
 -- the columns of 11, whatever its flags
