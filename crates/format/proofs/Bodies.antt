@@ -1,19 +1,21 @@
 -- Bodies: what reading one makes, that its rows spell just its bits again, and that each row has its line's keys and values of its line's columns.
 -- Assumes nothing.
 use mathlib.Core.Path.{_≡_, refl, sym, ap, ap₂, _∙_}
-use mathlib.Core.Bool.{Bool}
+use mathlib.Core.Bool.{Bool, true, _&&_, and-eq-true-iff}
 use mathlib.Core.List.{List, [], _∷_, _++_, append-nil, map}
-use Prim.Native.Nat.{ℕ, zero, suc, _*_, _^_, _≤_, _<_}
+use Prim.Native.Nat.{ℕ, zero, suc, _+_, _*_, _^_, _≤_, _<_}
 use native.Mathlib.Nat.{le-of-suc-le-suc}
 use native.Mathlib.Omega.{arith}
-use lib.IntN.{ℤ, pos, pos-ne-negsuc}
+use borrow.Author.Tests.{leb-true}
+use lib.Dec.{leb}
+use lib.IntN.{ℤ, pos-ne-negsuc}
 use lib.ListN.{length, take, drop, getD, length-drop}
 use lib.Pow.{pow-mono}
-use lib.Seq.{take-add, take-at, drop-at, take-all, length-take-le}
-use lib.Signed.{mag}
+use lib.Seq.{take-add, drop-at, drop-drop, take-all, length-take-le}
 use Rattle.bits.proofs.Complement.{unsigned-signed, signed-range}
 use Rattle.bits.specs.BitLists.{number, spell}
 use Rattle.bits.specs.Signed.{unsigned}
+use Rattle.format.specs.Layouts.{numbers, lineAt, columnAt}
 use Rattle.format.specs.Messages.{body, bodied, Heading, Content}
 use Rattle.format.specs.Programs.{done, _>>=_, taking, Program}
 use Rattle.format.specs.Rows.{absent, Column, gap, plain, counts, Line, widthOf, valueOf, shapeWidth, valuesOf, bodyWidth, rowsOf, spellValues, spellRows}
@@ -95,57 +97,69 @@ unfolding rowsOf
 rows-count [] l = refl
 rows-count (n ∷ ns) l = ap suc (rows-count ns (drop (shapeWidth (n .shape)) l))
 
--- the k-th row's first three numbers are the k-th line's keys
-pub row-key : (lines : List Line) (l : List Bool) (k : ℕ) (d : Line) → Threes lines → k < length lines → take 3 (getD (rowsOf lines l) k []) ≡ getD lines k d .keys
-unfolding rowsOf
-row-key [] l k d threes h = absurd (omega arith)
-row-key (n ∷ ns) l zero d (more three threes) h = take-at (n .keys) (valuesOf (n .shape) l) 3 three
-row-key (n ∷ ns) l (suc k) d (more three threes) h = row-key ns (drop (shapeWidth (n .shape)) l) k d threes (le-of-suc-le-suc h)
+-- the k-th row has the k-th line's keys, and values from the bits behind the rows before it
+pub row-at : (lines : List Line) (l : List Bool) (k : ℕ) → k < length lines
+    → getD (rowsOf lines l) k [] ≡ lineAt lines k .keys ++ valuesOf (lineAt lines k .shape) (drop (bodyWidth (take k lines)) l)
+unfolding rowsOf bodyWidth
+row-at [] l k h = absurd (omega arith)
+row-at (n ∷ ns) l zero h = refl
+row-at (n ∷ ns) l (suc k) h =
+    row-at ns (drop (shapeWidth (n .shape)) l) k (le-of-suc-le-suc h)
+    ∙ ap (λ (m : List Bool). lineAt ns k .keys ++ valuesOf (lineAt ns k .shape) m) (drop-drop (bodyWidth (take k ns)) (shapeWidth (n .shape)) l)
 
--- a value in its column's range: what a gap holds is absent
-unfoldable pub InColumn : Column → ℤ → Type 0
-InColumn gap z = z ≡ absent
-InColumn (plain w) z = (n : ℕ) × (z ≡ pos n) × (n < 2 ^ w)
-InColumn (counts w) z = mag z * 2 < 2 ^ w
+-- these bits are the body's
+pub row-inside : (lines : List Line) (k : ℕ) → bodyWidth (take k lines) + shapeWidth (lineAt lines k .shape) ≤ bodyWidth lines
+unfolding bodyWidth shapeWidth
+row-inside [] zero = omega arith
+row-inside [] (suc k) = omega arith
+row-inside (n ∷ ns) zero = omega arith
+row-inside (n ∷ ns) (suc k) = omega (arith, row-inside ns k)
 
-pub data InShape : List Column → List ℤ → Type 0 where
-  none : InShape [] []
-  more : {c : Column} {cs : List Column} {z : ℤ} {zs : List ℤ} → InColumn c z → InShape cs zs → InShape (c ∷ cs) (z ∷ zs)
+-- the j-th value is what its column makes of the bits behind the columns before it
+abbrev pub valueIn : List Column → List Bool → ℕ → ℤ
+valueIn cs l j = valueOf (columnAt cs j) (number (take (widthOf (columnAt cs j)) (drop (shapeWidth (take j cs)) l)))
 
-value-range : (c : Column) (b : List Bool) → length b ≡ widthOf c → InColumn c (valueOf c (number b))
-unfolding widthOf valueOf InColumn
-value-range gap b e = refl
-value-range (plain w) b e = (number b, refl, field-lt w b e)
-value-range (counts w) b e = signed-range w (number b) (field-lt w b e)
+numbers-next : {A : Type 0} (f : ℕ → A) (k n : ℕ) → map f (numbers (suc k) n) ≡ map (λ j. f (suc j)) (numbers k n)
+unfolding numbers
+numbers-next f k zero = refl
+numbers-next {A} f k (suc n) = ap (λ (l : List A). f (suc k) ∷ l) (numbers-next f (suc k) n)
 
-values-range : (cs : List Column) (l : List Bool) → shapeWidth cs ≤ length l → InShape cs (valuesOf cs l)
-unfolding shapeWidth valuesOf
-values-range [] l room = none
-values-range (c ∷ cs) l room =
-    more (value-range c (take (widthOf c) l) (length-take-le (widthOf c) l (omega arith)))
-    (values-range cs (drop (widthOf c) l) (rw length-drop (omega arith)))
+pub values-at : (cs : List Column) (l : List Bool) → valuesOf cs l ≡ map (valueIn cs l) (numbers 0 (length cs))
+unfolding valuesOf shapeWidth numbers
+values-at [] l = refl
+values-at (c ∷ cs) l =
+    let behind : (j : ℕ) → valueIn cs (drop (widthOf c) l) j ≡ valueIn (c ∷ cs) l (suc j) =
+    λ j. ap (λ (m : List Bool). valueOf (columnAt cs j) (number (take (widthOf (columnAt cs j)) m))) (drop-drop (shapeWidth (take j cs)) (widthOf c) l) in
+    ap (λ (vs : List ℤ). valueOf c (number (take (widthOf c) l)) ∷ vs)
+    (values-at cs (drop (widthOf c) l) ∙ (λ i. map (λ j. behind j i) (numbers 0 (length cs))) ∙ sym (numbers-next (valueIn (c ∷ cs) l) 0 (length cs)))
 
--- and the values behind them are in the ranges of the k-th line's columns
-pub row-range : (lines : List Line) (l : List Bool) (k : ℕ) (d : Line) → Threes lines → bodyWidth lines ≤ length l → k < length lines
-    → InShape (getD lines k d .shape) (drop 3 (getD (rowsOf lines l) k []))
-unfolding bodyWidth rowsOf
-row-range [] l k d threes room h = absurd (omega arith)
-row-range (n ∷ ns) l zero d (more three threes) room h =
-    rw (drop-at (n .keys) (valuesOf (n .shape) l) 3 three) (values-range (n .shape) l (omega arith))
-row-range (n ∷ ns) l (suc k) d (more three threes) room h =
-    row-range ns (drop (shapeWidth (n .shape)) l) k d threes (rw length-drop (omega arith)) (le-of-suc-le-suc h)
+-- these bits are the row's
+pub value-inside : (cs : List Column) (j : ℕ) → shapeWidth (take j cs) + widthOf (columnAt cs j) ≤ shapeWidth cs
+unfolding shapeWidth widthOf
+value-inside [] zero = omega arith
+value-inside [] (suc j) = omega arith
+value-inside (c ∷ cs) zero = omega arith
+value-inside (c ∷ cs) (suc j) = omega (arith, value-inside cs j)
 
--- a column whose values are never absent: a number's, or two's complement of 15 bits at most
-unfoldable pub Sure : Column → Type 0
-Sure gap = ⊥
-Sure (plain w) = Unit {0}
-Sure (counts w) = w ≤ 15
+-- ---- what isn't there
 
-pub never-absent : (c : Column) (z : ℤ) → Sure c → InColumn c z → z ≡ absent → ⊥
-unfolding Sure InColumn
-never-absent gap z sure h e = sure
-never-absent (plain w) z sure h e = pos-ne-negsuc (h .0) 32767 (sym (h .1) ∙ e)
-never-absent (counts w) z sure h e =
-    let low : 32767 * 2 < 2 ^ w = rw e at h in
-    let high : 2 ^ w ≤ 2 ^ 15 = pow-mono sure in
-    omega arith
+-- columns with values that are never absent: numbers, two's complement of 15 bits at most
+unfoldable pub sure : List Column → Bool
+sure [] = true
+sure (gap ∷ cs) = sure cs
+sure (plain w ∷ cs) = sure cs
+sure (counts w ∷ cs) = leb w 15 && sure cs
+
+-- so what is absent is a gap
+pub absent-gap : (cs : List Column) (j n : ℕ) → sure cs ≡ true → n < 2 ^ widthOf (columnAt cs j) → valueOf (columnAt cs j) n ≡ absent → columnAt cs j ≡ gap
+unfolding sure valueOf widthOf
+absent-gap [] j n e small missing = refl
+absent-gap (gap ∷ cs) zero n e small missing = refl
+absent-gap (plain w ∷ cs) zero n e small missing = absurd (pos-ne-negsuc n 32767 missing)
+absent-gap (counts w ∷ cs) zero n e small missing =
+    let low : 32767 * 2 < 2 ^ w = rw missing at (signed-range w n small) in
+    let high : 2 ^ w ≤ 2 ^ 15 = pow-mono (leb-true w 15 (and-eq-true-iff (leb w 15) _ .0 e .0)) in
+    absurd (omega arith)
+absent-gap (gap ∷ cs) (suc j) n e small missing = absent-gap cs j n e small missing
+absent-gap (plain w ∷ cs) (suc j) n e small missing = absent-gap cs j n e small missing
+absent-gap (counts w ∷ cs) (suc j) n e small missing = absent-gap cs j n (and-eq-true-iff (leb w 15) _ .0 e .1) small missing

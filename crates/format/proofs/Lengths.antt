@@ -178,7 +178,7 @@ unfolding byKind
 masked-long n k law nothing = body-long n nothing (under-nothing k)
 masked-long n k law (mask m) =
     body-long n (mask m)
-    (under-gives k m (common-long 12) λ h a long.
+    (under-gives k m (common-long 12) λ h a long _.
     gives-so (law m h) λ d b it. (it .0, λ l whole. simp length-append (omega (arith, long, it .1 l whole .0), omega (arith, long))))
 
 alone-at : (n : ℕ) (over : Sky → List Line) → ((m : Mask) (c : Content) → 37 + bodyWidth (over (skyOf m)) ≡ getD (lengths m c) n 0) → LongAt n (alone n over)

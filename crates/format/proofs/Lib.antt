@@ -17,6 +17,10 @@ pub mod RoundTrips
 pub mod Lengths
 pub mod HeldGood
 pub mod Placed
+pub mod Stands
+pub mod Rowed
+pub mod Lines
+pub mod Layouts
 pub mod Together
 pub mod Ends
 pub mod Walks

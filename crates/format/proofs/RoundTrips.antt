@@ -53,7 +53,7 @@ kind-spelled n (free k) law held fine = keeping-gives held law λ d b l it whole
 kind-spelled n (masked k) law nothing fine = keeping-gives {P = λ d b. ⊥} nothing (under-nothing k) λ d b l none whole. absurd none
 kind-spelled n (masked k) law (mask m) fine =
     keeping-gives {P = λ d b. (d .head .subtype ≡ pos n) × Spells (λ g rows. putCommon 12 g ++ k .spelling (skyOf m) g rows) d b} (mask m)
-    (under-gives k m (common-gives 12) λ h a front.
+    (under-gives k m (common-gives 12) λ h a front _.
     gives-so (law (skyOf m) (satellites-distinct m fine) h) λ d b it.
     let head : putCommon 12 (d .head) ≡ a = ap (putCommon 12) (it .0) ∙ front .1 n (d .head .a) (d .head .b) (d .head .c) in
     (ap (λ (g : Head). g .subtype) (it .0), λ l whole. rw (head, it .1 l whole, append-assoc)))

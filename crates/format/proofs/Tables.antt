@@ -89,9 +89,11 @@ module _ {P : Heading → List Bool → Type 0} (k : MaskedKind) where
   under-nothing = gives-bind (gives-itself (common 12)) λ h a _. gives-bind {Q = λ c b. ⊥} (gives-refuse NoMask) λ c b none. absurd none
 
   pub under-gives : (m : Mask) {Q : Common → List Bool → Type 0} → Gives (common 12) Q
-      → ((h : Common) (a : List Bool) → Q h a → Gives (k .program (skyOf m) h) (λ d b. P d (a ++ b))) → Gives (underMask k (mask m)) P
+      → ((h : Common) (a : List Bool) → Q h a → eqb (h .iod) (m .iod) ≡ true → Gives (k .program (skyOf m) h) (λ d b. P d (a ++ b)))
+      → Gives (underMask k (mask m)) P
   unfolding underMask gate
   under-gives m g law =
       gives-bind g λ h a it.
-      gives-bind {Q = λ n b. (n ≡ m) × (b ≡ [])} (gives-require (eqb (h .iod) (m .iod)) OtherIssue (done m) λ _. gives-done (refl, refl)) λ n b same.
-      rw (same .0, same .1) (law h a it)
+      gives-bind {Q = λ n b. (eqb (h .iod) (m .iod) ≡ true) × (n ≡ m) × (b ≡ [])}
+      (gives-require (eqb (h .iod) (m .iod)) OtherIssue (done m) λ issue. gives-done (issue, refl, refl)) λ n b same.
+      rw (same .1, same .2) (law h a it (same .0))

@@ -17,3 +17,4 @@ pub mod Text
 pub mod Saved
 pub mod Listing
 pub mod Lengths
+pub mod Layouts
