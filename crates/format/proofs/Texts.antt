@@ -46,6 +46,24 @@ by-digits P one then n = go (suc n) n (omega arith)
     go zero k few = absurd (omega arith)
     go (suc fuel) k few = choice (P k) k 10 (digitChar k ∷ []) (digitsFrom fuel (k / 10) ++ (digitChar (k % 10) ∷ [])) (one k) (λ h. then k _ (go fuel (k / 10) (omega arith)))
 
+-- whatever fuel there is, if it is more than the number
+fuel-same : (fuel extra n : ℕ) → n < fuel → n < extra → digitsFrom fuel n ≡ digitsFrom extra n
+unfolding digitsFrom
+fuel-same zero extra n few enough = absurd (omega arith)
+fuel-same (suc fuel) zero n few enough = absurd (omega arith)
+fuel-same (suc fuel) (suc extra) n few enough =
+    choice (λ (l : List ℕ). l ≡ cond (ltb n 10) (digitChar n ∷ []) (digitsFrom extra (n / 10) ++ (digitChar (n % 10) ∷ []))) n 10 (digitChar n ∷ []) (digitsFrom fuel (n / 10) ++ (digitChar (n % 10) ∷ []))
+    (λ h. rw (lt-ltb n 10 h)) (λ h. rw (le-ltb n 10 h, fuel-same fuel extra (n / 10) (omega arith) (omega arith)))
+
+-- a number is written by one digit, or by those of its tenth part and one more
+pub decimal-one : (n : ℕ) → n < 10 → decimal n ≡ digitChar n ∷ []
+unfolding decimal digitsFrom
+decimal-one n small = rw (lt-ltb n 10 small)
+
+pub decimal-more : (n : ℕ) → 10 ≤ n → decimal n ≡ decimal (n / 10) ++ (digitChar (n % 10) ∷ [])
+unfolding decimal digitsFrom
+decimal-more n large = rw (le-ltb n 10 large, fuel-same n (suc (n / 10)) (n / 10) (omega arith) (omega arith))
+
 -- it is read as it was written
 value-more : (sum : ℕ) (l : List ℕ) (c : ℕ) → decimalValue sum (l ++ (c ∷ [])) ≡ 10 * decimalValue sum l + charDigit c
 unfolding decimalValue

@@ -1,0 +1,18 @@
+-- `text::number::digit` meets its contract. Assumes nothing.
+use borrow.Author.Needs.{needs}
+use borrow.Author.Tests.{lt-ltb, le-ltb}
+use Rattle.format.specs.Text.{digitChar}
+use Rattle.text.proofs.number.digit.Statement.{statement}
+use Rattle.text.proofs.number.digit.Tie as tie
+
+returns : tie.Need-returns
+unfolding digitChar
+returns c = rw (lt-ltb _ _ (c .if1 .taken))
+
+returns-2 : tie.Need-returns-2
+unfolding digitChar
+returns-2 c = rw (le-ltb _ _ (c .if1 .left))
+
+pub digit-spec : {M : Type 1} → statement M
+digit-spec =
+    tie.close (tie.spec (λ c. search needs) (λ c. search needs) (λ c. search needs) (λ c. search needs) returns returns-2)

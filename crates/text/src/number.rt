@@ -1,0 +1,60 @@
+// Digits and numbers.
+ghost use mathlib.Core.Path.{_≡_};
+ghost use Prim.Native.Nat.{_+_, _≤_, _<_};
+ghost use lib.IntN.{ℤ};
+ghost use lib.ListN.{length};
+ghost use lib.Seq.{sets};
+ghost use Rattle.format.specs.Listing.{valueText};
+ghost use Rattle.format.specs.Text.{digitChar, decimal};
+ghost use Rattle.text.specs.Digits.{lastDigits};
+use crate::DASH;
+use crate::put;
+use format::ABSENT;
+
+// A digit, capitals from ten on.
+pub fn digit(n: u64) -> u8
+    requires { ⌜ n < 16 ⌝ }
+    ensures { λ r. ⌜ r ≡ digitChar n ⌝ }
+{
+    if n < 10 { 48 + n as u8 } else { 55 + n as u8 }
+}
+
+// The last k digits of a number in a base, from a place on; the place behind them.
+pub fn digits(line: &mut [u8], at: usize, k: usize, n: u64, base: u64) -> usize
+    requires { ⌜ (at + k ≤ length (now line)) × (0 < base) × (base ≤ 16) ⌝ }
+    ensures { λ r. ⌜ r ≡ at + k ⌝ }
+    ensures { λ _. ⌜ now (line .exit) ≡ sets (now (line .entry)) at (lastDigits base k n) ⌝ }
+{
+    let end = at + k;
+    let mut left = n;
+    let mut i = end;
+    while at < i {
+        i -= 1;
+        line[i] = digit(left % base);
+        left /= base;
+    }
+    end
+}
+
+// How many digits a number has, decimal without leading zeros.
+pub fn decimals(n: u64) -> usize
+    ensures { λ r. ⌜ r ≡ length (decimal n) ⌝ }
+{
+    let mut k = 1;
+    let mut left = n;
+    while left >= 10 {
+        left /= 10;
+        k += 1;
+    }
+    k
+}
+
+// A number, decimal without leading zeros.
+pub fn number(line: &mut [u8], at: usize, n: u64) -> usize
+    requires { ⌜ at + length (decimal n) ≤ length (now line) ⌝ }
+    ensures { λ r. ⌜ r ≡ at + length (decimal n) ⌝ }
+    ensures { λ _. ⌜ now (line .exit) ≡ sets (now (line .entry)) at (decimal n) ⌝ }
+{
+    let k = decimals(n);
+    digits(line, at, k, n, 10)
+}
