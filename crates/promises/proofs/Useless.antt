@@ -8,13 +8,12 @@ use borrow.Author.Tests.{eqb-false}
 use lib.Dec.{eqb}
 use lib.IntN.{ℤ, pos}
 use lib.ListN.{replicate, getD}
-use Rattle.bits.specs.Parts as Parts
 use Rattle.bits.specs.Signed.{unsigned}
 use Rattle.format.specs.Reading.{rowRoom, rowsAfter, rawEnd}
 use Rattle.format.specs.Rows.{absent}
 use Rattle.format.specs.Same as Same
 use Rattle.format.specs.Walking as Walking
-use Rattle.format.proofs.Cases.{Field, _∶_, bytesOf, opening, maskHead, computing}
+use Rattle.format.proofs.Cases.{Field, _∶_, bytesOf, opening, maskHead, head, system, computing}
 use Rattle.holding.specs.Bounds as Bounds
 use Rattle.holding.specs.Pictures as Pictures
 use Rattle.holding.specs.Spread as Spread
@@ -34,61 +33,82 @@ use Rattle.walk.proofs as walk
 use Rattle.walk.specs.Walks as Walks
 use Rattle.walk.specs.Walks.{walkAt}
 
--- ---- calls that lend the empty holding and a row buffer of zeros
+-- ---- stretches
 
-empty : List ℕ
-empty = replicate size 0
+-- document 01's stretch, whose mask names satellites 1 and 3; and the same with satellite 2 for 3
+listing : ℕ → List ℕ
+listing satellites =
+    0xFE ∷ 0x91 ∷ 0x00 ∷ 0x06 ∷ 0x45 ∷ 0x18 ∷ satellites ∷ 0x00 ∷ 0x00 ∷ 0x00 ∷ 0x00 ∷ 0x04 ∷ 0x08 ∷ 0x06 ∷ 0xFF ∷ 0xA4 ∷ 0xC1 ∷ 0x90 ∷ 0x86 ∷ 0x00 ∷ 0x16 ∷ 0x00 ∷ 0x00 ∷ []
+
+-- clocks under its mask
+clocks : ℕ → ℕ → List Field
+clocks one other = head 3 3 ++ (15 ∶ one ∷ 15 ∶ other ∷ [])
+
+-- a packet of one row, or of two
+packet : ℕ → ℕ → List Field
+packet more width = opening 10 ++ (1 ∶ 1 ∷ 3 ∶ 5 ∷ 2 ∶ more ∷ width ∶ 5 ∷ [])
+
+-- a mask of satellites 1 and 3 first
+masksFirst : List Field → List Field
+masksFirst rest = maskHead 3 1 ++ (system 0 0xA000000000 0x8100 ++ rest)
+
+-- ---- calls that lend a row buffer of zeros
 
 zeros : List ℤ
 zeros = replicate rowRoom (pos 0)
 
-call : (bytes : List ℕ) (end : ℕ) → lendable empty bytes end zeros ≡ true → Call
-call bytes end real = record { holding = empty; bytes = bytes; end = end; rows = zeros; real = real }
+call : (holding bytes : List ℕ) (end : ℕ) → lendable holding bytes end zeros ≡ true → Call
+call holding bytes end real = record { holding = holding; bytes = bytes; end = end; rows = zeros; real = real }
+
+-- the empty holding, and document 01's mask as one
+empty : List ℕ
+empty = replicate size 0
+
+masked : List ℕ
+masked =
+    1 ∷ 3 ∷ 1 ∷ 2 ∷ 3 ∷ 0 ∷ 0 ∷ 0 ∷ 0 ∷ 0 ∷ 0 ∷ 1 ∷ 0 ∷ 0 ∷ 0 ∷ 0 ∷ 0 ∷ 0x81 ∷ replicate 8 0
+    ++ (0 ∷ 0 ∷ 0 ∷ 0 ∷ 0xA0 ∷ replicate 35 0 ++ (0 ∷ 0x80 ∷ 0 ∷ 0x81 ∷ replicate 124 0))
 
 -- what these compute with
 lending : Unit {0}
-unfolding computing empty zeros call Calls.lendable Calls.words Bounds.every
+unfolding computing listing clocks packet masksFirst zeros call empty masked Calls.lendable Calls.words Bounds.every
 lending = tt
 
--- document 01's stretch, whose mask names satellites 1 and 3; and with satellite 2 in place of 3
-stretch : ℕ → List ℕ
-stretch named =
-    0xFE ∷ 0x91 ∷ 0x00 ∷ 0x06 ∷ 0x45 ∷ 0x18 ∷ named ∷ 0x00 ∷ 0x00 ∷ 0x00 ∷ 0x00 ∷ 0x04 ∷ 0x08 ∷ 0x06 ∷ 0xFF ∷ 0xA4 ∷ 0xC1 ∷ 0x90 ∷ 0x86 ∷ 0x00 ∷ 0x16 ∷ 0x00 ∷ 0x00 ∷ []
-
+-- two masks, two clocks and two packets under the mask held
 listed : Call
-unfolding lending stretch
-listed = call (stretch 0x85) 181 refl
+unfolding lending
+listed = call masked (listing 0x85) 181 refl
 
 neighbour : Call
-unfolding lending stretch
-neighbour = call (stretch 0x86) 181 refl
+unfolding lending
+neighbour = call masked (listing 0x86) 181 refl
 
--- packets: of one row, of another one, of two
-packet : ℕ → ℕ → ℕ → List Field
-packet size width data′ = opening 10 ++ (1 ∶ 1 ∷ 3 ∶ 5 ∷ 2 ∶ size ∷ width ∶ data′ ∷ [])
+clock : Call
+unfolding lending
+clock = call masked (bytesOf (clocks 5 6)) 67 refl
 
-one : Call
-unfolding lending packet
-one = call (bytesOf (packet 0 40 5)) 62 refl
+otherClock : Call
+unfolding lending
+otherClock = call masked (bytesOf (clocks 5 7)) 67 refl
 
-another : Call
-unfolding lending packet
-another = call (bytesOf (packet 0 40 6)) 62 refl
+short : Call
+unfolding lending
+short = call masked (bytesOf (packet 0 40)) 62 refl
 
-two : Call
-unfolding lending packet
-two = call (bytesOf (packet 1 80 5)) 102 refl
+long : Call
+unfolding lending
+long = call masked (bytesOf (packet 1 80)) 102 refl
 
--- walks of one length that open with a mask: on over a packet to another mask, or no further
+-- two stretches of one length that open with one mask: the first goes on to clocks and another mask, the second is refused there
 whole : Call
-unfolding lending packet
-whole = call (bytesOf (maskHead 3 0 ++ (packet 0 40 5 ++ maskHead 4 0))) 160 refl
+unfolding lending
+whole = call empty (bytesOf (masksFirst (clocks 5 6 ++ maskHead 4 0))) 226 refl
 
 torn : Call
-unfolding lending packet
-torn = call (bytesOf (maskHead 3 0 ++ (12 ∶ 4072 ∷ 99 ∶ 0 ∷ []))) 160 refl
+unfolding lending
+torn = call empty (bytesOf (masksFirst (12 ∶ 4072 ∷ 104 ∶ 0 ∷ []))) 226 refl
 
--- ---- what is said, held and written at a call, by the definitions
+-- ---- what is said at a call, then held and left in the row buffer, by the definitions
 
 readHere : Call → Seen Handed
 readHere c =
@@ -100,9 +120,13 @@ walkHere c =
     let w = walkAt (holdingIn (c .holding)) (c .bytes) (c .end) (c .rows) in
     record { said = walkedTo w; holding = holdingAfter (holdingIn (c .holding)) (w .stop); rows = w .rows }
 
+-- a number of the row buffer
+numberAt : ℕ → List ℤ → ℕ
+numberAt k rows = unsigned 32 (getD rows k absent)
+
 -- what they compute with
 promising : Unit {0}
-unfolding lending stretch listed neighbour packet one another two whole torn readHere walkHere Calls.FixedAnswer Calls.LeavesRows Calls.LeavesHolding Calls.Fixed Calls.OneType Calls.SaysTheSame Calls.OpenAlike Calls.ShutsOut Calls.reads Calls.walks Calls.hostReads Calls.hostWalks Same.sameList Spread.spread Pictures.filled Pictures.stripsFrom Pictures.stripsOf Pictures.pictureOf Pictures.systemOf Pictures.systemsOf Pictures.maskOf Pictures.sameHolding Pictures.sound Bytes.little Bytes.littles Bytes.parts Bytes.partsOf Passing.truth Passing.passes Passing.said Passing.stray Passing.holdingIn Passing.bytesOf Readings.lentBy Readings.structOf Readings.outcomeAt Readings.readingOf Walks.walkAt Walks.walkedOf Parts.startOf Parts.countOf Handing.noHead Handing.answerNumber Handing.rowsSaid Handing.headSaid Handing.handedTo Handing.placeSaid Handing.bytesAfter Handing.hostOutcome Handing.hostWalk Handing.walkedTo Walking.messages Walking.rowCount rawEnd unsigned
+unfolding lending listed neighbour clock otherClock short long whole torn readHere walkHere numberAt Calls.FixedAnswer Calls.Fixed Calls.OneType Calls.SaysTheSame Calls.OpenAlike Calls.ShutsOut Calls.reads Calls.walks Calls.hostReads Calls.hostWalks Same.sameList Spread.spread Pictures.filled Pictures.stripsFrom Pictures.stripsOf Pictures.pictureOf Pictures.systemOf Pictures.systemsOf Pictures.maskOf Pictures.sameHolding Pictures.sound Bytes.little Bytes.littles Bytes.parts Bytes.partsOf Passing.truth Passing.passes Passing.said Passing.holdingIn Passing.bytesOf Readings.lentBy Readings.structOf Readings.outcomeAt Handing.bytesAfter Handing.hostOutcome Readings.readingOf Walks.walkAt Walks.walkedOf Handing.answerNumber Handing.rowsSaid Handing.headSaid Handing.handedTo Handing.placeSaid Handing.hostWalk Handing.walkedTo Walking.messages Walking.rowCount rawEnd unsigned
 promising = tt
 
 -- ---- what is the same at two calls though it must differ
@@ -124,39 +148,36 @@ module _ {S : Type 0} (f : Call → Seen S) (Alike : Call → Call → Seen S �
   unfolding LeavesHolding Fixed
   same-holding leaves c d beside _ = leaves c ∙ ap holdingIn (beside .holding) ∙ sym (leaves d)
 
--- a number of the row buffer
-numberAt : ℕ → List ℤ → ℕ
-numberAt k rows = unsigned 32 (getD rows k absent)
-
 -- ---- a reader
 
 -- at these calls it shows what the definitions say
 record Reads (f : Call → Seen Handed) : Type 0 where
   listed-is : f listed ≡ readHere listed
   neighbour-is : f neighbour ≡ readHere neighbour
-  one-is : f one ≡ readHere one
-  another-is : f another ≡ readHere another
-  two-is : f two ≡ readHere two
+  clock-is : f clock ≡ readHere clock
+  other-is : f otherClock ≡ readHere otherClock
+  short-is : f short ≡ readHere short
+  long-is : f long ≡ readHere long
 
 module _ (f : Call → Seen Handed) (is : Reads f) where
-  -- the rows, or what is held, though the same is said
+  -- one thing is said, but other rows are written, or another mask is held
   other-rows : Fixed SaysTheSame (λ s. s .rows) f → ⊥
-  unfolding promising numberAt
-  other-rows = apart f SaysTheSame (λ s. s .rows) (numberAt 7) (is .one-is) (is .another-is) (record { holding = refl; rows = refl }) refl refl
+  unfolding promising
+  other-rows = apart f SaysTheSame (λ s. s .rows) (numberAt 11) (is .clock-is) (is .other-is) (record { holding = refl; rows = refl }) refl refl
 
   other-holding : Fixed SaysTheSame (λ s. s .holding) f → ⊥
   unfolding promising
   other-holding = apart f SaysTheSame (λ s. s .holding) (λ h. getD (h .satellites) 0 0) (is .listed-is) (is .neighbour-is) (record { holding = refl; rows = refl }) refl refl
 
-  -- what is said, though the sub type is the same
+  -- of one sub type other things are said
   other-part : {A : Type 0} (part : Seen Handed → A) (number : A → ℕ)
-      → eqb (number (part (readHere one))) (number (part (readHere two))) ≡ false → Fixed OneType part f → ⊥
+      → eqb (number (part (readHere short))) (number (part (readHere long))) ≡ false → Fixed OneType part f → ⊥
   unfolding promising
-  other-part part number = apart f OneType part number (is .one-is) (is .two-is) (record { holding = refl; rows = refl }) (refl, refl, refl)
+  other-part part number = apart f OneType part number (is .short-is) (is .long-is) (record { holding = refl; rows = refl }) (refl, refl, refl)
 
   useful-reader : UselessReader f → ⊥
   unfolding promising
-  useful-reader (refuses-everything never) = never one (ap (λ (s : Seen Handed). s .said .answer) (is .one-is))
+  useful-reader (refuses-everything never) = never clock (ap (λ (s : Seen Handed). s .said .answer) (is .clock-is))
   useful-reader (fixed-answer same) = other-part (λ s. s .said) (λ h. h .place) refl (λ c d beside _. same c d beside tt)
   useful-reader (fixed-head same) = other-part (λ s. s .said .head) (λ h. unsigned 32 (h .b)) refl same
   useful-reader (fixed-place same) = other-part (λ s. s .said .place) (λ n. n) refl same
@@ -170,14 +191,14 @@ module _ (f : Call → Seen Handed) (is : Reads f) where
 pub read-useful : ShutsOut walk.single.read.Kinds.ps walk.single.read.Kinds.r walk.single.read.Reads.Learnt reads UselessReader
 unfolding promising
 read-useful κs result content meets useless =
-    useful-reader _ (record { listed-is = refl; neighbour-is = refl; one-is = refl; another-is = refl; two-is = refl })
+    useful-reader _ (record { listed-is = refl; neighbour-is = refl; clock-is = refl; other-is = refl; short-is = refl; long-is = refl })
     (subst UselessReader (λ i c. reads .seen κs c (meets c .0 i) (tt, (tt, (tt, (tt, (meets c .1 i, tt)))))) useless)
 
 -- from C
 pub hundurzek-read-useful : ShutsOut host.hundurzek_read.Kinds.ps host.hundurzek_read.Kinds.r host.hundurzek_read.Reads.Learnt hostReads UselessReader
 unfolding promising
 hundurzek-read-useful κs result content meets useless =
-    useful-reader _ (record { listed-is = refl; neighbour-is = refl; one-is = refl; another-is = refl; two-is = refl })
+    useful-reader _ (record { listed-is = refl; neighbour-is = refl; clock-is = refl; other-is = refl; short-is = refl; long-is = refl })
     (subst UselessReader (λ i c. hostReads .seen κs c (meets c .0 i) (meets c .1 .0 i, (tt, (tt, (tt, (meets c .1 .1 i, tt)))))) useless)
 
 -- ---- a walk
@@ -193,8 +214,8 @@ module _ (f : Call → Seen Walked) (whole-is : f whole ≡ walkHere whole) (tor
   other-messages = other-walk (λ s. s .said .messages) (λ n. n) refl
 
   walk-rows : Fixed OpenAlike (λ s. s .rows) f → ⊥
-  unfolding promising numberAt
-  walk-rows = other-walk (λ s. s .rows) (numberAt 7) refl
+  unfolding promising
+  walk-rows = other-walk (λ s. s .rows) (numberAt 11) refl
 
   walk-holding : Fixed OpenAlike (λ s. s .holding) f → ⊥
   unfolding promising

@@ -37,7 +37,7 @@ lendable holding bytes end rows =
     && ((leb (length bytes) stretchLimit && (below 256 bytes && placed bytes end 0))
     && (eqb (length rows) rowRoom && words rows))
 
--- Read from place 0 on. A build that meets a promise at every call, or is useless at every call, does and is so at these.
+-- Reading starts at place 0: a build that meets a promise at every call meets it at these, and one that is useless at every call is so at these.
 pub record Call : Type 0 where
   pub holding : List ℕ
   pub bytes : List ℕ
@@ -56,13 +56,13 @@ pub record Seen (S : Type 0) : Type 0 where
   pub holding : Holding
   pub rows : List ℤ
 
--- ---- useless of a reader and of a walk
+-- ---- what can be useless in both
 
 -- a part that is the same at any two calls beside each other that are alike
 unfoldable pub Fixed : {S A : Type 0} → (Call → Call → Seen S → Seen S → Type 0) → (Seen S → A) → (Call → Seen S) → Type 0
 Fixed Alike part f = (c d : Call) → Beside c d → Alike c d (f c) (f d) → part (f c) ≡ part (f d)
 
--- "one with a fixed answer": whatever the stretch
+-- one answer, whatever the stretch
 unfoldable pub FixedAnswer : {S : Type 0} → (Call → Seen S) → Type 0
 FixedAnswer f = Fixed (λ c d s t. Unit {0}) (λ s. s .said) f
 
@@ -75,18 +75,18 @@ LeavesHolding f = (c : Call) → f c .holding ≡ holdingIn (c .holding)
 
 -- ---- a reader
 
--- both are messages of one sub type
+-- two messages of one sub type
 unfoldable pub OneType : Call → Call → Seen Handed → Seen Handed → Type 0
 OneType c d s t = (s .said .answer ≡ messageNumber) × (t .said .answer ≡ messageNumber) × (s .said .head .subtype ≡ t .said .head .subtype)
 
--- the same is said of both
+-- two of which the same is said
 unfoldable pub SaysTheSame : Call → Call → Seen Handed → Seen Handed → Type 0
 SaysTheSame c d s t = s .said ≡ t .said
 
 pub data UselessReader (f : Call → Seen Handed) : Type 0 where
   -- "one that refuses everything": or is idle, and never hands out a message
   refuses-everything : ((c : Call) → f c .said .answer ≡ messageNumber → ⊥) → UselessReader f
-  -- the whole answer; of what is said a part that goes by the sub type; or what is left, by what is said
+  -- "one with a fixed answer": of what it says, all, or a part that it gives to all messages of one sub type; or it leaves the same wherever it says the same
   fixed-answer : FixedAnswer f → UselessReader f
   fixed-head : Fixed OneType (λ s. s .said .head) f → UselessReader f
   fixed-place : Fixed OneType (λ s. s .said .place) f → UselessReader f
@@ -128,7 +128,7 @@ module _ {n : ℕ} (ps : List (PK n)) (r : RK n) where
     pub args : (κs : Lfts n) → Call → Dens κs ps
     pub seen : (κs : Lfts n) (c : Call) → Result ps r κs → Content ps r κs (args κs c) → Seen S
 
-  -- no build that the promise `P` allows at every call is one of these. (One may depend on where the buffers lie; it is looked at where each is a block of its own.)
+  -- no build that the promise `P` allows at every call is one of these
   unfoldable pub ShutsOut : {S : Type 0} → Out n ps r → Sight S → ((Call → Seen S) → Type 0) → Type 0
   ShutsOut P s These =
       (κs : Lfts n) (result : Call → Result ps r κs) (content : (c : Call) → Content ps r κs (s .args κs c)) →
@@ -137,7 +137,7 @@ module _ {n : ℕ} (ps : List (PK n)) (r : RK n) where
 
 -- ---- the four functions that read
 
--- a buffer that is block k
+-- a buffer that lies in a block of its own
 abbrev pub lentAs : {A : Type 0} → ℕ → A → RefT A
 lentAs k x = record { ptr = (k, 0); name = k; now = x }
 
