@@ -22,11 +22,11 @@ use Rattle.promises.proofs.TwoTables.{level}
 -- ---- stretches
 
 -- a mask of GPS satellites with one signal
-unfoldable pub maskOf : ℕ → ℕ → List Field
+maskOf : ℕ → ℕ → List Field
 maskOf issue satellites = maskHead issue 1 ++ system 0 satellites 0x8000
 
 -- satellites 1 and 3, and 1 and 2
-unfoldable pub one-and-three : ℕ
+one-and-three : ℕ
 one-and-three = 0xA000000000
 
 one-and-two : ℕ
@@ -57,7 +57,7 @@ saidClocks : ℕ → ℕ → ℕ → List (List ℤ)
 saidClocks place issue satellite = saidHead place 67 3 issue 2 ∷ row 1 (pos 5) ∷ row satellite (negℤ (pos 16384)) ∷ []
 
 -- the k-th number of the rows that are handed out
-unfoldable pub numberAt : ℕ → List HandedOut → ℤ
+numberAt : ℕ → List HandedOut → ℤ
 numberAt k ds = getD (flatten (flatMap (λ d. d .content .rows) ds)) k absent
 
 -- what the runs compute with

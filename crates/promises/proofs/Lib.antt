@@ -5,5 +5,5 @@ pub mod TwoWalks
 pub mod LateJoiners
 pub mod LateRuns
 pub mod Determined
-pub mod Useless
 pub mod Receivers
+pub mod Useless
