@@ -7,3 +7,4 @@ pub mod LateRuns
 pub mod Determined
 pub mod Useless
 pub mod Receivers
+pub mod EightNumbers
