@@ -8,3 +8,4 @@ pub mod Determined
 pub mod Useless
 pub mod Receivers
 pub mod EightNumbers
+pub mod Calls
