@@ -1,6 +1,6 @@
 -- Single calls of a function that reads, each answering and leaving what the reading at its place says, are the walk: one run of them gives what the walk
 -- gives, and no other run gives anything else. For any way in which a holding is passed. Assumes nothing.
-use mathlib.Core.Path.{_≡_, refl, sym, ap, subst, _∙_}
+use mathlib.Core.Path.{_≡_, refl, subst}
 use mathlib.Core.Bool.{Bool, true, false, false≢true}
 use mathlib.Core.List.{List, [], flatten}
 use Prim.Native.Nat.{ℕ, _+_}
@@ -23,11 +23,8 @@ use Rattle.format.proofs.Stops.{Stopped}
 use Rattle.format.proofs.Walks.{Law, every-walk, all-good}
 use Rattle.host.specs.Handing.{numberSaid, walkedTo}
 use Rattle.promises.specs.Calls.{Got, answered, gets, Calls, stops, goes, gotBy}
+use Rattle.promises.proofs.Determined.{alike}
 use Rattle.promises.proofs.EightNumbers.{Eight, rows-back, message-eight}
-
--- two values that are equal to a third are equal
-pub alike : {A : Type 0} {x y z : A} → x ≡ z → y ≡ z → x ≡ y
-alike p q = p ∙ sym q
 
 stop-parts : {m n p q : ℕ} → stop m p ≡ stop n q → (m ≡ n) × (p ≡ q)
 stop-parts e = (cc, cc)

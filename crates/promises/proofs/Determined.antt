@@ -14,7 +14,7 @@ use Rattle.walk.proofs as walk
 use Rattle.promises.specs.Determination.{Result, Content, Allows, DeterminedBy, Determined, SamePart}
 
 -- two values that are equal to a third are equal
-alike : {A : Type 0} {x y z : A} → x ≡ z → y ≡ z → x ≡ y
+pub alike : {A : Type 0} {x y z : A} → x ≡ z → y ≡ z → x ≡ y
 alike p q = p ∙ sym q
 
 module _ {n : ℕ} (ps : List (PK n)) (r : RK n) (P : Out n ps r) where

@@ -1,5 +1,5 @@
 -- Every row of a message has eight numbers, so the row buffer cut eight by eight gives back its rows. Assumes nothing.
-use mathlib.Core.Path.{_≡_, refl, ap, ap₂, _∙_}
+use mathlib.Core.Path.{_≡_, refl, ap, _∙_}
 use mathlib.Core.Bool.{Bool, true, false}
 use mathlib.Core.List.{List, [], _∷_, _++_, append-assoc, flatten}
 use Prim.Native.Nat.{ℕ, suc}
@@ -10,12 +10,12 @@ use lib.ListN.{length, drop, length-append}
 use lib.Seq.{take-at, drop-at}
 use Rattle.body.proofs.Bodies.{lines-eights, packet-eights}
 use Rattle.format.specs.declared.Refusal.the-variants.{SubType}
-use Rattle.format.specs.Masks.{Mask, Held, nothing, mask, Satellite, Cell, Sky, skyOf}
+use Rattle.format.specs.Masks.{Held, nothing, mask, Satellite, Cell, Sky, skyOf}
 use Rattle.format.specs.Messages.{Heading, Common, common, overSatellites, overCells, satelliteLines, cellLines, orbitShape, clockShape, codeShape, phaseShape, combinedShape, packet, packetHeading, rowsAlone, flagged, selection, maskMessage}
 use Rattle.format.specs.Programs.{Program}
 use Rattle.format.specs.Rows.{Column, Line, absent, widthOf, shapeWidth, valuesOf, rowsOf}
 use Rattle.format.specs.Spelling.{putRows, putFlagged, putPacket, putMask}
-use Rattle.format.specs.Table.{Message, Kind, MaskedKind, other, free, masked, adopts, kinds, table, alone, byKind, keeping, message}
+use Rattle.format.specs.Table.{Kind, MaskedKind, other, free, masked, adopts, kinds, table, alone, byKind, keeping, message}
 use Rattle.format.specs.Writing.{rowsIn}
 use Rattle.format.proofs.Bodies.{All, none, more}
 use Rattle.format.proofs.Steps.{Gives, gives-done, gives-refuse, gives-numbered, gives-bind, gives-itself}
