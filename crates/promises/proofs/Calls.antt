@@ -26,6 +26,7 @@ use Rattle.promises.specs.Calls.{Got, answered, gets, Calls, stops, goes
 use Rattle.promises.proofs.Determined.{alike}
 use Rattle.promises.proofs.EightNumbers.{Eight, rows-back, message-eight}
 
+-- what is equal in equal answers
 stop-parts : {m n p q : ℕ} → stop m p ≡ stop n q → (m ≡ n) × (p ≡ q)
 stop-parts e = (cc, cc)
 
@@ -43,20 +44,24 @@ calls-so f (stops c) = stops (f _ _ _ _ _ _ c)
 calls-so f (goes c cs) = goes (f _ _ _ _ _ _ c) (calls-so f cs)
 
 -- a message is accepted under a holding only
-accepts-holding : (holding : Lent) (bytes : List ℕ) (end place : ℕ) (rows : List ℤ) (m : Message) (next : ℕ) → reading holding bytes end place rows ≡ accepted m next → isHolding holding ≡ true
+accepts-holding : (holding : Lent) (bytes : List ℕ) (end place : ℕ) (rows : List ℤ) (m : Message) (next : ℕ)
+    → reading holding bytes end place rows ≡ accepted m next → isHolding holding ≡ true
 unfolding readingBy lentTests verdict
 accepts-holding holding bytes end place rows m next e = go (leb rowRoom (length rows)) (placed bytes end place) (isHolding holding) _ e
   where
-    never : {A : Type 0} (r : Refusal) → refused r 0 holding ≡ accepted m next → A
-    never r f = absurd (false≢true cc)
+    never : {A : Type 0} {r : Refusal} → refused r 0 holding ≡ accepted m next → A
+    never f = absurd (false≢true cc)
 
     go : (room there held : Bool) (o : Outcome)
-        → elim room [ true ↦ elim there [ true ↦ elim held [ true ↦ o | false ↦ refused Value 0 holding ] | false ↦ refused Place 0 holding ] | false ↦ refused Room 0 holding ] ≡ accepted m next
+        → elim room [
+          | true ↦ elim there [ true ↦ elim held [ true ↦ o | false ↦ refused Value 0 holding ] | false ↦ refused Place 0 holding ]
+          | false ↦ refused Room 0 holding
+        ] ≡ accepted m next
         → held ≡ true
     go true true true o e = refl
-    go true true false o e = never Value e
-    go true false held o e = never Place e
-    go false there held o e = never Room e
+    go true true false o e = never e
+    go true false held o e = never e
+    go false there held o e = never e
 
 -- ---- a holding that is passed in some way: what it lends, and what a reading leaves of it
 
@@ -76,29 +81,14 @@ module _ {H : Type 0} (lentIn : H → Lent) (leave : Lent → H → H) where
       pub holds : left ≡ leave (lentAfter (outcome h place rows)) h
       pub writes : after ≡ rowsAfter (outcome h place rows) rows
 
-    -- ---- no two runs of calls give different things
-
-    moved : {h k : H} {p q : ℕ} {a b : List ℤ} {got : Got H} → h ≡ k → p ≡ q → a ≡ b → Calls Read k q b got → Calls Read h p a got
-    moved e f g cs = rw (e, f, g) cs
-
-    same-calls : {h : H} {place : ℕ} {rows : List ℤ} {a b : Got H} → Calls Read h place rows a → Calls Read h place rows b → a ≡ b
-    same-calls (stops c) (stops d) =
-        let said = stop-parts (alike (c .says) (d .says)) in
-        λ i. record { handed = []; number = said .0 i; place = said .1 i; holding = alike (c .holds) (d .holds) i; rows = alike (c .writes) (d .writes) i }
-    same-calls (stops c) (goes d ds) = never-both (alike (c .says) (d .says))
-    same-calls (goes c cs) (stops d) = never-both (alike (d .says) (c .says))
-    same-calls (goes {place = place} c cs) (goes d ds) =
-        let said = message-parts (alike (c .says) (d .says)) in
-        let rows = alike (c .writes) (d .writes) in
-        let rest = same-calls cs (moved (alike (c .holds) (d .holds)) (said .1 .0) rows ds) in
-        λ i. gets (answered place (said .0 i) (said .1 .0 i) (said .1 .1 i) (rows i)) (rest i)
-
-    -- ---- and one gives what the walk gives
+    -- ---- one run of calls gives what the walk gives
 
     module _ (h : H) (place : ℕ) (rows : List ℤ) where
+      -- by its outcome
       read : (o : Outcome) → outcome h place rows ≡ o → Read h place rows (saidAt place (answerOf o)) (leave (lentAfter o) h) (rowsAfter o rows)
       read o e = record { says = rw e; holds = rw e; writes = rw e }
 
+      -- a stop
       stops-so : (o : Outcome) → Stopped o → outcome h place rows ≡ o
           → Calls Read h place rows (gotBy (record { handed = []; stop = o; place = place; rows = rows }) (leave (lentAfter o) h))
       unfolding gotBy walkedTo numberSaid saidAt answerOf rowsAfter
@@ -107,11 +97,15 @@ module _ {H : Type 0} (lentIn : H → Lent) (leave : Lent → H → H) where
       stops-so (refused r missing l) stopped e = stops (read (refused r missing l) e)
 
       -- the rows of a message are those that it leaves first in the buffer
-      content-back : (m : Message) (next : ℕ) → Eight (m .content .rows) → answered place (m .content .head) next (length (m .content .rows)) (rowsAfter (accepted m next) rows) ≡ handedAt place m next
+      content-back : (m : Message) (next : ℕ) → Eight (m .content .rows)
+          → answered place (m .content .head) next (length (m .content .rows)) (rowsAfter (accepted m next) rows) ≡ handedAt place m next
       unfolding answered rowsAfter over
-      content-back m next eight = λ i. record { place = place; next = next; content = record { head = m .content .head; rows = rows-back (m .content .rows) eight (drop (length (flatten (m .content .rows))) rows) i } }
+      content-back m next eight =
+          let back = rows-back (m .content .rows) eight (drop (length (flatten (m .content .rows))) rows) in
+          λ i. record { place = place; next = next; content = record { head = m .content .head; rows = back i } }
 
     module _ (passes : Passes) where
+      -- a message, then whatever run gives what the walk from there gives
       goes-so : (h : H) (place : ℕ) (rows : List ℤ) (m : Message) (taken : ℕ) (w : Walk) → outcome h place rows ≡ accepted m (place + taken)
           → run (messageBy table (heldIn (lentIn h))) (bitsFrom bytes end place) ≡ well m taken → (good (m .after) ≡ true → isHolding (lentAfter (w .stop)) ≡ true)
           → ((k : H) → lentIn k ≡ lent (m .after)
@@ -128,6 +122,7 @@ module _ {H : Type 0} (lentIn : H → Lent) (leave : Lent → H → H) where
           (content-back h place rows m next (message-eight (heldIn (lentIn h)) .gives (bitsFrom bytes end place) m taken ran))
           (goes (read h place rows (accepted m next) e) rest)
 
+      -- so for every walk, which leaves a holding where it found one
       every : Law table bytes end (λ l place rows w. (isHolding l ≡ true → isHolding (lentAfter (w .stop)) ≡ true)
           × ((h : H) → lentIn h ≡ l → Calls Read h place rows (gotBy w (leave (lentAfter (w .stop)) h))))
       unfolding hand isHolding
@@ -137,12 +132,27 @@ module _ {H : Type 0} (lentIn : H → Lent) (leave : Lent → H → H) where
             (all-good bytes end .goes l place rows m taken w e ran (it .0), λ h same. goes-so h place rows m taken w (rw same e) (rw same ran) (it .0) (it .1));
       }
 
-      module _ (h : H) (rows : List ℤ) where
-        abbrev w : Walk
-        w = walk (lentIn h) bytes end rows
+      pub reads-end : (h : H) (rows : List ℤ) → let w = walk (lentIn h) bytes end rows in Calls Read h 0 rows (gotBy w (leave (lentAfter (w .stop)) h))
+      reads-end h rows = every-walk table bytes end _ every (lentIn h) 0 rows .1 h refl
 
-        pub reads-end : Calls Read h 0 rows (gotBy w (leave (lentAfter (w .stop)) h))
-        reads-end = every-walk table bytes end _ every (lentIn h) 0 rows .1 h refl
+    -- ---- and no two runs give different things
 
-        pub reads-walk : {got : Got H} → Calls Read h 0 rows got → got ≡ gotBy w (leave (lentAfter (w .stop)) h)
-        reads-walk calls = same-calls calls reads-end
+    -- the same calls of equal things
+    moved : {h k : H} {p q : ℕ} {a b : List ℤ} {got : Got H} → h ≡ k → p ≡ q → a ≡ b → Calls Read k q b got → Calls Read h p a got
+    moved e f g cs = rw (e, f, g) cs
+
+    same-calls : {h : H} {place : ℕ} {rows : List ℤ} {a b : Got H} → Calls Read h place rows a → Calls Read h place rows b → a ≡ b
+    same-calls (stops c) (stops d) =
+        let said = stop-parts (alike (c .says) (d .says)) in
+        λ i. record { handed = []; number = said .0 i; place = said .1 i; holding = alike (c .holds) (d .holds) i; rows = alike (c .writes) (d .writes) i }
+    same-calls (stops c) (goes d ds) = never-both (alike (c .says) (d .says))
+    same-calls (goes c cs) (stops d) = never-both (alike (d .says) (c .says))
+    same-calls (goes {place = place} c cs) (goes d ds) =
+        let said = message-parts (alike (c .says) (d .says)) in
+        let rows = alike (c .writes) (d .writes) in
+        let rest = same-calls cs (moved (alike (c .holds) (d .holds)) (said .1 .0) rows ds) in
+        λ i. gets (answered place (said .0 i) (said .1 .0 i) (said .1 .1 i) (rows i)) (rest i)
+
+    pub reads-walk : Passes → (h : H) (rows : List ℤ) {got : Got H} → Calls Read h 0 rows got
+        → let w = walk (lentIn h) bytes end rows in got ≡ gotBy w (leave (lentAfter (w .stop)) h)
+    reads-walk passes h rows calls = same-calls calls (reads-end passes h rows)

@@ -9,4 +9,4 @@ pub mod Useless
 pub mod Receivers
 pub mod EightNumbers
 pub mod Calls
-pub mod Called
+pub mod CallsOfRead
