@@ -52,6 +52,7 @@ struct-passes = record { lends = λ h held fine. lent-picture held fine; anew = 
     anew h held (lent other) fine = refl
 
 module _ (bytes : List ℕ) (end : ℕ) (h : Holding) (place : ℕ) (rows : List ℤ) (said : Said) (left : Holding) (after : List ℤ) where
+  -- what the contract allows is what the reading there says, and the other way round
   code-reads : CodeCall bytes end h place rows said left after → Read lentBy kept bytes end h place rows said left after
   unfolding readingOf outcomeAt
   code-reads c = record {
@@ -119,7 +120,7 @@ bytes-passes : Passes lentIn bytesAfter
 unfolding bytesAfter isHolding heldIn
 bytes-passes = record {
   lends = λ hb held fine. ap lentBy (bytes-say hb (lent held) fine) ∙ lent-picture held fine;
-  anew = λ hb held l fine good-after. anew hb held l fine good-after;
+  anew = anew;
 }
   where
     long : (held : Held) → good held ≡ true → length (bytesOf (pictureOf held)) ≡ size
@@ -133,6 +134,7 @@ module _ (bytes : List ℕ) (end : ℕ) (hb : List ℕ) (place : ℕ) (rows : Li
   abbrev outcome : Outcome
   outcome = hostOutcome hb bytes end place rows
 
+  -- what the contract allows is what the reading there says, and the other way round
   host-reads : HostCall bytes end hb place rows said left after → Read lentIn bytesAfter bytes end hb place rows said left after
   unfolding hostOutcome outcomeAt
   host-reads c = record {
