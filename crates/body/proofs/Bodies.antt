@@ -81,12 +81,12 @@ cells-count (false ∷ bits) (sat ∷ sats) (strip ∷ strips) thin covered =
 
 -- ---- lines made one from each, as satellites' and cells' are
 
-lines-eights : {A : Type 0} (keys : A → List ℤ) (shape : A → List Column) (xs : List A) → ((x : A) → length (keys x) ≡ 3) → ((x : A) → length (shape x) ≡ 5)
+pub lines-eights : {A : Type 0} (keys : A → List ℤ) (shape : A → List Column) (xs : List A) → ((x : A) → length (keys x) ≡ 3) → ((x : A) → length (shape x) ≡ 5)
     → Eights (map (λ x. record { keys = keys x; shape = shape x }) xs)
 lines-eights keys shape [] three five = none
 lines-eights keys shape (x ∷ xs) three five = more (three x, five x) (lines-eights keys shape xs three five)
 
-packet-eights : (k n : ℕ) → Eights (packetLines k n)
+pub packet-eights : (k n : ℕ) → Eights (packetLines k n)
 unfolding packetLines packetShape
 packet-eights k zero = none
 packet-eights k (suc n) = more (refl, refl) (packet-eights (suc k) n)

@@ -206,7 +206,7 @@ pub none-kept : (holding : Lent) (bytes : List ℕ) (end : ℕ) (rows : List ℤ
 none-kept holding bytes end rows = every-walk table bytes end _ (all-kept bytes end) holding 0 rows
 
 -- what it leaves is good where what it found was
-all-good : (bytes : List ℕ) (end : ℕ) → Law table bytes end (λ holding place rows w. isHolding holding ≡ true → isHolding (lentAfter (w .stop)) ≡ true)
+pub all-good : (bytes : List ℕ) (end : ℕ) → Law table bytes end (λ holding place rows w. isHolding holding ≡ true → isHolding (lentAfter (w .stop)) ≡ true)
 unfolding hand messages isHolding heldIn
 all-good bytes end = record {
   stops = λ holding place rows o e stopped fine. rw (all-kept bytes end .stops holding place rows o e stopped refl) fine;

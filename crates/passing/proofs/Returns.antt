@@ -101,7 +101,7 @@ abbrev fromIds : Holding → List ℕ → List ℕ
 fromIds h more = h .ids ++ fromFlags h more
 
 -- a holding has 194 bytes
-bytes-length : (h : Holding) → Shaped h → length (bytesOf h) ≡ size
+pub bytes-length : (h : Holding) → Shaped h → length (bytesOf h) ≡ size
 bytes-length h sizes =
     rw (
       ← (three-segments h),

@@ -5,24 +5,23 @@ use mathlib.Core.Path.{_≡_, refl, sym, _∙_}
 use mathlib.Core.List.{List}
 use Prim.Native.Nat.{ℕ}
 use contract.Lifetimes.{Lfts}
-use denote.Triple.Clauses.{atExit}
-use borrow.Fn.Kinds.{PK, RK, Out, Dens, endedOf}
+use borrow.Fn.Kinds.{PK, RK, Out, Dens}
 use Rattle.holding.proofs.Holding as holding
 use Rattle.host.proofs as host
 use Rattle.probe.proofs as probe
 use Rattle.reader.proofs as reader
 use Rattle.walk.proofs as walk
-use Rattle.promises.specs.Determination.{Result, Content, DeterminedBy, Determined, SamePart}
+use Rattle.promises.specs.Determination.{Result, Content, Allows, DeterminedBy, Determined, SamePart}
 
 -- two values that are equal to a third are equal
-alike : {A : Type 0} {x y z : A} → x ≡ z → y ≡ z → x ≡ y
+pub alike : {A : Type 0} {x y z : A} → x ≡ z → y ≡ z → x ≡ y
 alike p q = p ∙ sym q
 
 module _ {n : ℕ} (ps : List (PK n)) (r : RK n) (P : Out n ps r) where
   -- where a contract says what the result is, and what each lent buffer then holds, both are determined
   says :
       {result : (κs : Lfts n) → Dens κs ps → Result ps r κs} {content : (κs : Lfts n) (args : Dens κs ps) → Content ps r κs args}
-      → ((κs : Lfts n) (args : Dens κs ps) (x : Result ps r κs) (v : Content ps r κs args) → P κs args x (atExit (endedOf n ps r) κs args v)
+      → ((κs : Lfts n) (args : Dens κs ps) (x : Result ps r κs) (v : Content ps r κs args) → Allows ps r P κs args x v
       → (x ≡ result κs args) × (v ≡ content κs args))
       → Determined ps r P
   unfolding Determined DeterminedBy

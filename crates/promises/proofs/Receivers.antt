@@ -32,21 +32,21 @@ unfolding isHolding heldIn structOf
 struct-held h stray e = absurd (false≢true e)
 struct-held h (lent held) e = refl
 
-bytes-say : (hb : List ℕ) (l : Lent) → isHolding l ≡ true → holdingIn (bytesAfter l hb) ≡ pictureOf (heldIn l)
+pub bytes-say : (hb : List ℕ) (l : Lent) → isHolding l ≡ true → holdingIn (bytesAfter l hb) ≡ pictureOf (heldIn l)
 unfolding isHolding heldIn bytesAfter
 bytes-say hb stray e = absurd (false≢true e)
 bytes-say hb (lent held) e = holding-returns (pictureOf held) (sound-picture held e) hb
 
 -- ---- in Rattle
 
-module _ (held : Held) (fine : good held ≡ true) (bytes : List ℕ) (end : ℕ) (rows : List ℤ) where
-  lent-picture : lentBy (pictureOf held) ≡ lent held
-  lent-picture = sound-lent (pictureOf held) (sound-picture held fine) ∙ ap lent (mask-picture held fine)
+pub lent-picture : (held : Held) → good held ≡ true → lentBy (pictureOf held) ≡ lent held
+lent-picture held fine = sound-lent (pictureOf held) (sound-picture held fine) ∙ ap lent (mask-picture held fine)
 
+module _ (held : Held) (fine : good held ≡ true) (bytes : List ℕ) (end : ℕ) (rows : List ℤ) where
   -- what the contract of `walk` cites is what the theorem speaks of
   pub code-receives : walkAt (pictureOf held) bytes end rows ≡ received table held bytes end rows
   unfolding walkAt received
-  code-receives = ap (λ (l : Lent). walkOn table l bytes end 0 rows) lent-picture
+  code-receives = ap (λ (l : Lent). walkOn table l bytes end 0 rows) (lent-picture held fine)
 
   pub stays-holding : isHolding (lentAfter (received table held bytes end rows .stop)) ≡ true
   unfolding received isHolding

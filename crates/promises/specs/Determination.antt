@@ -15,12 +15,16 @@ module _ {n : ℕ} (ps : List (PK n)) (r : RK n) where
   abbrev pub Content : (κs : Lfts n) → Dens κs ps → Type 0
   Content κs args = Lasts (endedOf n ps r) κs args
 
+  -- an outcome that a promise allows
+  abbrev pub Allows : Out n ps r → (κs : Lfts n) (args : Dens κs ps) → Result κs → Content κs args → Type 0
+  Allows P κs args x v = P κs args x (atExit (endedOf n ps r) κs args v)
+
   -- "any two outcomes it allows are equal", where `Same` says which results are the same; for all arguments, also those that the promise `P` does not admit
   unfoldable pub DeterminedBy : ((κs : Lfts n) → Result κs → Result κs → Type 0) → Out n ps r → Type 0
   DeterminedBy Same P =
       (κs : Lfts n) (args : Dens κs ps) (x y : Result κs) (v w : Content κs args) →
-      P κs args x (atExit (endedOf n ps r) κs args v) →
-      P κs args y (atExit (endedOf n ps r) κs args w) →
+      Allows P κs args x v →
+      Allows P κs args y w →
       Same κs x y × (v ≡ w)
 
   -- equal results

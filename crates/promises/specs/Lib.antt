@@ -1,3 +1,4 @@
+pub mod Calls
 pub mod Determination
 pub mod LateJoiners
 pub mod Useless

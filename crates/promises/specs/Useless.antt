@@ -11,13 +11,14 @@ use borrow.Fn.Kinds.{PK, RK, Out, Dens, endedOf}
 use lib.Dec.{eqb, leb, ltb}
 use lib.IntN.{ℤ, pos, negsuc}
 use lib.ListN.{length}
+use Rattle.format.specs.Answers.{saidAt}
 use Rattle.format.specs.Reading.{rowRoom, stretchLimit, placed, Outcome}
 use Rattle.holding.specs.declared.Holding.{Holding}
 use Rattle.holding.specs.Bounds.{below}
 use Rattle.host.proofs as host
 use Rattle.host.specs.declared.Handed.{Handed}
 use Rattle.host.specs.declared.Walked.{Walked}
-use Rattle.host.specs.Handing.{messageNumber, answerNumber, handedTo, placeSaid, hostOutcome}
+use Rattle.host.specs.Handing.{messageNumber, handedBy, numberSaid, hostOutcome}
 use Rattle.passing.specs.Passing.{size, holdingIn}
 use Rattle.promises.specs.Determination.{Result, Content}
 use Rattle.walk.proofs as walk
@@ -145,7 +146,7 @@ unfoldable pub reads : Sight walk.single.read.Kinds.ps walk.single.read.Kinds.r 
 reads =
     record {
       args = λ κs c. (holdingIn (c .holding), (lentAs 1 (c .bytes), (c .end, (0, (lentAs 2 (c .rows), tt)))));
-      seen = λ κs c x v. record { said = handedTo 0 (placeSaid 0 (x .answer)) (x .answer); holding = x .holding; rows = v .1 .1 .1 .1 .0 };
+      seen = λ κs c x v. record { said = handedBy 0 (saidAt 0 (x .answer)); holding = x .holding; rows = v .1 .1 .1 .1 .0 };
     }
 
 unfoldable pub walks : Sight walk.walk.Kinds.ps walk.walk.Kinds.r Walked
@@ -154,7 +155,7 @@ walks =
       args = λ κs c. (holdingIn (c .holding), (lentAs 1 (c .bytes), (c .end, (lentAs 2 (c .rows), tt))));
       seen =
           λ κs c x v. record {
-            said = record { answer = answerNumber (x .stop); place = x .tally .place; messages = x .tally .messages; rows = x .tally .rows };
+            said = record { answer = numberSaid (saidAt (x .tally .place) (x .stop)); place = x .tally .place; messages = x .tally .messages; rows = x .tally .rows };
             holding = x .holding;
             rows = v .1 .1 .1 .0;
           };
