@@ -1,0 +1,2 @@
+// The listing's lines (document 01, "Saved mask and listing"): what a line of input says.
+pub mod count;
