@@ -1,6 +1,6 @@
 -- The count that opens a line, character by character. Assumes nothing.
 use mathlib.Core.Path.{_≡_, refl, sym, ap, _∙_}
-use mathlib.Core.Bool.{Bool, false, _&&_, and-true, and-assoc, and-false}
+use mathlib.Core.Bool.{Bool, true, false, cond, _&&_, and-true, and-assoc, and-false}
 use mathlib.Core.List.{List, [], _∷_, _++_}
 use Prim.Native.Nat.{ℕ, zero, suc, _+_, _-_, _*_, _/_, _%_, _≤_, _<_}
 use native.Mathlib.Omega.{arith}
@@ -16,6 +16,16 @@ use Rattle.text.specs.Digits.{lastDigits}
 use Rattle.text.proofs.LastDigits.{length-digits, own-digits}
 
 -- ---- the first tab
+
+pub tab-near : (n : ℕ) (line : List ℕ) → tabWithin n line ≤ n
+unfolding tabWithin
+tab-near zero line = omega arith
+tab-near (suc n) [] = omega arith
+tab-near (suc n) (c ∷ cs) = go (eqb c tab) (tab-near n cs)
+  where
+    go : (b : Bool) → tabWithin n cs ≤ n → cond b 0 (suc (tabWithin n cs)) ≤ suc n
+    go true near = omega arith
+    go false near = omega arith
 
 module _ (line : List ℕ) (i : ℕ) where
   pub tab-further : (n : ℕ) → i < length line → ¬ (getD line i 0 ≡ tab) → tabWithin (suc n) (drop i line) ≡ suc (tabWithin n (drop (suc i) line))

@@ -4,10 +4,12 @@ use mathlib.Core.Bool.{Bool, true, false}
 use mathlib.Core.List.{List, [], _∷_, _++_, append-assoc}
 use Prim.Native.Nat.{ℕ, zero, suc, _+_, _-_, _*_, _/_, _%_, _≤_, _<_}
 use native.Mathlib.Decide.{decLt}
+use native.Mathlib.Nat.{add-zero}
+use native.Mathlib.Numerals.{add-one}
 use native.Mathlib.Omega.{arith}
 use lib.Dec.{eqb}
-use lib.ListN.{length, getD, take, drop, length-append, take-append-drop}
-use lib.Seq.{take-append-seam, drop-append-seam}
+use lib.ListN.{length, getD, take, drop, length-append, take-append-drop, drop-of-length-le}
+use lib.Seq.{take-append-seam, drop-append-seam, take-at, getD-append-add, drop-cons, drop-drop}
 use borrow.Author.Tests.{eqb-true, eq-eqb, ne-eqb, leb-true}
 use Rattle.format.specs.Listing.{stretchLine, lineSays, says, bad}
 use Rattle.format.specs.Reading.{stretchLimit}
@@ -66,3 +68,33 @@ module _ (l : List Bool) (few : length l ≤ stretchLimit) where
 
   pub its-digits : hexSays n (hex l) ≡ true
   its-digits = digits-say n (hex l) ∙ rw (hexBits-hex l, sameList-refl eqb eqb-refl (hex l), eqb-refl n)
+
+  pub its-length : length (stretchLine l) ≡ length digits + (length (hex l) + 2)
+  unfolding stretchLine
+  its-length = simp length-append (omega arith)
+
+  pub its-tab-char : getD (stretchLine l) (length digits) 0 ≡ tab
+  unfolding stretchLine
+  its-tab-char = ap (λ (k : ℕ). getD (stretchLine l) k 0) (sym (add-zero (length digits))) ∙ getD-append-add digits _ 0 0
+
+  pub its-end-char : getD (stretchLine l) (length digits + (length (hex l) + 1)) 0 ≡ lineFeed
+  unfolding stretchLine
+  its-end-char =
+      let one : length (hex l) + 1 ≡ suc (length (hex l) + 0) = omega arith in
+      getD-append-add digits _ (length (hex l) + 1) 0 ∙ rw one (getD-append-add (hex l) (lineFeed ∷ []) 0 0)
+
+  pub its-middle : (k : ℕ) → length (hex l) ≡ k → take k (drop (length digits + 1) (stretchLine l)) ≡ hex l
+  its-middle k long = ap (take k) (sym (drop-drop 1 (length digits) (stretchLine l)) ∙ ap (drop 1) its-rest) ∙ take-at (hex l) (lineFeed ∷ []) k long
+
+-- ---- a line in parts
+
+pub in-parts : (line : List ℕ) (t end : ℕ) → getD line t 0 ≡ tab → t + 1 ≤ end → end + 1 ≡ length line → getD line end 0 ≡ lineFeed
+    → line ≡ take t line ++ (tab ∷ (take (end - (t + 1)) (drop (t + 1) line) ++ (lineFeed ∷ [])))
+in-parts line t end tabbed room long ended =
+    let last : drop end line ≡ lineFeed ∷ [] = drop-cons line end 0 (omega arith) ∙ rw (ended, drop-of-length-le line {i = suc end} (omega arith)) in
+    let there : t + 1 + (end - (t + 1)) ≡ end = omega arith in
+    let rest : drop (end - (t + 1)) (drop (t + 1) line) ≡ lineFeed ∷ [] = drop-drop (end - (t + 1)) (t + 1) line ∙ rw there last in
+    let middle : drop (t + 1) line ≡ take (end - (t + 1)) (drop (t + 1) line) ++ (lineFeed ∷ []) =
+    sym (take-append-drop (end - (t + 1)) (drop (t + 1) line)) ∙ ap (λ (l : List ℕ). take (end - (t + 1)) (drop (t + 1) line) ++ l) rest in
+    sym (take-append-drop t line)
+    ∙ ap (λ (l : List ℕ). take t line ++ l) (drop-cons line t 0 (omega arith) ∙ rw (tabbed, ← (add-one t)) (ap (_∷_ tab) middle))
