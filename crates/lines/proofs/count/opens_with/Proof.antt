@@ -25,7 +25,7 @@ returns : tie.Need-returns Inv-loop μ-loop
 returns c =
     let d = c .before in
     let x = d .before .before .args in
-    sym (opens-not (x .line .now) (x .k) (x .n) (d .before .before .pre) (λ e. c .if1 .taken (d .decimals .ensures ∙ e)))
+    sym (opens-not (x .line .now) (x .k) (x .n) (d .before .before .pre) (λ e. omega (arith, e, d .decimals .ensures)))
 
 loop-holds : tie.Need-loop-holds Inv-loop μ-loop
 loop-holds c =

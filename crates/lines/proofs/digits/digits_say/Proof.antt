@@ -45,7 +45,7 @@ module _ (c : tie.After-shared-slice-known3 Inv-loop μ-loop) where
       (ap (λ (d : ℕ). eqb d (getD line (l .loop .i) 0) && hexSays (l .loop .left - 4) (drop (suc (l .loop .i)) line)) (sym (c .before .digit .ensures ∙ ap digitChar (k .nibble .ensures .0))))
 
 returns-2 : tie.Need-returns-2 Inv-loop μ-loop
-returns-2 c = sym (here (c .before) ∙ rw (ne-eqb (c .before .before .digit .result) (getD (line (c .before)) (l (c .before) .loop .i) 0) (c .if2 .taken)))
+returns-2 c = sym (here (c .before) ∙ rw (ne-eqb (c .before .before .digit .result) (getD (line (c .before)) (l (c .before) .loop .i) 0) (λ e. omega arith)))
 
 loop-again : tie.Need-loop-again Inv-loop μ-loop
 loop-again c =
