@@ -6,6 +6,7 @@ pub mod Openings
 pub mod Sames
 pub mod Texts
 pub mod SavedForm
+pub mod InputLines
 pub mod Steps
 pub mod Makes
 pub mod MakesBack

@@ -15,7 +15,7 @@ use Rattle.format.proofs.Bodies.{All, none, more, all-append}
 -- ---- digits
 
 -- of a choice by an order holds what holds of either side
-choice : {A : Type 0} (P : A → Type 0) (m n : ℕ) (x y : A) → (m < n → P x) → (n ≤ m → P y) → P (cond (ltb m n) x y)
+pub choice : {A : Type 0} (P : A → Type 0) (m n : ℕ) (x y : A) → (m < n → P x) → (n ≤ m → P y) → P (cond (ltb m n) x y)
 choice P m n x y below above = go (ltb m n) refl
   where
     go : (b : Bool) → ltb m n ≡ b → P (cond b x y)
@@ -65,7 +65,7 @@ unfolding decimal digitsFrom
 decimal-more n large = rw (le-ltb n 10 large, fuel-same n (suc (n / 10)) (n / 10) (omega arith) (omega arith))
 
 -- it is read as it was written
-value-more : (sum : ℕ) (l : List ℕ) (c : ℕ) → decimalValue sum (l ++ (c ∷ [])) ≡ 10 * decimalValue sum l + charDigit c
+pub value-more : (sum : ℕ) (l : List ℕ) (c : ℕ) → decimalValue sum (l ++ (c ∷ [])) ≡ 10 * decimalValue sum l + charDigit c
 unfolding decimalValue
 value-more sum [] c = refl
 value-more sum (x ∷ l) c = value-more (10 * sum + charDigit x) l c
