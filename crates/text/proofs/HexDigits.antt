@@ -1,0 +1,38 @@
+-- Bits by fours are the last digits of their number to the base of 16. Assumes nothing.
+use mathlib.Core.Path.{_≡_, refl, ap, ap₂, _∙_}
+use mathlib.Core.Bool.{Bool}
+use mathlib.Core.List.{List, [], _∷_, _++_}
+use Prim.Native.Nat.{ℕ, zero, suc, _+_, _*_, _/_, _%_}
+use native.Mathlib.Omega.{arith}
+use lib.ListN.{length}
+use Rattle.bits.specs.BitLists.{number, spell}
+use Rattle.bits.proofs.BitLists.{length-spell, number-spell, spell-append}
+use Rattle.format.specs.Text.{digitChar, hex}
+use Rattle.text.specs.Digits.{lastDigits}
+
+-- in two parts, of which the first is of whole digits
+pub hex-append : (k : ℕ) (l m : List Bool) → length l ≡ 4 * k → hex (l ++ m) ≡ hex l ++ hex m
+unfolding hex
+hex-append zero [] m e = refl
+hex-append zero (a ∷ l) m e = absurd (omega arith)
+hex-append (suc k) [] m e = absurd (omega arith)
+hex-append (suc k) (a ∷ []) m e = absurd (omega arith)
+hex-append (suc k) (a ∷ b ∷ []) m e = absurd (omega arith)
+hex-append (suc k) (a ∷ b ∷ c ∷ []) m e = absurd (omega arith)
+hex-append (suc k) (a ∷ b ∷ c ∷ d ∷ l) m e = ap (λ (x : List ℕ). digitChar (number (a ∷ b ∷ c ∷ d ∷ [])) ∷ x) (hex-append k l m (omega arith))
+
+-- one digit
+pub hex-four : (n : ℕ) → hex (spell 4 n) ≡ digitChar (n % 16) ∷ []
+unfolding hex spell
+hex-four n = ap (λ (d : ℕ). digitChar d ∷ []) (number-spell 4 n)
+
+pub hex-digits : (k n : ℕ) → hex (spell (4 * k) n) ≡ lastDigits 16 k n
+unfolding hex spell lastDigits
+hex-digits zero n = refl
+hex-digits (suc k) n =
+    let wide : 4 * suc k ≡ 4 * k + 4 = omega arith in
+    let parts : n ≡ n / 16 * 16 + n % 16 = omega arith in
+    ap (λ (w : ℕ). hex (spell w n)) wide ∙ ap (λ (x : ℕ). hex (spell (4 * k + 4) x)) parts
+    ∙ ap hex (spell-append (4 * k) 4 (n / 16) (n % 16) (omega arith))
+    ∙ hex-append k (spell (4 * k) (n / 16)) (spell 4 (n % 16)) (length-spell (4 * k) (n / 16))
+    ∙ ap₂ _++_ (hex-digits k (n / 16)) (hex-four (n % 16) ∙ ap (λ (d : ℕ). digitChar d ∷ []) (omega arith))
