@@ -5,10 +5,13 @@ use mathlib.Core.List.{List, [], _∷_, _++_}
 use Prim.Native.Nat.{ℕ, zero, suc, _+_, _*_, _/_, _%_}
 use native.Mathlib.Omega.{arith}
 use lib.ListN.{length}
+use lib.Seq.{sets}
 use Rattle.bits.specs.BitLists.{number, spell}
 use Rattle.bits.proofs.BitLists.{length-spell, number-spell, spell-append}
 use Rattle.format.specs.Text.{digitChar, hex}
 use Rattle.text.specs.Digits.{lastDigits}
+use Rattle.text.proofs.LastDigits.{length-digits}
+use Rattle.text.proofs.Stores.{Wrote}
 
 -- in two parts, of which the first is of whole digits
 pub hex-append : (k : ℕ) (l m : List Bool) → length l ≡ 4 * k → hex (l ++ m) ≡ hex l ++ hex m
@@ -36,3 +39,11 @@ hex-digits (suc k) n =
     ∙ ap hex (spell-append (4 * k) 4 (n / 16) (n % 16) (omega arith))
     ∙ hex-append k (spell (4 * k) (n / 16)) (spell 4 (n % 16)) (length-spell (4 * k) (n / 16))
     ∙ ap₂ _++_ (hex-digits k (n / 16)) (hex-four (n % 16) ∙ ap (λ (d : ℕ). digitChar d ∷ []) (omega arith))
+
+-- as many as they are, and stored
+pub length-hex : (k n : ℕ) → length (hex (spell (4 * k) n)) ≡ k
+length-hex k n = ap length (hex-digits k n) ∙ length-digits 16 k n
+
+pub hex-wrote : (before : List ℕ) {at : ℕ} (k n : ℕ) {after : List ℕ} {end : ℕ} → (end ≡ at + k) × (after ≡ sets before at (hex (spell (4 * k) n)))
+    → Wrote before at (hex (spell (4 * k) n)) after end
+hex-wrote before k n e = record { place = omega (arith, e .0, length-hex k n); same = e .1 }

@@ -1,5 +1,5 @@
 -- Stores one after another into a list: in parts, and beside each other; and texts one behind another. Assumes nothing.
-use mathlib.Core.Path.{_≡_, refl, sym, _∙_}
+use mathlib.Core.Path.{_≡_, refl, sym, ap, _∙_}
 use mathlib.Core.List.{List, [], _∷_, _++_}
 use Prim.Native.Nat.{ℕ, suc, _+_, _≤_}
 use native.Mathlib.Nat.{add-zero}
@@ -46,3 +46,32 @@ then-wrote {before} {at} {text} {between} {middle} {more} w v =
 pub room-left : {before : List ℕ} {at : ℕ} {text between : List ℕ} {middle : ℕ} (more : List ℕ)
     → Wrote before at text between middle → at + length (text ++ more) ≤ length before → middle + length more ≤ length between
 room-left {before} {at} {text} more w room = rw (w .same, w .place, length-sets before at text) (omega (arith, length-append text more))
+
+-- ---- a text of which the front is stored: what is left makes the same from the place behind it
+
+pub record Left (before : List ℕ) (start : ℕ) (all now : List ℕ) (at : ℕ) (rest : List ℕ) : Type 0 where
+  pub same : sets before start all ≡ sets now at rest
+  pub ends : start + length all ≡ at + length rest
+  pub long : length now ≡ length before
+
+pub all-left : (before : List ℕ) (start : ℕ) (all : List ℕ) → Left before start all before start all
+all-left before start all = record { same = refl; ends = refl; long = refl }
+
+module _ {before : List ℕ} {start : ℕ} {all now : List ℕ} {at : ℕ} where
+  -- with a part more stored
+  pub part-wrote : {rest text more : List ℕ} → Left before start all now at rest → rest ≡ text ++ more → {after : List ℕ} {end : ℕ} → Wrote now at text after end
+      → Left before start all after end more
+  part-wrote {rest} {text} {more} l e {after} {end} w =
+      record {
+        same = l .same ∙ rw (e, w .same, w .place) (sets-append now at text more);
+        ends = l .ends ∙ rw (e, length-append text more, w .place) (omega arith);
+        long = rw (w .same, length-sets now at text) (l .long);
+      }
+
+  -- what is left finds room
+  pub left-room : {rest : List ℕ} → Left before start all now at rest → start + length all ≤ length before → at + length rest ≤ length now
+  left-room l room = omega (arith, l .ends, l .long)
+
+  -- nothing is left
+  pub none-left : {rest : List ℕ} → Left before start all now at rest → rest ≡ [] → Wrote before start all now at
+  none-left l e = record { place = omega (arith, l .ends, ap length e); same = sym (rw e at (l .same)) }

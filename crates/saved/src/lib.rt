@@ -1,0 +1,2 @@
+// The saved holding (document 01, "Saved mask and listing"): one line of text.
+pub mod cells;
