@@ -1,3 +1,4 @@
 pub mod Gathers
 pub mod CellTexts
 pub mod StripTexts
+pub mod SlotTexts

@@ -1,2 +1,3 @@
 // The saved holding (document 01, "Saved mask and listing"): one line of text.
 pub mod cells;
+pub mod systems;
