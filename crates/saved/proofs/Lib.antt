@@ -2,3 +2,5 @@ pub mod Gathers
 pub mod CellTexts
 pub mod StripTexts
 pub mod SlotTexts
+pub mod SlotsLeft
+pub mod HeldTexts

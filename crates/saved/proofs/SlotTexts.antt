@@ -8,15 +8,17 @@ use native.Mathlib.Omega.{arith}
 use lib.Count.{ones}
 use lib.ListN.{length, take, length-append}
 use lib.Seq.{length-take-le}
+use borrow.Author.Tests.{ne-eqb}
 use mir.Val.{boolByte}
 use Rattle.bits.specs.BitLists.{spell}
 use Rattle.format.specs.Saved.{cellText, flagText, systemText}
 use Rattle.format.specs.Text.{tab, dash, decimal, digitsFrom, hex}
 use Rattle.holding.proofs.Places.{ones-places}
 use Rattle.holding.specs.Pictures.{systemOf}
+use Rattle.text.proofs.HexDigits.{length-hex, hex-long}
 use Rattle.saved.specs.declared.systems.Slot.{Slot}
 use Rattle.saved.specs.Gathering.{stripBits, cellBits}
-use Rattle.saved.specs.Slots.{systemIn, cellCount, frontText}
+use Rattle.saved.specs.Slots.{systemIn, cellCount, frontText, cellLong, systemLong}
 use Rattle.saved.proofs.Gathers.{length-strip}
 
 -- ---- the cell mask
@@ -77,3 +79,23 @@ front-long s = rw (flag-digit (s .flag)) (simp length-append)
 pub system-text : (s : Slot) (strips : List ℕ) → systemText (systemIn s strips) ≡ frontText s ++ (tab ∷ cellText (systemIn s strips .cells))
 unfolding systemText systemOf frontText
 system-text s strips = simp append-assoc
+
+-- ---- how long
+
+cell-text-long : (l : List Bool) → length (cellText l) ≡ cellLong (length l)
+unfolding cellText
+cell-text-long [] = refl
+cell-text-long (b ∷ l) = rw (ne-eqb (suc (length l)) 0 (λ e. omega arith)) (hex-long (b ∷ l))
+
+flag-long : (flag : Bool) → length (decimal (boolByte flag)) ≡ 1
+unfolding decimal digitsFrom
+flag-long true = refl
+flag-long false = refl
+
+pub system-long : (s : Slot) (strips : List ℕ) → s .satellites < 2 ^ 40 → s .signals < 2 ^ 16 → ones (s .satellites) ≤ length strips
+    → length (systemText (systemIn s strips)) ≡ systemLong s
+system-long s strips low small room =
+    let cells : length (cellText (systemIn s strips .cells)) ≡ cellLong (cellCount s) = cell-text-long (systemIn s strips .cells) ∙ ap (λ (n : ℕ). cellLong n) (cells-long s strips low small room) in
+    ap length (system-text s strips)
+    ∙ length-append (frontText s) (tab ∷ cellText (systemIn s strips .cells))
+    ∙ omega (arith, cells, front-long s, length-hex 10 (s .satellites), length-hex 4 (s .signals), flag-long (s .flag))

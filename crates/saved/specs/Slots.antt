@@ -1,9 +1,10 @@
 -- A slot of a holding: one system, with the strips from its first satellite's on; and the slots that are left from one on.
 use mathlib.Core.Bool.{false, cond}
 use mathlib.Core.List.{List, _∷_, _++_}
-use Prim.Native.Nat.{ℕ, _-_, _*_}
+use Prim.Native.Nat.{ℕ, _+_, _-_, _*_, _/_}
 use lib.Count.{ones}
-use lib.ListN.{getD, drop}
+use lib.Dec.{eqb}
+use lib.ListN.{length, getD, drop}
 use Rattle.bits.specs.BitLists.{spell}
 use Rattle.format.specs.Masks.{System}
 use Rattle.format.specs.Saved.{flagText}
@@ -30,3 +31,10 @@ cellCount s = cond (s .flag) (ones (s .satellites) * ones (s .signals)) 0
 -- what a line says of it before its cell mask
 unfoldable pub frontText : Slot → List ℕ
 frontText s = (tab ∷ decimal (s .id)) ++ ((tab ∷ hex (spell 40 (s .satellites))) ++ ((tab ∷ hex (spell 16 (s .signals))) ++ (tab ∷ flagText (s .flag))))
+
+-- how long its text is: a dash where the cell mask has no bits, else its digits
+abbrev pub cellLong : ℕ → ℕ
+cellLong n = cond (eqb n 0) 1 ((n + 3) / 4)
+
+abbrev pub systemLong : Slot → ℕ
+systemLong s = length (decimal (s .id)) + 20 + cellLong (cellCount s)

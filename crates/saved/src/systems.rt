@@ -9,7 +9,7 @@ ghost use lib.Seq.{sets};
 ghost use Rattle.bits.specs.BitLists.{spell};
 ghost use Rattle.format.specs.Saved.{cellText, systemText};
 ghost use Rattle.format.specs.Text.{tab, decimal, hex};
-ghost use Rattle.saved.specs.Slots.{slotAt, systemIn, cellCount, frontText};
+ghost use Rattle.saved.specs.Slots.{slotAt, systemIn, cellCount, frontText, cellLong, systemLong};
 use crate::cells;
 use holding::Holding;
 use holding::set_places;
@@ -53,6 +53,30 @@ pub fn cell_count(s: Slot) -> usize
 pub const SATELLITE_DIGITS: usize = Holding::SATELLITE_MASK / 4;
 
 pub const SIGNAL_DIGITS: usize = Holding::SIGNAL_MASK / 4;
+
+// How long a system's text is without its ID and its cell mask: five tabs, both masks and the flag.
+const FIXED: usize = 5 + SATELLITE_DIGITS + SIGNAL_DIGITS + 1;
+
+// How long the text of a cell mask is.
+fn cell_long(n: usize) -> usize
+    requires { ⌜ n ≤ 64 * 64 ⌝ }
+    ensures { λ r. ⌜ r ≡ cellLong n ⌝ }
+    ensures { λ r. ⌜ r ≤ 64 * 64 ⌝ }
+{
+    if n == 0 {
+        return 1;
+    }
+    (n + 3) / 4
+}
+
+// How long that of a system is.
+pub fn system_long(s: Slot) -> usize
+    ensures { λ r. ⌜ r ≡ systemLong s ⌝ }
+    ensures { λ r. ⌜ r ≤ 5000 ⌝ }
+{
+    let digits = cell_long(cell_count(s));
+    number::decimals(s.id as u64) + FIXED + digits
+}
 
 // A number after a tab, and a mask.
 pub fn after_tab(line: &mut [u8], at: usize, n: u64) -> usize

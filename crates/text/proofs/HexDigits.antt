@@ -47,3 +47,12 @@ length-hex k n = ap length (hex-digits k n) ∙ length-digits 16 k n
 pub hex-wrote : (before : List ℕ) {at : ℕ} (k n : ℕ) {after : List ℕ} {end : ℕ} → (end ≡ at + k) × (after ≡ sets before at (hex (spell (4 * k) n)))
     → Wrote before at (hex (spell (4 * k) n)) after end
 hex-wrote before k n e = record { place = omega (arith, e .0, length-hex k n); same = e .1 }
+
+-- a digit for four bits, and for those that are left
+pub hex-long : (l : List Bool) → length (hex l) ≡ (length l + 3) / 4
+unfolding hex
+hex-long [] = refl
+hex-long (a ∷ []) = refl
+hex-long (a ∷ b ∷ []) = refl
+hex-long (a ∷ b ∷ c ∷ []) = refl
+hex-long (a ∷ b ∷ c ∷ d ∷ l) = omega (arith, hex-long l)
