@@ -4,3 +4,4 @@ pub mod StripTexts
 pub mod SlotTexts
 pub mod SlotsLeft
 pub mod HeldTexts
+pub mod SavedLines
