@@ -1,5 +1,5 @@
 -- The cell mask as text, digit by digit: what is stored, and the bits that are left. Assumes nothing.
-use mathlib.Core.Path.{_≡_, refl, sym, ap, ap₂, _∙_}
+use mathlib.Core.Path.{_≡_, refl, sym, ap, _∙_}
 use mathlib.Core.Bool.{Bool, false}
 use mathlib.Core.List.{List, [], _∷_, _++_, append-assoc, append-nil}
 use Prim.Native.Nat.{ℕ, zero, suc, _+_, _-_, _*_, _/_, _%_, _^_, _≤_, _<_}
@@ -7,7 +7,6 @@ use native.Mathlib.Nat.{mod-lt, div-add-mod', mod-eq-of-lt, mul-le-mul}
 use native.Mathlib.Omega.{arith}
 use lib.ListN.{length, length-append}
 use lib.Pow.{pow-pos, pow-mono}
-use lib.Seq.{sets, length-sets}
 use Rattle.bits.proofs.BitLists.{length-spell, number-lt, number-append, number-spell, spell-append, spell-number}
 use Rattle.bits.specs.BitLists.{number, spell}
 use Rattle.format.specs.Text.{digitChar, hex}

@@ -1,12 +1,11 @@
 -- The slots of a sound holding one after the other: what each may be read by, the systems and the texts that are left. Assumes nothing.
-use mathlib.Core.Path.{_≡_, refl, sym, ap, _∙_}
-use mathlib.Core.Bool.{true, false, cond, _&&_}
+use mathlib.Core.Path.{_≡_, sym, ap, _∙_}
+use mathlib.Core.Bool.{true, cond, _&&_}
 use mathlib.Core.List.{List, [], _∷_, _++_, flatMap}
-use Prim.Native.Nat.{ℕ, zero, suc, _+_, _-_, _*_, _^_, _≤_, _<_}
+use Prim.Native.Nat.{ℕ, suc, _+_, _-_, _*_, _^_, _≤_, _<_}
 use native.Mathlib.Nat.{add-zero, sub-zero}
 use native.Mathlib.Numerals.{add-one}
 use native.Mathlib.Omega.{arith}
-use borrow.Author.Tests.{leb-true}
 use lib.Count.{ones}
 use lib.Dec.{eqb, leb, ltb}
 use lib.ListN.{length, getD, take, drop, length-append, length-drop}
@@ -21,7 +20,7 @@ use Rattle.holding.proofs.Sounds.{sounds}
 use Rattle.holding.proofs.SoundTested.{sound-tested}
 use Rattle.holding.specs.Building.{onesIn}
 use Rattle.holding.specs.declared.Holding.{Holding}
-use Rattle.holding.specs.Pictures.{systemsOf, maskOf, sound}
+use Rattle.holding.specs.Pictures.{systemsOf, sound}
 use Rattle.holding.specs.Testing.{slotFits, slotsFit, tested}
 use Rattle.text.proofs.Stores.{Wrote, Left, all-left, part-wrote, left-room, none-left}
 use Rattle.saved.specs.Slots.{slotAt, systemIn, systemsFrom, systemLong}

@@ -36,5 +36,6 @@ frontText s = (tab ∷ decimal (s .id)) ++ ((tab ∷ hex (spell 40 (s .satellite
 abbrev pub cellLong : ℕ → ℕ
 cellLong n = cond (eqb n 0) 1 ((n + 3) / 4)
 
+-- five tabs, the 14 digits of both masks and the flag stand beside it and the ID
 abbrev pub systemLong : Slot → ℕ
 systemLong s = length (decimal (s .id)) + 20 + cellLong (cellCount s)

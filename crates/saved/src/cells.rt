@@ -12,7 +12,7 @@ use text::number;
 use text::put;
 
 // How many bits a digit has.
-const DIGIT: usize = 4;
+pub const DIGIT: usize = 4;
 
 // One satellite's part of the cell mask: the bits of its strip at the places of the signal mask.
 fn gather(signals: u16, strip: u16) -> u64

@@ -2,7 +2,7 @@
 ghost use mathlib.Core.Path.{_≡_};
 ghost use mathlib.Core.Bool.{true};
 ghost use mathlib.Core.List.{flatMap};
-ghost use Prim.Native.Nat.{_+_, _*_, _≤_};
+ghost use Prim.Native.Nat.{_+_, _≤_};
 ghost use lib.ListN.{length};
 ghost use lib.Seq.{sets};
 ghost use Rattle.format.specs.Saved.{systemText, heldText, lineOf};
@@ -35,15 +35,20 @@ fn systems_long(h: Holding) -> usize
     long
 }
 
+// How long the line is around what it says of the mask: the letter, a tab and the line feed; and where it says a dash.
+const AROUND: usize = 3;
+
+const EMPTY: usize = AROUND + 1;
+
 // How long the line is.
 pub fn line_long(h: Holding) -> usize
     requires { ⌜ sound h ≡ true ⌝ }
     ensures { λ r. ⌜ r ≡ length (lineOf (maskOf h)) ⌝ }
 {
     if !h.held {
-        return 4;
+        return EMPTY;
     }
-    number::decimals(h.iod as u64) + systems_long(h) + 3
+    number::decimals(h.iod as u64) + systems_long(h) + AROUND
 }
 
 // The text of its systems.

@@ -1,6 +1,5 @@
 // One system of the saved holding: its ID, its masks as hex, its flag and its cell mask, each after a tab.
 ghost use mathlib.Core.Path.{_≡_};
-ghost use mathlib.Core.Bool.{true};
 ghost use mathlib.Core.List.{_∷_};
 ghost use Prim.Native.Nat.{_+_, _*_, _^_, _≤_, _<_};
 ghost use lib.Count.{ones};
@@ -39,7 +38,7 @@ pub fn slot_at(h: Holding, i: usize) -> Slot
 }
 
 // How many bits its cell mask has.
-pub fn cell_count(s: Slot) -> usize
+fn cell_count(s: Slot) -> usize
     ensures { λ r. ⌜ r ≡ cellCount s ⌝ }
     ensures { λ r. ⌜ r ≤ 64 * 64 ⌝ }
 {
@@ -50,12 +49,15 @@ pub fn cell_count(s: Slot) -> usize
 }
 
 // How many digits a satellite mask and a signal mask have.
-pub const SATELLITE_DIGITS: usize = Holding::SATELLITE_MASK / 4;
+const SATELLITE_DIGITS: usize = Holding::SATELLITE_MASK / cells::DIGIT;
 
-pub const SIGNAL_DIGITS: usize = Holding::SIGNAL_MASK / 4;
+const SIGNAL_DIGITS: usize = Holding::SIGNAL_MASK / cells::DIGIT;
 
 // How long a system's text is without its ID and its cell mask: five tabs, both masks and the flag.
 const FIXED: usize = 5 + SATELLITE_DIGITS + SIGNAL_DIGITS + 1;
+
+// The most bits that a digit of a cell mask is padded with.
+const SPARE: usize = cells::DIGIT - 1;
 
 // How long the text of a cell mask is.
 fn cell_long(n: usize) -> usize
@@ -66,7 +68,7 @@ fn cell_long(n: usize) -> usize
     if n == 0 {
         return 1;
     }
-    (n + 3) / 4
+    (n + SPARE) / cells::DIGIT
 }
 
 // How long that of a system is.
@@ -79,7 +81,7 @@ pub fn system_long(s: Slot) -> usize
 }
 
 // A number after a tab, and a mask.
-pub fn after_tab(line: &mut [u8], at: usize, n: u64) -> usize
+fn after_tab(line: &mut [u8], at: usize, n: u64) -> usize
     requires { ⌜ at + length (tab ∷ decimal n) ≤ length (now line) ⌝ }
     ensures { λ r. ⌜ r ≡ at + length (tab ∷ decimal n) ⌝ }
     ensures { λ _. ⌜ now (line .exit) ≡ sets (now (line .entry)) at (tab ∷ decimal n) ⌝ }

@@ -1,5 +1,5 @@
 -- `saved::line::held_text` meets its contract. Assumes nothing.
-use mathlib.Core.Path.{_≡_, ap, _∙_}
+use mathlib.Core.Path.{_≡_, ap}
 use mathlib.Core.Bool.{true}
 use mathlib.Core.List.{[], _∷_, flatMap}
 use native.Mathlib.Omega.{arith}

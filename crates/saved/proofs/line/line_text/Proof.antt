@@ -1,12 +1,11 @@
 -- `saved::line::line_text` meets its contract. Assumes nothing.
-use mathlib.Core.Path.{_≡_}
 use mathlib.Core.List.{[], _∷_}
 use native.Mathlib.Omega.{arith}
 use borrow.Author.Needs.{needs}
 use Rattle.format.specs.Saved.{letterS, heldText, lineOf}
 use Rattle.format.specs.Text.{tab, lineFeed}
 use Rattle.holding.specs.Pictures.{maskOf}
-use Rattle.text.proofs.Stores.{Wrote, wrote, told, then-wrote}
+use Rattle.text.proofs.Stores.{wrote, then-wrote}
 use Rattle.saved.proofs.HeldTexts.{line-long}
 use Rattle.saved.proofs.line.line_text.Statement.{statement}
 use Rattle.saved.proofs.line.line_text.Tie as tie

@@ -1,6 +1,6 @@
 -- `saved::line::systems_long` meets its contract. The loop's invariant: what is counted, and the slots that are left. Assumes nothing.
-use mathlib.Core.Path.{_≡_, ap, _∙_}
-use Prim.Native.Nat.{ℕ, _-_}
+use mathlib.Core.Path.{ap, _∙_}
+use Prim.Native.Nat.{_-_}
 use native.Mathlib.Omega.{arith}
 use borrow.Author.Needs.{needs}
 use Rattle.saved.specs.declared.systems.Slot.{Slot}

@@ -1,12 +1,12 @@
 -- `saved::systems::cell_count` meets its contract. Assumes nothing.
-use mathlib.Core.Path.{_≡_, ap₂, _∙_}
+use mathlib.Core.Path.{_≡_, ap₂}
 use mathlib.Core.Bool.{true, false}
 use Prim.Native.Nat.{_*_, _^_, _≤_, _<_}
 use native.Mathlib.Nat.{mul-le-mul}
 use native.Mathlib.Omega.{arith}
 use borrow.Author.Needs.{needs}
 use borrow.Author.Tests.{not-true, not-false}
-use lib.Count.{ones, ones-le}
+use lib.Count.{ones-le}
 use Rattle.saved.proofs.systems.cell_count.Statement.{statement}
 use Rattle.saved.proofs.systems.cell_count.Tie as tie
 
