@@ -6,7 +6,7 @@ ghost use lib.Signed.{mag};
 ghost use Rattle.bits.specs.Signed.{unsigned};
 
 // How far an integer lies from zero, counted so that n and -(n + 1) are both n.
-fn magnitude(z: i32) -> u64
+pub fn magnitude(z: i32) -> u64
     ensures { λ r. ⌜ r ≡ mag z ⌝ }
 {
     if z < 0 { (-1 - z) as u64 } else { z as u64 }

@@ -7,7 +7,7 @@ use lib.Dec.{eqb}
 use lib.ListN.{length, getD, take, drop, replicate}
 use Rattle.bits.specs.BitLists.{number, spell}
 use Rattle.format.specs.Good.{good}
-use Rattle.format.specs.Masks.{System, Held, nothing, mask, placesFrom, pick, satellites, cells}
+use Rattle.format.specs.Masks.{System, Held, nothing, mask, Lent, stray, lent, placesFrom, pick, satellites, cells}
 use Rattle.format.specs.Same.{sameList}
 use Rattle.holding.specs.declared.Holding.{Holding}
 use Rattle.holding.specs.Spread.{spread}
@@ -94,3 +94,7 @@ sameHolding g h =
 
 unfoldable pub sound : Holding → Bool
 sound h = good (maskOf h) && sameHolding (pictureOf (maskOf h)) h
+
+-- what a struct says that is lent as a holding: none where it is not sound
+unfoldable pub lentBy : Holding → Lent
+lentBy h = cond (sound h) (lent (maskOf h)) stray

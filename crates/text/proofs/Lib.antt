@@ -1,2 +1,4 @@
 pub mod Stores
 pub mod LastDigits
+pub mod HexDigits
+pub mod Values

@@ -1,14 +1,16 @@
 // Digits and numbers.
 ghost use mathlib.Core.Path.{_≡_};
-ghost use Prim.Native.Nat.{_+_, _≤_, _<_};
-ghost use lib.IntN.{ℤ};
+ghost use Prim.Native.Nat.{_+_, _*_, _≤_, _<_};
 ghost use lib.ListN.{length};
 ghost use lib.Seq.{sets};
 ghost use Rattle.format.specs.Listing.{valueText};
+ghost use Rattle.bits.specs.BitLists.{spell};
 ghost use Rattle.format.specs.Text.{digitChar, decimal};
+ghost use Rattle.format.specs.Text as Text;
 ghost use Rattle.text.specs.Digits.{lastDigits};
 use crate::DASH;
 use crate::put;
+use bits::signed::magnitude;
 use format::ABSENT;
 
 // A digit, capitals from ten on.
@@ -57,4 +59,33 @@ pub fn number(line: &mut [u8], at: usize, n: u64) -> usize
 {
     let k = decimals(n);
     digits(line, at, k, n, 10)
+}
+
+// The base that writes four bits by a digit.
+const HEX: u64 = 16;
+
+// The low bits of a word by fours, k digits.
+pub fn hex(line: &mut [u8], at: usize, k: usize, word: u64) -> usize
+    requires { ⌜ at + k ≤ length (now line) ⌝ }
+    ensures { λ r. ⌜ r ≡ at + k ⌝ }
+    ensures { λ _. ⌜ now (line .exit) ≡ sets (now (line .entry)) at (Text.hex (spell (4 * k) word)) ⌝ }
+{
+    digits(line, at, k, word, HEX)
+}
+
+// A value of a head or a row: a dash where it is absent, else decimal, with a minus sign in front of a negative one.
+pub fn value(line: &mut [u8], at: usize, v: i32) -> usize
+    requires { ⌜ at + length (valueText v) ≤ length (now line) ⌝ }
+    ensures { λ r. ⌜ r ≡ at + length (valueText v) ⌝ }
+    ensures { λ _. ⌜ now (line .exit) ≡ sets (now (line .entry)) at (valueText v) ⌝ }
+{
+    if v == ABSENT {
+        return put(line, at, DASH);
+    }
+    let n = magnitude(v);
+    if v >= 0 {
+        return number(line, at, n);
+    }
+    let from = put(line, at, DASH);
+    number(line, from, n + 1)
 }

@@ -1,5 +1,5 @@
 -- `text::number::decimals` meets its contract. The loop's invariant: the digits counted, and those of what is left. Assumes nothing.
-use mathlib.Core.Path.{_≡_, refl}
+use mathlib.Core.Path.{_≡_}
 use Prim.Native.Nat.{_+_, _≤_}
 use native.Mathlib.Omega.{arith}
 use lib.ListN.{length}

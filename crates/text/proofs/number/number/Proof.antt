@@ -1,6 +1,5 @@
 -- `text::number::number` meets its contract. Assumes nothing.
-use mathlib.Core.Path.{sym, _∙_}
-use native.Mathlib.Omega.{arith}
+use mathlib.Core.Path.{_∙_}
 use borrow.Author.Needs.{needs}
 use Rattle.text.proofs.LastDigits.{own-digits}
 use Rattle.text.proofs.number.number.Statement.{statement}

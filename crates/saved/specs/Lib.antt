@@ -1,0 +1,3 @@
+pub mod Gathering
+pub mod Slots
+pub mod Saves

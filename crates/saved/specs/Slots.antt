@@ -1,0 +1,41 @@
+-- A slot of a holding: one system, with the strips from its first satellite's on; and the slots that are left from one on.
+use mathlib.Core.Bool.{false, cond}
+use mathlib.Core.List.{List, _∷_, _++_}
+use Prim.Native.Nat.{ℕ, _+_, _-_, _*_, _/_}
+use lib.Count.{ones}
+use lib.Dec.{eqb}
+use lib.ListN.{length, getD, drop}
+use Rattle.bits.specs.BitLists.{spell}
+use Rattle.format.specs.Masks.{System}
+use Rattle.format.specs.Saved.{flagText}
+use Rattle.format.specs.Text.{tab, decimal, hex}
+use Rattle.holding.specs.declared.Holding.{Holding}
+use Rattle.holding.specs.Pictures.{systemOf, systemsOf}
+use Rattle.saved.specs.declared.systems.Slot.{Slot}
+
+abbrev pub slotAt : Holding → ℕ → Slot
+slotAt h i =
+    record { id = getD (h .ids) i 0; satellites = getD (h .satellites) i 0; signals = getD (h .signals) i 0; flag = getD (h .flags) i false }
+
+abbrev pub systemIn : Slot → List ℕ → System
+systemIn s strips = systemOf (s .id) (s .satellites) (s .signals) (s .flag) strips
+
+-- the systems in the slots from one on, with the strips from one on
+abbrev pub systemsFrom : Holding → ℕ → ℕ → List System
+systemsFrom h i n = systemsOf (h .count - i) (drop i (h .ids)) (drop i (h .satellites)) (drop i (h .signals)) (drop i (h .flags)) (drop n (h .strips))
+
+-- how many bits its cell mask has
+abbrev pub cellCount : Slot → ℕ
+cellCount s = cond (s .flag) (ones (s .satellites) * ones (s .signals)) 0
+
+-- what a line says of it before its cell mask
+unfoldable pub frontText : Slot → List ℕ
+frontText s = (tab ∷ decimal (s .id)) ++ ((tab ∷ hex (spell 40 (s .satellites))) ++ ((tab ∷ hex (spell 16 (s .signals))) ++ (tab ∷ flagText (s .flag))))
+
+-- how long its text is: a dash where the cell mask has no bits, else its digits
+abbrev pub cellLong : ℕ → ℕ
+cellLong n = cond (eqb n 0) 1 ((n + 3) / 4)
+
+-- five tabs, the 14 digits of both masks and the flag stand beside it and the ID
+abbrev pub systemLong : Slot → ℕ
+systemLong s = length (decimal (s .id)) + 20 + cellLong (cellCount s)
