@@ -36,17 +36,14 @@ loop-again c =
     let s = c .before .before .loop in (
       omega (arith, c .before .loop-test .taken),
       length-set (s .rest) (s .i) _ ∙ s .inv .1,
-      copied-more (x .bytes .now) (x .from) (s .rest) (s .i) (omega (arith, c .before .loop-test .taken, s .inv .1, c .before .before .before .least .ensures .1)) (s .inv .2),
+      copied-more (x .bytes .now) (x .from) (s .rest) (s .i) (omega (arith, c .before .loop-test .taken, s .inv .1, c .before .before .before .least .ensures)) (s .inv .2),
       clear-more (x .bytes .now) (x .from) (s .rest) (s .i) _ (s .inv .3),
     )
 
 -- what is not copied is past the string's end
 ended : (c : tie.After-loop Inv-loop μ-loop) → let x = c .before .before .before .before .before .before .args in c .before .loop .i < 584 → length (x .bytes .now) ≤ x .from + c .before .loop .i
 ended c some =
-    let n = c .before .before .least in
-    let stopped : n .result < 584 = omega (arith, c .loop-test .left) in
-    let all = n .ensures .2 stopped in
-    omega (arith, c .loop-test .left, c .before .before .before .if1 .left)
+    omega (arith, c .before .before .least .ensures, c .loop-test .left, c .before .before .before .if1 .left)
 
 same-length : tie.Need-same-length Inv-loop μ-loop
 same-length c = c .before .loop .inv .1 ∙ sym (begun _ (c .before .before .before .before .before .before .pre .0) .0)
