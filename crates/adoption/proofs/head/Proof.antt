@@ -30,4 +30,4 @@ returns-2 c =
 pub head-spec : {M : Type 1} → statement M
 head-spec =
     tie.close
-    (tie.spec (λ c κs. (omega arith, omega (arith, c .pre .opens .within))) (λ c. search needs) (λ c κs. search needs) (λ c. search needs) (λ c. omega (arith, c .before .before .before .before .pre .opens .within)) short-by-requires returns returns-2)
+    (tie.spec (λ c κs. (c .pre, omega arith, omega (arith, c .pre .opens .within))) (λ c. search needs) (λ c κs. search needs) (λ c. search needs) (λ c. omega (arith, c .before .before .before .before .pre .opens .within)) short-by-requires returns returns-2)

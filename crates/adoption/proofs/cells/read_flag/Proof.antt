@@ -84,5 +84,5 @@ returns-3 c =
 pub read-flag-spec : {M : Type 1} → statement M
 read-flag-spec =
     tie.close
-    (tie.spec (λ c κs. (omega arith, c .pre .2)) (λ c. search needs) (λ c. search needs) (λ c. omega (arith, after (c .before))) (λ c. omega (arith, after (c .before))) (λ c κs. s (took (c .before)) .pre .0)
+    (tie.spec (λ c κs. search needs) (λ c. search needs) (λ c. search needs) (λ c. omega (arith, after (c .before))) (λ c. omega (arith, after (c .before))) (λ c κs. s (took (c .before)) .pre .0)
     (λ c. after (c .before .before .before)) (λ c. search needs) returns returns-2 returns-3)

@@ -75,5 +75,5 @@ returns-4 c = λ bs opens. sym (ends (p (c .before)) opens ∙ rw (is-known (c .
 pub read-id-spec : {M : Type 1} → statement M
 read-id-spec =
     tie.close
-    (tie.spec (λ c κs. (omega arith, omega (arith, c .before .pre .1 .opens .within))) (λ c. search needs) (λ c. search needs) (λ c. omega (arith, low c)) (λ c. search needs) returns (λ c κs. search needs) returns-2 returns-3
+    (tie.spec (λ c κs. (c .before .pre .1, omega arith, omega (arith, c .before .pre .1 .opens .within))) (λ c. search needs) (λ c. search needs) (λ c. omega (arith, low c)) (λ c. search needs) returns (λ c κs. search needs) returns-2 returns-3
     returns-4)

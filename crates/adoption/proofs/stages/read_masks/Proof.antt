@@ -95,6 +95,6 @@ returns-4 c =
 pub read-masks-spec : {M : Type 1} → statement M
 read-masks-spec =
     tie.close
-    (tie.spec (λ c κs. (omega arith, c .before .pre .2 .room)) (λ c. search needs) (λ c. search needs) (λ c κs. (search needs, low c)) returns (λ c κs. search needs) (λ c. omega (arith, few c))
+    (tie.spec (λ c κs. (record { bytes = _; opens = c .before .pre .3 }, omega arith, c .before .pre .2 .room)) (λ c. search needs) (λ c. search needs) (λ c κs. (search needs, low c)) returns (λ c κs. search needs) (λ c. omega (arith, few c))
     returns-2 (λ c. search needs) (λ c. omega (arith, after (p (c .before .before)))) (λ c κs. search needs)
     (λ c κs. (search needs, low (k c), record { bytes = _; opens = opens c })) returns-3 returns-4)

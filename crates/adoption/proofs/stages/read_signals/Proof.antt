@@ -53,4 +53,4 @@ returns-3 c =
 pub read-signals-spec : {M : Type 1} → statement M
 read-signals-spec =
     tie.close
-    (tie.spec (λ c κs. (omega arith, omega (arith, c .pre .2 .opens .within))) (λ c. search needs) (λ c. search needs) (λ c κs. (search needs, low c)) returns (λ c. omega (arith, low (c .before .before))) returns-2 returns-3)
+    (tie.spec (λ c κs. (c .pre .2, omega arith, omega (arith, c .pre .2 .opens .within))) (λ c. search needs) (λ c. search needs) (λ c κs. (search needs, low c)) returns (λ c. omega (arith, low (c .before .before))) returns-2 returns-3)

@@ -163,5 +163,5 @@ returns-3 c =
 pub find-spec : {M : Type 1} → statement M
 find-spec =
     tie.close
-    (tie.spec (λ c κs. search needs) (λ c κs. opens c .within .room) (λ c. search needs) (λ c κs. opens (c .before .before .before .before)) (λ c. search needs) (λ c κs. search needs) (λ c. search needs) returns
+    (tie.spec (λ c κs. search needs) (λ c κs. (record { bytes = _; opens = opens c }, opens c .within .room)) (λ c. search needs) (λ c κs. opens (c .before .before .before .before)) (λ c. search needs) (λ c κs. search needs) (λ c. search needs) returns
     of-requires body-of-requires returns-2 (λ c. search needs) returns-3)
