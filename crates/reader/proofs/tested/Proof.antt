@@ -11,10 +11,6 @@ use Rattle.reader.proofs.Lents.{is-holding}
 use Rattle.reader.proofs.tested.Statement.{statement}
 use Rattle.reader.proofs.tested.Tie as tie
 
-returns : tie.Need-returns
-unfolding testedBy lentTests verdict
-returns c = rw (lt-leb 2048 (c .before .before .args .room) (c .if1 .taken)) refl
-
 returns-2 : tie.Need-returns-2
 unfolding testedBy lentTests verdict
 returns-2 c =
@@ -39,4 +35,8 @@ returns-4 c =
     rw (le-leb 2048 (x .room) (omega arith), inside, fine) refl
 
 pub tested-spec : {M : Type 1} → statement M
-tested-spec = tie.close (tie.spec returns (λ c κs. search needs) returns-2 (λ c κs. search needs) returns-3 returns-4)
+unfolding testedBy lentTests verdict
+tested-spec =
+    tie.close
+    (tie.spec (λ c. rw (lt-leb 2048 (c .before .before .args .room) (c .if1 .taken)) refl) (λ c κs. search needs) returns-2 (λ c κs. search needs) returns-3
+    returns-4)

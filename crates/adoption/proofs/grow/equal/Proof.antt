@@ -23,14 +23,9 @@ loop-again c =
     let next : x .from + (l .i + 1) ≡ suc (x .from + l .i) = omega arith in
     (omega arith, rw next (one-filled (rw left at (l .inv .1))))
 
-returns : tie.Need-returns Inv-loop μ-loop
-returns c =
-    let l = c .before .loop in
-    let none : c .before .before .args .n - l .i ≡ 0 = omega arith in
-    sym ((rw none at (l .inv .1)) .same)
-
 pub equal-spec : {M : Type 1} → statement M
 equal-spec =
     tie.close
-    (tie.spec Inv-loop μ-loop (λ c. (omega arith, rw (add-zero, sub-zero) (record { same = refl; room = refl }))) (λ c. search needs) (λ c. search needs) (λ c. search needs) (λ c. search needs)
-    (λ c. search needs) loop-again (λ c. search needs) returns)
+    (tie.spec Inv-loop μ-loop (λ c. (omega arith, rw (add-zero, sub-zero) (record { same = refl; room = refl }))) (λ c. search needs) (λ c. search needs)
+    (λ c. search needs) (λ c. search needs) (λ c. search needs) loop-again (λ c. search needs)
+    (λ c. let l = c .before .loop in let none : c .before .before .args .n - l .i ≡ 0 = omega arith in sym ((rw none at (l .inv .1)) .same)))

@@ -46,10 +46,6 @@ module _ (c : tie.After-known-told2) where
       (cond (leb (s .args .n + ones sats) 64) (endFrom (systemSignals (s .args .id) (spell 40 sats)) (s .args .bytes .now) (s .args .f .end) (s .args .f .start + 4 + 40)) (badly Size 0)) (badly Reserved 0)
   ends = satellites-end (s .pre .2) (s .args .n) (s .args .id) there
 
-returns : tie.Need-returns
-unfolding endMasked FitsMasked
-returns c = (sym (ends (c .before .before) ∙ rw (sym (c .before .satellites-assigned .ensures) ∙ not-true _ (c .if1 .taken))), tt)
-
 -- how many satellites there are
 module _ (c : tie.After-count) where
   abbrev p : tie.After-known-told2
@@ -93,8 +89,10 @@ returns-4 c =
     (read .0 (x .bytes .now) (opens (c .before)) ∙ same ∙ sym (ends at ∙ rw (on count, fit)), subst (λ (g : Front). FitsMasked (x .bytes .now) (g .end) (c .read-signals .result)) front (read .1 (x .bytes .now) (opens (c .before))))
 
 pub read-masks-spec : {M : Type 1} → statement M
+unfolding endMasked FitsMasked
 read-masks-spec =
     tie.close
-    (tie.spec (λ c κs. (record { bytes = _; opens = c .before .pre .3 }, omega arith, c .before .pre .2 .room)) (λ c. search needs) (λ c. search needs) (λ c κs. (search needs, low c)) returns (λ c κs. search needs) (λ c. omega (arith, few c))
-    returns-2 (λ c. search needs) (λ c. omega (arith, after (p (c .before .before)))) (λ c κs. search needs)
+    (tie.spec (λ c κs. (record { bytes = _; opens = c .before .pre .3 }, omega arith, c .before .pre .2 .room)) (λ c. search needs) (λ c. search needs)
+    (λ c κs. (search needs, low c)) (λ c. (sym (ends (c .before .before) ∙ rw (sym (c .before .satellites-assigned .ensures) ∙ not-true _ (c .if1 .taken))), tt))
+    (λ c κs. search needs) (λ c. omega (arith, few c)) returns-2 (λ c. search needs) (λ c. omega (arith, after (p (c .before .before)))) (λ c κs. search needs)
     (λ c κs. (search needs, low (k c), record { bytes = _; opens = opens c })) returns-3 returns-4)

@@ -25,10 +25,6 @@ Inv-loop iod numbers bytes end at₀ n h₀ at h = Stands numbers bytes end (ans
 abbrev μ-loop : tie.MeasureT-loop
 μ-loop iod numbers bytes end at₀ n h₀ at h = n - h .count
 
-loop-holds : tie.Need-loop-holds Inv-loop μ-loop
-unfolding filled pictureOf satellites cells flatMap
-loop-holds c = rw sub-zero (none-yet (c .before .args .numbers) (c .before .args .iod) (c .before .args .n) (c .before .pre .0) (c .before .pre .1))
-
 -- one more, of those left
 module _ (c : tie.After-read-system Inv-loop μ-loop) where
   abbrev l : tie.At-loop Inv-loop μ-loop
@@ -104,11 +100,15 @@ returns-3 c =
     ap (λ (g : Holding). record { answer = Message (c .before .before .before .args .numbers) (l .at) 0; holding = g }) (sym (s .held .picture)) ∙ sym (none-left s)
 
 pub all-spec : {M : Type 1} → statement M
+unfolding filled pictureOf satellites cells flatMap
 all-spec =
     tie.close
-    (tie.spec Inv-loop μ-loop loop-holds (λ c κs. let l = c .before .before .before .before .loop .inv in (ids-named l .0, l .held .few-satellites, l .there)) (λ c. search needs)
-    (λ c κs. search needs) returns (λ c. search needs) (λ c κs. (fits (c .before) .1, fits (c .before) .0, omega (arith, next (c .before)), omega (arith, next (c .before)), strips-left (stands (read (c .before)))))
+    (tie.spec Inv-loop μ-loop
+    (λ c. rw sub-zero (none-yet (c .before .args .numbers) (c .before .args .iod) (c .before .args .n) (c .before .pre .0) (c .before .pre .1)))
+    (λ c κs. let l = c .before .before .before .before .loop .inv in (ids-named l .0, l .held .few-satellites, l .there)) (λ c. search needs) (λ c κs. search needs)
+    returns (λ c. search needs)
+    (λ c κs. (fits (c .before) .1, fits (c .before) .0, omega (arith, next (c .before)), omega (arith, next (c .before)), strips-left (stands (read (c .before)))))
     (λ c. omega (arith, c .strips .ensures .0 .1, l (read (q c)) .loop .inv .held .few-cells)) (λ c κs. search needs) returns-2 (λ c κs. search needs)
-    (λ c. omega (arith, c .count .ensures, fits (p (c .before)) .1)) (λ c. few (c .before)) (λ c. omega (arith, few (c .before))) (λ c. few (c .before)) (λ c. omega (arith, few (c .before)))
-    (λ c. few (c .before)) (λ c. few (c .before)) (λ c. omega (arith, few (c .before))) (λ c κs. fits (p (c .before)) .0)
+    (λ c. omega (arith, c .count .ensures, fits (p (c .before)) .1)) (λ c. few (c .before)) (λ c. omega (arith, few (c .before))) (λ c. few (c .before))
+    (λ c. omega (arith, few (c .before))) (λ c. few (c .before)) (λ c. few (c .before)) (λ c. omega (arith, few (c .before))) (λ c κs. fits (p (c .before)) .0)
     (λ c. omega (arith, c .width .ensures, next (p (c .before .before)))) (λ c. omega arith) loop-again returns-3)

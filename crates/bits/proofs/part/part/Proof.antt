@@ -26,12 +26,6 @@ within c =
     let s = c .before .before .before in
     rw (c .before .begins .ensures, c .counts .ensures) (ends-within (s .args .from) (s .args .to) _ (s .pre))
 
-add-past : tie.Need-add-past
-add-past c = omega (arith, within c)
-
-part-result-end : tie.Need-part-result-end
-part-result-end c = omega (arith, within c)
-
 returns : tie.Need-returns
 unfolding partOf
 returns c =
@@ -39,4 +33,7 @@ returns c =
     record { bytes = rw (add-sub-cancel-left, k .before .begins .ensures, k .counts .ensures); memory = refl; offset = omega (arith, k .before .begins .ensures) }
 
 pub part-spec : {M : Type 1} → statement M
-part-spec = tie.close (tie.spec (λ c κs. search needs) (λ c κs. search needs) add-past (λ c. search needs) (λ c. search needs) part-result-end returns)
+part-spec =
+    tie.close
+    (tie.spec (λ c κs. search needs) (λ c κs. search needs) (λ c. omega (arith, within c)) (λ c. search needs) (λ c. search needs) (λ c. omega (arith, within c))
+    returns)

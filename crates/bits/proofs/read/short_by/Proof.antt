@@ -8,12 +8,6 @@ use Rattle.bits.proofs.Short.{widths-sum}
 use Rattle.bits.proofs.read.short_by.Statement.{statement}
 use Rattle.bits.proofs.read.short_by.Tie as tie
 
-returns : tie.Need-returns
-unfolding shortBy widthsOf
-returns c =
-    let x = c .before .before .before .args in
-    rw (lt-ltb (x .left) (x .w .first) (omega arith))
-
 returns-2 : tie.Need-returns-2
 unfolding shortBy widthsOf
 returns-2 c =
@@ -26,9 +20,6 @@ returns-3 c =
     let x = c .before .before .before .before .before .before .before .before .before .args in
     let left : ℕ = x .left - x .w .first in
     rw (le-ltb (x .left) (x .w .first) (omega arith), le-ltb left (x .w .second) (omega arith), lt-ltb (left - x .w .second) (x .w .third) (omega arith))
-
-sub-result-4 : tie.Need-sub-result-4
-sub-result-4 c = omega (arith, widths-sum (c .before .before .before .before .before .before .before .before .before .before .args .w))
 
 returns-4 : tie.Need-returns-4
 unfolding shortBy widthsOf
@@ -44,6 +35,9 @@ returns-4 c =
     )
 
 pub short-by-spec : {M : Type 1} → statement M
+unfolding shortBy widthsOf
 short-by-spec =
     tie.close
-    (tie.spec (λ c. search needs) returns (λ c. search needs) returns-2 (λ c. search needs) returns-3 sub-result-4 returns-4)
+    (tie.spec (λ c. search needs) (λ c. let x = c .before .before .before .args in rw (lt-ltb (x .left) (x .w .first) (omega arith))) (λ c. search needs) returns-2
+    (λ c. search needs) returns-3 (λ c. omega (arith, widths-sum (c .before .before .before .before .before .before .before .before .before .before .args .w)))
+    returns-4)

@@ -12,12 +12,8 @@ returns c =
     let x = c .before .before .before .before .args in
     ap Whole (c .read-field .ensures) ∙ sym (taken-whole (x .bytes .now) (x .end) (x .place) (x .w) (omega arith))
 
-returns-2 : tie.Need-returns-2
-returns-2 c =
-    let x = c .before .before .before .args in
-    ap Short (omega arith) ∙ sym (taken-short (x .bytes .now) (x .end) (x .place) (x .w) (omega arith))
-
 pub take-field-spec : {M : Type 1} → statement M
 take-field-spec =
     tie.close
-    (tie.spec (λ c κs. search needs) (λ c κs. search needs) (λ c. search needs) returns returns-2)
+    (tie.spec (λ c κs. search needs) (λ c κs. search needs) (λ c. search needs) returns
+    (λ c. let x = c .before .before .before .args in ap Short (omega arith) ∙ sym (taken-short (x .bytes .now) (x .end) (x .place) (x .w) (omega arith))))

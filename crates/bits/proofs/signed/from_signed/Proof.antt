@@ -13,9 +13,6 @@ use Rattle.bits.proofs.Windows.{one-shifted}
 use Rattle.bits.proofs.signed.from_signed.Statement.{statement}
 use Rattle.bits.proofs.signed.from_signed.Tie as tie
 
-cast-lifted : tie.Need-cast-lifted
-cast-lifted c = rw (toZ-ofZ (c .fits .z)) (sfits-widen tt (c .fits .z))
-
 cast-lifted-2 : tie.Need-cast-lifted-2
 cast-lifted-2 c = record { sfits = rw (one-shifted (c .args .w) (omega arith)) (omega (arith, pow-mono (c .pre .1))) }
 
@@ -29,14 +26,6 @@ small c = lifted-lt (c .args .w) (c .args .z) (c .pre .1) (c .pre .2)
 add-lifted : tie.Need-add-lifted
 add-lifted c = rw (sum c) (record { sfits = omega (arith, small c) })
 
-cast-lifted-3 : tie.Need-cast-lifted-3
-cast-lifted-3 c =
-    let room : lifted (c .args .w) (c .args .z) < 2 ^ 63 = omega (arith, small c) in
-    rw (sum c, toZ-pos w64 room) (tt, omega arith)
-
-rem-result : tie.Need-rem-result
-rem-result c = rw (one-shifted (c .args .w) (omega arith)) (pow-pos (c .args .w))
-
 returns : tie.Need-returns
 returns c =
     let room : lifted (c .args .w) (c .args .z) < 2 ^ 63 = omega (arith, small c) in
@@ -45,4 +34,6 @@ returns c =
 pub from-signed-spec : {M : Type 1} → statement M
 from-signed-spec =
     tie.close
-    (tie.spec (λ c. search needs) cast-lifted cast-lifted-2 add-lifted cast-lifted-3 rem-result returns)
+    (tie.spec (λ c. search needs) (λ c. rw (toZ-ofZ (c .fits .z)) (sfits-widen tt (c .fits .z))) cast-lifted-2 add-lifted
+    (λ c. let room : lifted (c .args .w) (c .args .z) < 2 ^ 63 = omega (arith, small c) in rw (sum c, toZ-pos w64 room) (tt, omega arith))
+    (λ c. rw (one-shifted (c .args .w) (omega arith)) (pow-pos (c .args .w))) returns)

@@ -13,11 +13,8 @@ use Rattle.bits.proofs.signed.in_range.Tie as tie
 found : (c : tie.After-magnitude) → c .magnitude .result ≡ mag (c .before .args .z)
 found c = rw (toZ-ofZ (c .before .fits .z)) at (c .magnitude .ensures)
 
-mul-result : tie.Need-mul-result
-mul-result c = omega (arith, found c, c .before .fits .z .sfits)
-
-returns : tie.Need-returns
-returns c = ap₂ (λ (m p : ℕ). ltb (m * 2) p) (found c) (one-shifted (c .before .args .w) (omega arith))
-
 pub in-range-spec : {M : Type 1} → statement M
-in-range-spec = tie.close (tie.spec (λ c κs. search needs) mul-result (λ c. search needs) returns)
+in-range-spec =
+    tie.close
+    (tie.spec (λ c κs. search needs) (λ c. omega (arith, found c, c .before .fits .z .sfits)) (λ c. search needs)
+    (λ c. ap₂ (λ (m p : ℕ). ltb (m * 2) p) (found c) (one-shifted (c .before .args .w) (omega arith))))

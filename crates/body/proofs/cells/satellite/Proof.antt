@@ -62,12 +62,6 @@ module _ (c : tie.After-first Inv-loop μ-loop) where
         let all = ap (cellLines columns) (next-of left rest (c .before .loop-test .taken) (c .before .before .loop .inv .0) e sat) in
         going-row line _ refl (five-in _ _) (rw all at (c .before .before .loop .inv .1))
 
-cell-requires : tie.Need-cell-requires Inv-loop μ-loop
-cell-requires c κs =
-    let f = c .before in
-    let w = row f _ refl in
-    (w .part, omega (arith, w .near), start f .pre .1, start f .pre .2, omega (arith, w .whole))
-
 loop-again : tie.Need-loop-again Inv-loop μ-loop
 loop-again c =
     let f = c .before .before .before .before in
@@ -92,7 +86,7 @@ satellite-spec =
     (tie.spec Inv-loop μ-loop (λ c. search needs) (λ c. record { sfits = c .before .before .before .pre .0 }) (λ c κs. c .before .before .before .pre .1)
     (λ c. (omega arith, going-start (c .before .before .before .before .pre .3))) (λ c κs. search needs)
     (λ c. record { sfits = omega (arith, fewer c _ refl .inside, c .first .ensures) }) (λ c. omega (arith, row c _ refl .room))
-    (λ c. omega (arith, row c _ refl .room)) (λ c. omega arith) (λ c. search needs) (λ c. row c _ refl .room) cell-requires (λ c κs. search needs)
-    (λ c. let f = c .before .before .before .before in omega (arith, row f _ refl .near, wide f))
-    (λ c. fewer (c .before .before .before .before) (c .rest .result) (c .rest .ensures) .fewer) loop-again (λ c. c .before .loop .inv .1 .same)
-    returns)
+    (λ c. omega (arith, row c _ refl .room)) (λ c. omega arith) (λ c. search needs) (λ c. row c _ refl .room)
+    (λ c κs. let f = c .before in let w = row f _ refl in (w .part, omega (arith, w .near), start f .pre .1, start f .pre .2, omega (arith, w .whole)))
+    (λ c κs. search needs) (λ c. let f = c .before .before .before .before in omega (arith, row f _ refl .near, wide f))
+    (λ c. fewer (c .before .before .before .before) (c .rest .result) (c .rest .ensures) .fewer) loop-again (λ c. c .before .loop .inv .1 .same) returns)

@@ -26,9 +26,6 @@ Inv-loop parts bytes at rows₀ s width i₀ k₀ place₀ rows i k place =
 abbrev μ-loop : tie.MeasureT-loop
 μ-loop parts bytes at rows₀ s width i₀ k₀ place₀ rows i k place = parts - i
 
-loop-holds : tie.Need-loop-holds Inv-loop μ-loop
-loop-holds c = (omega arith, refl, rw sub-zero (going-start (c .before .before .before .pre)))
-
 module _ (c : tie.In-loop Inv-loop μ-loop) where
   abbrev start : tie.Start Inv-loop μ-loop
   start = c .before .before .before .before .before
@@ -90,8 +87,8 @@ returns c =
 pub fill-spec : {M : Type 1} → statement M
 fill-spec =
     tie.close
-    (tie.spec Inv-loop μ-loop (λ c κs. search needs) (λ c κs. made-formed 0 7 (c .packet .ensures)) loop-holds (λ c. omega arith)
-    (λ c. omega (arith, row c .room)) (λ c. record { sfits = omega (arith, few c) }) (λ c. omega (arith, row c .room)) (λ c. omega arith)
-    (λ c. search needs) (λ c. row c .room) wide-requires
-    (λ c. let p = c .before .before .before in omega (arith, row p .near, wide p)) (λ c. omega (arith, c .before .before .before .loop-test .taken))
-    loop-again (λ c. c .before .loop .inv .2 .same) returns)
+    (tie.spec Inv-loop μ-loop (λ c κs. search needs) (λ c κs. made-formed 0 7 (c .packet .ensures))
+    (λ c. (omega arith, refl, rw sub-zero (going-start (c .before .before .before .pre)))) (λ c. omega arith) (λ c. omega (arith, row c .room))
+    (λ c. record { sfits = omega (arith, few c) }) (λ c. omega (arith, row c .room)) (λ c. omega arith) (λ c. search needs) (λ c. row c .room) wide-requires
+    (λ c. let p = c .before .before .before in omega (arith, row p .near, wide p)) (λ c. omega (arith, c .before .before .before .loop-test .taken)) loop-again
+    (λ c. c .before .loop .inv .2 .same) returns)

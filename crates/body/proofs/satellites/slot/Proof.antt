@@ -81,11 +81,6 @@ satellite-requires c κs =
     let w = row t _ refl in
     (w .part, omega (arith, w .near), x .pre .formed, x .pre .kind, omega (arith, w .whole))
 
-add-place : tie.Need-add-place Inv-loop μ-loop
-add-place c =
-    let t = c .before .before .before .before in
-    omega (arith, row t _ refl .near, t .before .before .before .width .ensures)
-
 loop-again : tie.Need-loop-again Inv-loop μ-loop
 loop-again c =
     let r = c .before .before in
@@ -108,7 +103,8 @@ returns c =
 pub slot-spec : {M : Type 1} → statement M
 slot-spec =
     tie.close
-    (tie.spec Inv-loop μ-loop (λ c κs. c .before .before .pre .formed)
-    (λ c. (omega arith, walk-start (omega arith) (c .before .before .before .pre .room))) (λ c κs. search needs) (λ c. omega (arith, near c))
-    (λ c. omega (arith, room c)) (λ c. omega (arith, room c)) (λ c. omega arith) (λ c. search needs) room (λ c. record { sfits = near (c .before) }) satellite-requires
-    add-place (λ c κs. search needs) (λ c. fewer (c .before .before) _ (c .rest .ensures) .fewer) loop-again (λ c. c .before .loop .inv .1 .going .same) returns)
+    (tie.spec Inv-loop μ-loop (λ c κs. c .before .before .pre .formed) (λ c. (omega arith, walk-start (omega arith) (c .before .before .before .pre .room)))
+    (λ c κs. search needs) (λ c. omega (arith, near c)) (λ c. omega (arith, room c)) (λ c. omega (arith, room c)) (λ c. omega arith) (λ c. search needs) room
+    (λ c. record { sfits = near (c .before) }) satellite-requires
+    (λ c. let t = c .before .before .before .before in omega (arith, row t _ refl .near, t .before .before .before .width .ensures)) (λ c κs. search needs)
+    (λ c. fewer (c .before .before) _ (c .rest .ensures) .fewer) loop-again (λ c. c .before .loop .inv .1 .going .same) returns)

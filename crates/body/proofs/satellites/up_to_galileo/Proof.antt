@@ -1,6 +1,6 @@
 -- `body::satellites::up_to_galileo` meets its contract. The loop's invariant: the last one is none of the slots passed. Assumes nothing.
 use mathlib.Core.Path.{_≡_, refl, sym, ap, _∙_}
-use Prim.Native.Nat.{ℕ, suc, _-_, _≤_}
+use Prim.Native.Nat.{suc, _-_, _≤_}
 use native.Mathlib.Omega.{arith}
 use borrow.Author.Tests.{eq-eqb, ne-eqb}
 use lib.ListN.{length, getD}
@@ -30,14 +30,9 @@ loop-again c =
     let here : s .n ≡ suc (s .n - 1) = omega arith in
     (omega (arith, s .inv .0), s .inv .1 ∙ ap (upToGalileo ids) here ∙ rw (ne-eqb (getD ids (s .n - 1) 0) 2 (c .if1 .left)))
 
-returns-2 : tie.Need-returns-2 Inv-loop μ-loop
-unfolding upToGalileo
-returns-2 c =
-    let none : c .before .loop .n ≡ 0 = omega arith in
-    sym (c .before .loop .inv .1 ∙ rw none)
-
 pub up-to-galileo-spec : {M : Type 1} → statement M
+unfolding upToGalileo
 up-to-galileo-spec =
     tie.close
-    (tie.spec Inv-loop μ-loop (λ c. (omega arith, refl)) (λ c. omega arith) (λ c. omega (arith, c .before .before .loop .inv .0)) returns
-    (λ c. omega arith) (λ c. omega arith) loop-again returns-2)
+    (tie.spec Inv-loop μ-loop (λ c. (omega arith, refl)) (λ c. omega arith) (λ c. omega (arith, c .before .before .loop .inv .0)) returns (λ c. omega arith)
+    (λ c. omega arith) loop-again (λ c. let none : c .before .loop .n ≡ 0 = omega arith in sym (c .before .loop .inv .1 ∙ rw none)))

@@ -25,11 +25,6 @@ returns c =
     let s = c .before .before .before in
     copied-all (s .args .bytes .now) (s .args .from) (s .args .rest .now) 0 584 (λ some. omega (arith, c .if1 .taken)) (λ j below. absurd (omega arith)) (begun _ (s .pre .0) .1)
 
-loop-holds : tie.Need-loop-holds Inv-loop μ-loop
-loop-holds c =
-    let zeros = begun _ (c .before .before .before .before .pre .0) in
-    (omega arith, zeros .0, (λ j below. absurd (omega arith)), zeros .1)
-
 loop-again : tie.Need-loop-again Inv-loop μ-loop
 loop-again c =
     let x = c .before .before .before .before .before .before .before .args in
@@ -45,9 +40,6 @@ ended : (c : tie.After-loop Inv-loop μ-loop) → let x = c .before .before .bef
 ended c some =
     omega (arith, c .before .before .least .ensures, c .loop-test .left, c .before .before .before .if1 .left)
 
-same-length : tie.Need-same-length Inv-loop μ-loop
-same-length c = c .before .loop .inv .1 ∙ sym (begun _ (c .before .before .before .before .before .before .pre .0) .0)
-
 returns-2 : tie.Need-returns-2 Inv-loop μ-loop
 returns-2 c =
     let x = c .before .before .before .before .before .before .args in
@@ -57,5 +49,7 @@ returns-2 c =
 pub copy-spec : {M : Type 1} → statement M
 copy-spec =
     tie.close
-    (tie.spec Inv-loop μ-loop returns (λ c. omega arith) (λ c κs. search needs) loop-holds (λ c. omega arith) (λ c. omega arith) (λ c. omega arith)
-    (λ c. omega arith) (λ c. omega arith) loop-again same-length returns-2)
+    (tie.spec Inv-loop μ-loop returns (λ c. omega arith) (λ c κs. search needs)
+    (λ c. let zeros = begun _ (c .before .before .before .before .pre .0) in (omega arith, zeros .0, (λ j below. absurd (omega arith)), zeros .1)) (λ c. omega arith)
+    (λ c. omega arith) (λ c. omega arith) (λ c. omega arith) (λ c. omega arith) loop-again
+    (λ c. c .before .loop .inv .1 ∙ sym (begun _ (c .before .before .before .before .before .before .pre .0) .0)) returns-2)

@@ -56,12 +56,6 @@ fill-requires-2 c κs =
       record { formed = made-formed 0 _ refl; kind = cells-fit (body s) (s .pre .0 .fits) (known .1) .0; room = rw (by-cells (view s) (known .0 .0) (body s .shape)) (room s (known .1)) },
     )
 
-fill-requires-3 : tie.Need-fill-requires-3
-unfolding linesOver
-fill-requires-3 c κs =
-    let k = c .before .before in
-    room (k .before .before .before .before .before .before .before) (k .keys3 .given .1)
-
 returns : tie.Need-returns
 returns c =
     let w = c .before .before .before in
@@ -85,7 +79,9 @@ returns-3 c =
     c .before .fill3 .ensures ∙ whole (k .before .before .before .before .before .before .before) (k .keys3 .given .1)
 
 pub fill-spec : {M : Type 1} → statement M
+unfolding linesOver
 fill-spec =
     tie.close
-    (tie.spec (λ c. search needs) (λ c κs. search needs) fill-requires (λ c. search needs) (λ c κs. search needs) fill-requires-2
-    (λ c. search needs) fill-requires-3 (λ c. search needs) returns (λ c. search needs) returns-2 (λ c. search needs) returns-3)
+    (tie.spec (λ c. search needs) (λ c κs. search needs) fill-requires (λ c. search needs) (λ c κs. search needs) fill-requires-2 (λ c. search needs)
+    (λ c κs. let k = c .before .before in room (k .before .before .before .before .before .before .before) (k .keys3 .given .1)) (λ c. search needs) returns
+    (λ c. search needs) returns-2 (λ c. search needs) returns-3)

@@ -6,11 +6,6 @@ use Rattle.heads.proofs.Chosen.{chosen-once, chosen-fits, chosen-twice}
 use Rattle.heads.proofs.heading.chosen.Statement.{statement}
 use Rattle.heads.proofs.heading.chosen.Tie as tie
 
-returns : tie.Need-returns
-returns c =
-    let x = c .before .before .before .args in
-    rw (c .read-field .ensures) (chosen-once (x .bytes .now) (x .place) (x .n) (omega arith))
-
 add-result : tie.Need-add-result
 add-result c =
     let x = c .before .before .before .before .args in
@@ -27,5 +22,6 @@ returns-2 c =
 pub chosen-spec : {M : Type 1} → statement M
 chosen-spec =
     tie.close
-    (tie.spec (λ c κs. search needs) (λ c. search needs) (λ c. search needs) returns (λ c κs. search needs) (λ c. search needs) (λ c. search needs)
-    (λ c κs. search needs) (λ c. search needs) (λ c. search needs) add-result returns-2)
+    (tie.spec (λ c κs. search needs) (λ c. search needs) (λ c. search needs)
+    (λ c. let x = c .before .before .before .args in rw (c .read-field .ensures) (chosen-once (x .bytes .now) (x .place) (x .n) (omega arith)))
+    (λ c κs. search needs) (λ c. search needs) (λ c. search needs) (λ c κs. search needs) (λ c. search needs) (λ c. search needs) add-result returns-2)

@@ -23,11 +23,6 @@ module _ (c : tie.After-known-told) where
   there : takenAt (s .args .bytes .now) (s .args .f .end) (s .args .f .start + 37) 3 ≡ Whole (c .before .taken2 .given .0 .0)
   there = sym (c .before .before .before .taken .ensures _ (s .pre .5)) ∙ c .before .taken2 .given .1
 
-by-flags-requires : tie.Need-by-flags-requires
-by-flags-requires c κs =
-    let p = s c .pre in
-    (p .0, p .1, p .2, fits (p .4) 3 (there c), p .3, onward (p .4) (omega (arith, after-field (p .4) 3 (there c))), p .5)
-
 short-by-requires : tie.Need-short-by-requires
 unfolding bitsOf widthsOf
 short-by-requires c κs =
@@ -54,4 +49,6 @@ returns-2 c =
 pub flagged-spec : {M : Type 1} → statement M
 flagged-spec =
     tie.close
-    (tie.spec (λ c κs. search needs) (λ c. search needs) (λ c. search needs) (λ c. search needs) short-by-requires (λ c. search needs) by-flags-requires returns returns-2)
+    (tie.spec (λ c κs. search needs) (λ c. search needs) (λ c. search needs) (λ c. search needs) short-by-requires (λ c. search needs)
+    (λ c κs. let p = s c .pre in (p .0, p .1, p .2, fits (p .4) 3 (there c), p .3, onward (p .4) (omega (arith, after-field (p .4) 3 (there c))), p .5)) returns
+    returns-2)

@@ -71,12 +71,6 @@ alone-lines l v n shows = go (l .cells)
     go true = all-cells v n shows (l .shape)
     go false = all-satellites v n shows (l .shape)
 
-returns : tie.Need-returns
-unfolding saidBy FitsHeading endFrom run later
-returns c =
-    let x = c .before .before .before .args in
-    (λ v shows. rw (none-held (x .under) (x .h) (skyIn v) (not-true (x .under .held) (c .if1 .taken))), tt)
-
 returns-2 : tie.Need-returns-2
 unfolding saidBy FitsHeading endFrom run later
 returns-2 c =
@@ -116,6 +110,8 @@ returns-4 c =
     )
 
 pub gated-spec : {M : Type 1} → statement M
+unfolding saidBy FitsHeading endFrom run later
 gated-spec =
     tie.close
-    (tie.spec returns (λ c. search needs) returns-2 flagged-requires returns-3 (λ c κs. search needs) (λ c κs. search needs) (λ c. search needs) returns-4)
+    (tie.spec (λ c. let x = c .before .before .before .args in (λ v shows. rw (none-held (x .under) (x .h) (skyIn v) (not-true (x .under .held) (c .if1 .taken))), tt))
+    (λ c. search needs) returns-2 flagged-requires returns-3 (λ c κs. search needs) (λ c κs. search needs) (λ c. search needs) returns-4)

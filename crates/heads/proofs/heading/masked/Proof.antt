@@ -22,11 +22,6 @@ module _ (c : tie.After-known-told) where
 common-requires : tie.Need-common-requires
 common-requires c κs = let p = c .before .pre in (record { bytes = _; opens = p .4 }, p .3 .room)
 
-gated-requires : tie.Need-gated-requires
-gated-requires c κs =
-    let p = s c .pre in
-    (p .0, p .1, p .2, whole c .small, onward (p .3) (omega (arith, whole c .after)), p .4)
-
 returns : tie.Need-returns
 unfolding underBy
 returns c =
@@ -47,4 +42,5 @@ returns-2 c =
 pub masked-spec : {M : Type 1} → statement M
 masked-spec =
     tie.close
-    (tie.spec common-requires (λ c. search needs) gated-requires (λ c. search needs) returns returns-2)
+    (tie.spec common-requires (λ c. search needs)
+    (λ c κs. let p = s c .pre in (p .0, p .1, p .2, whole c .small, onward (p .3) (omega (arith, whole c .after)), p .4)) (λ c. search needs) returns returns-2)

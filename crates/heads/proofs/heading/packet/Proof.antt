@@ -34,12 +34,6 @@ module _ (c : tie.After-taken) where
     is : {t : Taken} → c .taken .result ≡ t → takenAt bs (start .args .f .end) (start .args .f .start + 16) 6 ≡ t
     is e = sym (c .taken .ensures bs opens) ∙ e
 
-short-by-requires : tie.Need-short-by-requires
-unfolding bitsOf widthsOf
-short-by-requires c κs =
-    let took = c .before .before .before in
-    field-short _ _ _ 6 _ (is took (start took .pre .0 .opens) (c .before .enum-told .given .1)) .0
-
 returns : tie.Need-returns
 unfolding saidBy FitsHeading widthsOf
 returns c =
@@ -73,7 +67,10 @@ returns-2 c = (
 )
 
 pub packet-spec : {M : Type 1} → statement M
+unfolding bitsOf widthsOf
 packet-spec =
     tie.close
-    (tie.spec (λ c. search needs) (λ c κs. search needs) (λ c. search needs) (λ c. search needs) short-by-requires (λ c. search needs) (λ c. record { sfits = omega (arith, small c) }) (λ c. search needs)
-    (λ c. search needs) (λ c. search needs) (λ c. search needs) returns returns-2)
+    (tie.spec (λ c. search needs) (λ c κs. search needs) (λ c. search needs) (λ c. search needs)
+    (λ c κs. let took = c .before .before .before in field-short _ _ _ 6 _ (is took (start took .pre .0 .opens) (c .before .enum-told .given .1)) .0)
+    (λ c. search needs) (λ c. record { sfits = omega (arith, small c) }) (λ c. search needs) (λ c. search needs) (λ c. search needs) (λ c. search needs) returns
+    returns-2)

@@ -15,10 +15,6 @@ Inv-loop strips n cells₀ k₀ cells k = (k ≤ 16) × (cells ≤ 64 * k) × (c
 abbrev μ-loop : tie.MeasureT-loop
 μ-loop strips n cells₀ k₀ cells k = 16 - k
 
-loop-holds : tie.Need-loop-holds Inv-loop μ-loop
-unfolding total
-loop-holds c = (omega arith, omega arith, refl)
-
 loop-again : tie.Need-loop-again Inv-loop μ-loop
 loop-again c =
     let x = c .before .before .before .before .args in
@@ -34,7 +30,8 @@ returns c =
     s .inv .2 ∙ ones-past (x .strips .now) (x .n) (4 * s .k) (omega arith) (c .before .before .before .pre .2)
 
 pub cells-in-spec : {M : Type 1} → statement M
+unfolding total
 cells-in-spec =
     tie.close
-    (tie.spec Inv-loop μ-loop loop-holds (λ c. omega arith) (λ c. omega arith) (λ c κs. omega arith) (λ c. omega arith) (λ c. omega arith)
-    (λ c. omega arith) loop-again returns)
+    (tie.spec Inv-loop μ-loop (λ c. (omega arith, omega arith, refl)) (λ c. omega arith) (λ c. omega arith) (λ c κs. omega arith) (λ c. omega arith)
+    (λ c. omega arith) (λ c. omega arith) loop-again returns)

@@ -16,10 +16,6 @@ Inv-loop ids count id i₀ i = (i ≤ count) × (named id (take i ids) ≡ false
 abbrev μ-loop : tie.MeasureT-loop
 μ-loop ids count id i₀ i = count - i
 
-loop-holds : tie.Need-loop-holds Inv-loop μ-loop
-unfolding named
-loop-holds c = (omega arith, refl)
-
 returns : tie.Need-returns Inv-loop μ-loop
 returns c =
     let x = c .before .before .before .before .args in
@@ -38,4 +34,5 @@ returns-2 c =
     sym (ap (λ (k : ℕ). named (x .id) (take k (x .ids .now))) (sym all) ∙ c .before .loop .inv .1)
 
 pub named-in-spec : {M : Type 1} → statement M
-named-in-spec = tie.close (tie.spec Inv-loop μ-loop loop-holds (λ c. omega arith) returns (λ c. omega arith) (λ c. omega arith) loop-again returns-2)
+unfolding named
+named-in-spec = tie.close (tie.spec Inv-loop μ-loop (λ c. (omega arith, refl)) (λ c. omega arith) returns (λ c. omega arith) (λ c. omega arith) loop-again returns-2)

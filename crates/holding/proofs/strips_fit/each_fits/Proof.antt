@@ -37,16 +37,10 @@ loop-again c =
     let fits-here = sym (c .before .strip-fits .ensures) ∙ not-false _ (c .if1 .left) in
     (omega arith, c .before .before .before .before .loop .inv .1 ∙ here ∙ rw (fits-here, add-one i))
 
-returns-2 : tie.Need-returns-2 Inv-loop μ-loop
-unfolding every
-returns-2 c =
-    let x = c .before .before .before .args in
-    let all : c .before .loop .i ≡ x .to = omega arith in
-    sym (c .before .loop .inv .1 ∙ rw (all, sub-self))
-
 pub each-fits-spec : {M : Type 1} → statement M
+unfolding every
 each-fits-spec =
     tie.close
     (tie.spec Inv-loop μ-loop (λ c. (omega arith, refl)) (λ c. search needs) (λ c. search needs)
-    (λ c. omega (arith, c .shared-slice-known2 .given (c .before .before .loop .i))) (λ c κs. search needs) returns (λ c. omega arith)
-    (λ c. omega arith) loop-again returns-2)
+    (λ c. omega (arith, c .shared-slice-known2 .given (c .before .before .loop .i))) (λ c κs. search needs) returns (λ c. omega arith) (λ c. omega arith) loop-again
+    (λ c. let x = c .before .before .before .args in let all : c .before .loop .i ≡ x .to = omega arith in sym (c .before .loop .inv .1 ∙ rw (all, sub-self))))

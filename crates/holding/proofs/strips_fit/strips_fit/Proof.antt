@@ -19,10 +19,6 @@ Inv-loop strips from to signals flag last i₀ i = (from ≤ i) × (i ≤ to) ×
 abbrev μ-loop : tie.MeasureT-loop
 μ-loop strips from to signals flag last i₀ i = to - i
 
-loop-holds : tie.Need-loop-holds Inv-loop μ-loop
-unfolding every
-loop-holds c = (omega arith, omega arith, rw sub-self)
-
 returns-2 : tie.Need-returns-2 Inv-loop μ-loop
 returns-2 c =
     let x = c .before .before .before .before .before .before .args in
@@ -53,7 +49,8 @@ returns-3 c =
     c .four-fit2 .ensures ∙ sym (whole ∙ rw (passed, four))
 
 pub strips-fit-spec : {M : Type 1} → statement M
+unfolding every
 strips-fit-spec =
     tie.close
-    (tie.spec Inv-loop μ-loop (λ c. omega arith) (λ c κs. search needs) (λ c. c .each-fits .ensures) (λ c. omega arith) loop-holds
-    (λ c κs. omega arith) returns-2 (λ c. omega arith) (λ c. omega arith) loop-again (λ c κs. omega arith) returns-3)
+    (tie.spec Inv-loop μ-loop (λ c. omega arith) (λ c κs. search needs) (λ c. c .each-fits .ensures) (λ c. omega arith)
+    (λ c. (omega arith, omega arith, rw sub-self)) (λ c κs. omega arith) returns-2 (λ c. omega arith) (λ c. omega arith) loop-again (λ c κs. omega arith) returns-3)

@@ -9,10 +9,6 @@ use Rattle.holding.specs.Testing.{masksFit}
 use Rattle.holding.proofs.testing.masks_fit.Statement.{statement}
 use Rattle.holding.proofs.testing.masks_fit.Tie as tie
 
-returns : tie.Need-returns
-unfolding masksFit
-returns c = rw (le-ltb (c .before .args .satellites) (2 ^ 40) (omega arith))
-
 returns-2 : tie.Need-returns-2
 unfolding masksFit
 returns-2 c =
@@ -42,6 +38,8 @@ returns-4 c =
     rw (lt-ltb (x .satellites) (2 ^ 40) (omega arith), known, le-leb (x .n + ones (x .satellites)) 64 (omega arith)) (c .signals-assigned .ensures)
 
 pub masks-fit-spec : {M : Type 1} → statement M
+unfolding masksFit
 masks-fit-spec =
     tie.close
-    (tie.spec returns (λ c κs. search needs) returns-2 (λ c κs. search needs) add-if3 returns-3 (λ c κs. search needs) returns-4)
+    (tie.spec (λ c. rw (le-ltb (c .before .args .satellites) (2 ^ 40) (omega arith))) (λ c κs. search needs) returns-2 (λ c κs. search needs) add-if3 returns-3
+    (λ c κs. search needs) returns-4)

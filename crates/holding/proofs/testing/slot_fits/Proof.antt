@@ -11,12 +11,6 @@ use Rattle.holding.proofs.Fitting.{few-with}
 use Rattle.holding.proofs.testing.slot_fits.Statement.{statement}
 use Rattle.holding.proofs.testing.slot_fits.Tie as tie
 
-returns : tie.Need-returns
-unfolding slotFits
-returns c =
-    let x = c .before .before .before .before .args in
-    rw (le-ltb (getD (x .ids .now) (x .i) 0) 5 (omega arith))
-
 returns-2 : tie.Need-returns-2
 unfolding slotFits
 returns-2 c =
@@ -54,7 +48,9 @@ returns-4 c =
     (c .strips-fit .ensures ∙ ap (λ (k : ℕ). stripsFit (x .flag) (x .signals) (take k (drop (x .n) (x .strips .now)))) width)
 
 pub slot-fits-spec : {M : Type 1} → statement M
+unfolding slotFits
 slot-fits-spec =
     tie.close
-    (tie.spec (λ c. search needs) (λ c. omega (arith, c .shared-slice-known3 .given (c .before .before .before .args .i))) returns
-    (λ c κs. search needs) returns-2 (λ c. search needs) (λ c κs. search needs) returns-3 (λ c κs. search needs) add-to strips-fit-requires returns-4)
+    (tie.spec (λ c. search needs) (λ c. omega (arith, c .shared-slice-known3 .given (c .before .before .before .args .i)))
+    (λ c. let x = c .before .before .before .before .args in rw (le-ltb (getD (x .ids .now) (x .i) 0) 5 (omega arith))) (λ c κs. search needs) returns-2
+    (λ c. search needs) (λ c κs. search needs) returns-3 (λ c κs. search needs) add-to strips-fit-requires returns-4)

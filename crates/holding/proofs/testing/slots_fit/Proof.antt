@@ -28,10 +28,6 @@ Inv-loop ids satellites signals flags strips count nsat ncell i₀ n₀ i n =
 abbrev μ-loop : tie.MeasureT-loop
 μ-loop ids satellites signals flags strips count nsat ncell i₀ n₀ i n = count - i
 
-loop-holds : tie.Need-loop-holds Inv-loop μ-loop
-unfolding total
-loop-holds c = (omega arith, omega arith, rw sub-zero)
-
 returns : tie.Need-returns Inv-loop μ-loop
 returns c =
     let a = c .before .before .before .before .before .before in
@@ -100,11 +96,11 @@ returns-5 c =
     sym (ends-in (c .before .before .before) ∙ rw (sym (c .before .before .strips-empty .ensures) ∙ not-false _ (c .before .if4 .left)) (sym (c .cells-fit .ensures)))
 
 pub slots-fit-spec : {M : Type 1} → statement M
+unfolding total
 slots-fit-spec =
     tie.close
-    (tie.spec Inv-loop μ-loop loop-holds (λ c. search needs) (λ c. search needs) (λ c. search needs) (λ c. search needs) (λ c. search needs)
-    (λ c κs. search needs) returns (λ c. search needs) (λ c. search needs) (λ c κs. search needs)
-    (λ c. omega (arith, few (c .before .before), c .count .ensures)) (λ c. omega arith) (λ c. omega arith) loop-again returns-2 (λ c κs. search needs)
-    returns-3 (λ c κs. search needs)
-    (λ c. sym (ends-in (c .before .before) ∙ rw (sym (c .before .strips-empty .ensures) ∙ not-true _ (c .if4 .taken))))
+    (tie.spec Inv-loop μ-loop (λ c. (omega arith, omega arith, rw sub-zero)) (λ c. search needs) (λ c. search needs) (λ c. search needs) (λ c. search needs)
+    (λ c. search needs) (λ c κs. search needs) returns (λ c. search needs) (λ c. search needs) (λ c κs. search needs)
+    (λ c. omega (arith, few (c .before .before), c .count .ensures)) (λ c. omega arith) (λ c. omega arith) loop-again returns-2 (λ c κs. search needs) returns-3
+    (λ c κs. search needs) (λ c. sym (ends-in (c .before .before) ∙ rw (sym (c .before .strips-empty .ensures) ∙ not-true _ (c .if4 .taken))))
     (λ c κs. (omega arith, omega arith, sym (c .before .strips-empty .ensures) ∙ not-false _ (c .if4 .left))) returns-5)

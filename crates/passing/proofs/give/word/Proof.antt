@@ -8,10 +8,8 @@ use Rattle.passing.proofs.Parts.{two-parts}
 use Rattle.passing.proofs.give.word.Statement.{statement}
 use Rattle.passing.proofs.give.word.Tie as tie
 
-returns : tie.Need-returns
-returns c =
-    let x = c .args in
-    stored-all (x .part .now) (x .n % 256 ∷ x .n / 256 ∷ []) (c .pre) ∙ two-parts (x .n) (c .fits .n .fits)
-
 pub word-spec : {M : Type 1} → statement M
-word-spec = tie.close (tie.spec (λ c. search needs) (λ c. search needs) (λ c. search needs) (λ c. search needs) (λ c. search needs) returns)
+word-spec =
+    tie.close
+    (tie.spec (λ c. search needs) (λ c. search needs) (λ c. search needs) (λ c. search needs) (λ c. search needs)
+    (λ c. let x = c .args in stored-all (x .part .now) (x .n % 256 ∷ x .n / 256 ∷ []) (c .pre) ∙ two-parts (x .n) (c .fits .n .fits)))

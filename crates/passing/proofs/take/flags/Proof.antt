@@ -9,12 +9,10 @@ use Rattle.passing.proofs.Littles.{five}
 use Rattle.passing.proofs.take.flags.Statement.{statement}
 use Rattle.passing.proofs.take.flags.Tie as tie
 
-returns : tie.Need-returns
-unfolding truth
-returns c = ap (λ (l : List ℕ). map truth l) (sym (five 0 (c .before .before .before .before .before .args .bytes .now) 11 (omega arith)))
-
 pub flags-spec : {M : Type 1} → statement M
+unfolding truth
 flags-spec =
     tie.close
-    (tie.spec (λ c. search needs) (λ c. search needs) (λ c. search needs) (λ c. search needs) (λ c. search needs) (λ c. search needs)
-    (λ c. search needs) (λ c. search needs) (λ c. search needs) returns)
+    (tie.spec (λ c. search needs) (λ c. search needs) (λ c. search needs) (λ c. search needs) (λ c. search needs) (λ c. search needs) (λ c. search needs)
+    (λ c. search needs) (λ c. search needs)
+    (λ c. ap (λ (l : List ℕ). map truth l) (sym (five 0 (c .before .before .before .before .before .args .bytes .now) 11 (omega arith)))))

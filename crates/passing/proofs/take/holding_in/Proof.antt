@@ -16,13 +16,9 @@ said-requires c κs =
     let fine : passes bs ≡ true = sym (c .before .passes .ensures) ∙ c .if1 .taken in
     leb-true size (length bs) (and-eq-true-iff (leb size (length bs)) _ .0 fine .0)
 
-returns : tie.Need-returns
-unfolding holdingIn
-returns c = rw (sym (c .before .before .passes .ensures) ∙ c .before .if1 .taken) (c .said .ensures)
-
-returns-2 : tie.Need-returns-2
-unfolding holdingIn
-returns-2 c = rw (sym (c .before .before .passes .ensures) ∙ c .before .if1 .left) (c .stray .ensures)
-
 pub holding-in-spec : {M : Type 1} → statement M
-holding-in-spec = tie.close (tie.spec (λ c κs. search needs) said-requires returns (λ c κs. search needs) returns-2)
+unfolding holdingIn
+holding-in-spec =
+    tie.close
+    (tie.spec (λ c κs. search needs) said-requires (λ c. rw (sym (c .before .before .passes .ensures) ∙ c .before .if1 .taken) (c .said .ensures))
+    (λ c κs. search needs) (λ c. rw (sym (c .before .before .passes .ensures) ∙ c .before .if1 .left) (c .stray .ensures)))

@@ -18,10 +18,6 @@ Inv-loop bytes strips₀ i₀ strips i = (i ≤ 64) × (length strips ≡ 64) ×
 abbrev μ-loop : tie.MeasureT-loop
 μ-loop bytes strips₀ i₀ strips i = 64 - i
 
-loop-holds : tie.Need-loop-holds Inv-loop μ-loop
-unfolding littles
-loop-holds c = (omega arith, refl, refl)
-
 loop-again : tie.Need-loop-again Inv-loop μ-loop
 loop-again c =
     let bs : List ℕ = c .before .before .before .before .args .bytes .now in
@@ -44,7 +40,8 @@ returns c =
     sym (take-all 64 strips (omega arith)) ∙ ap (λ (k : ℕ). take k strips) (sym whole) ∙ inv .2 ∙ ap (λ (k : ℕ). littles 2 k (drop 66 bs)) whole
 
 pub strips-spec : {M : Type 1} → statement M
+unfolding littles
 strips-spec =
     tie.close
-    (tie.spec Inv-loop μ-loop loop-holds (λ c. search needs) (λ c. search needs) (λ c κs. search needs) (λ c. search needs) (λ c. omega arith)
+    (tie.spec Inv-loop μ-loop (λ c. (omega arith, refl, refl)) (λ c. search needs) (λ c. search needs) (λ c κs. search needs) (λ c. search needs) (λ c. omega arith)
     (λ c. search needs) (λ c. search needs) loop-again returns)

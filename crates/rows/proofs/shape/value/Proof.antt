@@ -41,10 +41,8 @@ cast-result-2 c = let l = limits (c .before .before .before) in record { sfits =
 sub-result : tie.Need-sub-result
 sub-result c = let s = c .before .before .before in rw (difference s) (small s)
 
-returns : tie.Need-returns
-returns c =
-    let s = c .before .before .before in
-    rw (difference s, toZ-ofZ (small s)) (value-computed (s .args .c) (s .args .x) (s .pre .1))
-
 pub value-spec : {M : Type 1} → statement M
-value-spec = tie.close (tie.spec (λ c. search needs) add-y (λ c. search needs) cast-result cast-result-2 sub-result returns)
+value-spec =
+    tie.close
+    (tie.spec (λ c. search needs) add-y (λ c. search needs) cast-result cast-result-2 sub-result
+    (λ c. let s = c .before .before .before in rw (difference s, toZ-ofZ (small s)) (value-computed (s .args .c) (s .args .x) (s .pre .1))))
