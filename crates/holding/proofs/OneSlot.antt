@@ -20,7 +20,6 @@ use Rattle.format.specs.Masks.{System, placesFrom, pick, satellites, cells}
 use Rattle.format.specs.Messages.{named, idsOf}
 use Rattle.holding.specs.Building.{onesIn}
 use Rattle.holding.specs.Bounds.{narrow, every}
-use Rattle.format.specs.Messages.{named}
 use Rattle.holding.specs.Pictures.{stripsFrom, stripsOf, systemOf}
 use Rattle.holding.specs.Spread.{spread, within}
 use Rattle.holding.specs.Testing.{stripFits, stripsFit, masksFit, slotFits}
