@@ -22,25 +22,11 @@ module _ (c : tie.In-loop Inv-loop μ-loop) where
   small : spreadOf 16 (c .before .before .args .signals) (c .before .before .args .bits) < 2 ^ 16
   small = spread-lt 16 (c .before .before .args .signals) (c .before .before .args .bits)
 
-returns : tie.Need-returns Inv-loop μ-loop
-unfolding spreadOf
-returns c =
-    let none : c .before .loop .left ≡ 0 = omega arith in
-    let e = rw none at (c .before .loop .inv .1) in
-    omega (arith, e, spread-none (c .before .loop .more))
-
 pub spread-strip-spec : {M : Type 1} → statement M
+unfolding spreadOf
 spread-strip-spec =
     tie.close
-    (tie.spec
-    Inv-loop
-    μ-loop
-    (λ c. (omega arith, omega arith))
-    (λ c. omega arith)
-    (λ c. omega (arith, step c .less))
-    (λ c. omega (arith, step c .strip, small c))
-    (λ c. omega (arith, step c .strip, small c))
-    (λ c. step c .less)
-    (λ c. (omega (arith, step c .less), omega (arith, step c .strip)))
+    (tie.spec Inv-loop μ-loop (λ c. (omega arith, omega arith)) (λ c. omega arith) (λ c. omega (arith, step c .less)) (λ c. omega (arith, step c .strip, small c))
+    (λ c. omega (arith, step c .strip, small c)) (λ c. step c .less) (λ c. (omega (arith, step c .less), omega (arith, step c .strip)))
     (λ c. omega (arith, spread-lt 16 (c .before .before .args .signals) (c .before .before .args .bits)))
-    returns)
+    (λ c. let none : c .before .loop .left ≡ 0 = omega arith in let e = rw none at (c .before .loop .inv .1) in omega (arith, e, spread-none (c .before .loop .more))))

@@ -54,17 +54,12 @@ module _ (c : tie.After-named-in) where
   unfolding known
   is-known = le-leb (id p) 4 (omega (arith, c .before .if1 .left))
 
-returns-3 : tie.Need-returns-3
-unfolding endNamed systemId
-returns-3 c =
-    let took = c .before .before .before in
-    λ bs opens. sym (number-short (opens .within) 4 (first-taken opens 4 (took .taken .ensures) (c .before .taken2 .given .1)) _)
-
 pub read-id-spec : {M : Type 1} → statement M
-unfolding endNamed known
+unfolding endNamed known systemId
 read-id-spec =
     tie.close
     (tie.spec (λ c κs. (c .before .pre .1, omega arith, omega (arith, c .before .pre .1 .opens .within))) (λ c. search needs) (λ c. search needs)
     (λ c. omega (arith, low c)) (λ c. search needs) (λ c. λ bs opens. sym (ends (c .before) opens ∙ rw (lt-leb (id (c .before)) 4 (c .if1 .taken))))
-    (λ c κs. search needs) (λ c. λ bs opens. sym (ends (p (c .before)) opens ∙ rw (is-known (c .before), is-named (c .before) ∙ c .if2 .taken))) returns-3
+    (λ c κs. search needs) (λ c. λ bs opens. sym (ends (p (c .before)) opens ∙ rw (is-known (c .before), is-named (c .before) ∙ c .if2 .taken)))
+    (λ c. let took = c .before .before .before in λ bs opens. sym (number-short (opens .within) 4 (first-taken opens 4 (took .taken .ensures) (c .before .taken2 .given .1)) _))
     (λ c. λ bs opens. sym (ends (p (c .before)) opens ∙ rw (is-known (c .before), is-named (c .before) ∙ c .if2 .left))))

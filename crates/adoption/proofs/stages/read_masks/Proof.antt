@@ -57,12 +57,6 @@ module _ (c : tie.After-count) where
   on : assigned satellitePlaces (s p .args .id) (spell 40 (sats p)) ≡ true
   on = sym (c .before .before .satellites-assigned .ensures) ∙ not-false _ (c .before .if1 .left)
 
-returns-2 : tie.Need-returns-2
-unfolding endMasked FitsMasked
-returns-2 c =
-    let at = p (c .before) in
-    (sym (ends at ∙ rw (on (c .before), lt-leb (s at .args .n + ones (sats at)) 64 (omega (arith, c .before .count .ensures, c .if2 .taken)))), tt)
-
 returns-3 : tie.Need-returns-3
 unfolding endMasked FitsMasked systemMasks
 returns-3 c =
@@ -94,5 +88,7 @@ read-masks-spec =
     tie.close
     (tie.spec (λ c κs. (record { bytes = _; opens = c .before .pre .3 }, omega arith, c .before .pre .2 .room)) (λ c. search needs) (λ c. search needs)
     (λ c κs. (search needs, low c)) (λ c. (sym (ends (c .before .before) ∙ rw (sym (c .before .satellites-assigned .ensures) ∙ not-true _ (c .if1 .taken))), tt))
-    (λ c κs. search needs) (λ c. omega (arith, few c)) returns-2 (λ c. search needs) (λ c. omega (arith, after (p (c .before .before)))) (λ c κs. search needs)
+    (λ c κs. search needs) (λ c. omega (arith, few c))
+    (λ c. let at = p (c .before) in (sym (ends at ∙ rw (on (c .before), lt-leb (s at .args .n + ones (sats at)) 64 (omega (arith, c .before .count .ensures, c .if2 .taken)))), tt))
+    (λ c. search needs) (λ c. omega (arith, after (p (c .before .before)))) (λ c κs. search needs)
     (λ c κs. (search needs, low (k c), record { bytes = _; opens = opens c })) returns-3 returns-4)

@@ -16,12 +16,10 @@ negative c = below-zero (c .before .args .z) (rw (toZ-ofZ (c .before .fits .z)) 
 plain : (c : tie.Else1) → T (nonNeg (c .before .args .z)) × (natAbs (c .before .args .z) ≡ mag (c .before .args .z))
 plain c = from-zero (c .before .args .z) (rw (toZ-ofZ (c .before .fits .z)) at (c .if1 .left))
 
-sub-result : tie.Need-sub-result
-sub-result c = rw (toZ-ofZ (c .before .fits .z), negative c) (record { sfits = c .before .fits .z .sfits })
-
 pub magnitude-spec : {M : Type 1} → statement M
 magnitude-spec =
     tie.close
-    (tie.spec sub-result (λ c. rw (toZ-ofZ (c .before .fits .z), negative c, toZ-pos w32 (c .before .fits .z .sfits)) (tt, omega (arith, c .before .fits .z .sfits)))
+    (tie.spec (λ c. rw (toZ-ofZ (c .before .fits .z), negative c) (record { sfits = c .before .fits .z .sfits }))
+    (λ c. rw (toZ-ofZ (c .before .fits .z), negative c, toZ-pos w32 (c .before .fits .z .sfits)) (tt, omega (arith, c .before .fits .z .sfits)))
     (λ c. rw (toZ-ofZ (c .before .fits .z), plain c .1) (plain c .0, omega (arith, c .before .fits .z .sfits)))
     (λ c. rw (toZ-ofZ (c .before .fits .z), negative c, toZ-pos w32 (c .before .fits .z .sfits))) (λ c. rw (toZ-ofZ (c .before .fits .z)) (plain c .1)))

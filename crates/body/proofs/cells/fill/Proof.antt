@@ -77,9 +77,6 @@ slot-requires c κs =
     let asked = start p .pre .2 in
     (covered p, record { formed = asked .formed; kind = asked .kind; room = slot-call (marks p) (here p) (behind p _) (both p _ refl) (few p) (p .before .before .before .loop .inv .1) .room })
 
-add-n : tie.Need-add-n Inv-loop μ-loop
-add-n c = let p = c .before .before .before .before .before .before in omega (arith, all p, c .count .ensures, p .before .before .before .loop .inv .0)
-
 add-k : tie.Need-add-k Inv-loop μ-loop
 add-k c =
     let p = c .before .before .before .before .before .before .before in
@@ -103,6 +100,7 @@ pub fill-spec : {M : Type 1} → statement M
 fill-spec =
     tie.close
     (tie.spec Inv-loop μ-loop (λ c. let s = c .before .before .before .before .before in (omega (arith, s .pre .1), going-start (s .pre .2 .room)))
-    (λ c. search needs) (λ c. search needs) (λ c. search needs) (λ c. search needs) (λ c. search needs) (λ c. search needs) (λ c. search needs)
-    (λ c. search needs) (λ c. search needs) (λ c. search needs) (λ c. search needs) slot-requires (λ c κs. search needs) add-n add-k
+    (λ c. search needs) (λ c. search needs) (λ c. search needs) (λ c. search needs) (λ c. search needs) (λ c. search needs) (λ c. search needs) (λ c. search needs)
+    (λ c. search needs) (λ c. search needs) (λ c. search needs) slot-requires (λ c κs. search needs)
+    (λ c. let p = c .before .before .before .before .before .before in omega (arith, all p, c .count .ensures, p .before .before .before .loop .inv .0)) add-k
     (λ c. omega arith) (λ c. omega arith) loop-again (λ c. c .before .loop .inv .1 .same) returns)

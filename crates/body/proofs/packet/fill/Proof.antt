@@ -64,12 +64,6 @@ module _ (c : tie.In-loop Inv-loop μ-loop) where
   wide : c .before .before .width .result ≡ shapeWidth packetShape
   wide = c .before .before .width .ensures ∙ ap shapeWidth columns
 
-wide-requires : tie.Need-wide-requires Inv-loop μ-loop
-wide-requires c κs =
-    let p = c .before in
-    let w = row p in
-    (w .part, omega (arith, w .near), made-formed 0 7 (p .before .before .before .packet .ensures), omega (arith, w .whole))
-
 loop-again : tie.Need-loop-again Inv-loop μ-loop
 loop-again c =
     let p = c .before .before .before in
@@ -89,6 +83,7 @@ fill-spec =
     tie.close
     (tie.spec Inv-loop μ-loop (λ c κs. search needs) (λ c κs. made-formed 0 7 (c .packet .ensures))
     (λ c. (omega arith, refl, rw sub-zero (going-start (c .before .before .before .pre)))) (λ c. omega arith) (λ c. omega (arith, row c .room))
-    (λ c. record { sfits = omega (arith, few c) }) (λ c. omega (arith, row c .room)) (λ c. omega arith) (λ c. search needs) (λ c. row c .room) wide-requires
+    (λ c. record { sfits = omega (arith, few c) }) (λ c. omega (arith, row c .room)) (λ c. omega arith) (λ c. search needs) (λ c. row c .room)
+    (λ c κs. let p = c .before in let w = row p in (w .part, omega (arith, w .near), made-formed 0 7 (p .before .before .before .packet .ensures), omega (arith, w .whole)))
     (λ c. let p = c .before .before .before in omega (arith, row p .near, wide p)) (λ c. omega (arith, c .before .before .before .loop-test .taken)) loop-again
     (λ c. c .before .loop .inv .2 .same) returns)

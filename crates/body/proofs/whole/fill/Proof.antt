@@ -72,16 +72,11 @@ returns-2 c =
     let known = k .keys2 .given in
     (rw (w .wanted2 .ensures) at (c .before .fill2 .ensures)) ∙ ap (Rows s) (by-cells (view s) (known .0 .0) (body s .shape)) ∙ whole s (known .1)
 
-returns-3 : tie.Need-returns-3
-unfolding linesOver
-returns-3 c =
-    let k = c .before .before .before .before in
-    c .before .fill3 .ensures ∙ whole (k .before .before .before .before .before .before .before) (k .keys3 .given .1)
-
 pub fill-spec : {M : Type 1} → statement M
 unfolding linesOver
 fill-spec =
     tie.close
     (tie.spec (λ c. search needs) (λ c κs. search needs) fill-requires (λ c. search needs) (λ c κs. search needs) fill-requires-2 (λ c. search needs)
     (λ c κs. let k = c .before .before in room (k .before .before .before .before .before .before .before) (k .keys3 .given .1)) (λ c. search needs) returns
-    (λ c. search needs) returns-2 (λ c. search needs) returns-3)
+    (λ c. search needs) returns-2 (λ c. search needs)
+    (λ c. let k = c .before .before .before .before in c .before .fill3 .ensures ∙ whole (k .before .before .before .before .before .before .before) (k .keys3 .given .1)))

@@ -62,9 +62,6 @@ module _ (c : tie.After-head) where
   fits : Laid (shapeFor (start .args .under .layout .shape + start .args .flags / 2))
   fits = laid _ (omega (arith, start .pre .2, start .pre .3))
 
-selection-requires : tie.Need-selection-requires
-selection-requires c κs = let p = start (c .before) .pre in (p .1, fits (c .before), p .5, p .6)
-
 returns : tie.Need-returns
 unfolding skyIn
 returns c =
@@ -89,4 +86,7 @@ returns-2 c =
     )
 
 pub by-flags-spec : {M : Type 1} → statement M
-by-flags-spec = tie.close (tie.spec (λ c. search needs) (λ c. search needs) (λ c. search needs) (λ c κs. search needs) selection-requires returns (λ c. search needs) returns-2)
+by-flags-spec =
+    tie.close
+    (tie.spec (λ c. search needs) (λ c. search needs) (λ c. search needs) (λ c κs. search needs)
+    (λ c κs. let p = start (c .before) .pre in (p .1, fits (c .before), p .5, p .6)) returns (λ c. search needs) returns-2)

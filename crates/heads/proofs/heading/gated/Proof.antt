@@ -51,11 +51,6 @@ returns-2 c =
     let x = c .before .before .before .before .before .before .args in
     (λ v shows. rw (not-false (x .under .held) (c .before .before .before .if1 .left), ne-eqb (x .h .iod) (x .under .iod) (c .if2 .taken)), tt)
 
-flagged-requires : tie.Need-flagged-requires
-flagged-requires c κs =
-    let s = c .before .before .before .before .before .before .before in
-    (s .pre .0, s .pre .1, s .pre .2 .with-flags (c .if3 .taken) .1, s .pre .3, s .pre .4, s .pre .5)
-
 returns-3 : tie.Need-returns-3
 unfolding programBy
 returns-3 c =
@@ -88,5 +83,6 @@ pub gated-spec : {M : Type 1} → statement M
 unfolding gatedBy gateBy _>>_ _>>=_ saidBy FitsHeading endFrom run later
 gated-spec =
     tie.close
-    (tie.spec (λ c. let x = c .before .before .before .args in (λ v shows. rw (not-true (x .under .held) (c .if1 .taken)), tt))
-    (λ c. search needs) returns-2 flagged-requires returns-3 (λ c κs. search needs) (λ c κs. search needs) (λ c. search needs) returns-4)
+    (tie.spec (λ c. let x = c .before .before .before .args in (λ v shows. rw (not-true (x .under .held) (c .if1 .taken)), tt)) (λ c. search needs) returns-2
+    (λ c κs. let s = c .before .before .before .before .before .before .before in (s .pre .0, s .pre .1, s .pre .2 .with-flags (c .if3 .taken) .1, s .pre .3, s .pre .4, s .pre .5))
+    returns-3 (λ c κs. search needs) (λ c κs. search needs) (λ c. search needs) returns-4)

@@ -19,9 +19,6 @@ module _ (c : tie.After-known-told) where
   whole : Read (s .pre .3) 12 (c .before .common2 .given .0 .0)
   whole = common-whole (s .pre .3) 12 (omega arith) (sym (c .before .before .before .common .ensures _ (s .pre .4)) ∙ c .before .common2 .given .1)
 
-common-requires : tie.Need-common-requires
-common-requires c κs = let p = c .before .pre in (record { bytes = _; opens = p .4 }, p .3 .room)
-
 returns : tie.Need-returns
 unfolding underBy
 returns c =
@@ -42,5 +39,5 @@ returns-2 c =
 pub masked-spec : {M : Type 1} → statement M
 masked-spec =
     tie.close
-    (tie.spec common-requires (λ c. search needs)
+    (tie.spec (λ c κs. let p = c .before .pre in (record { bytes = _; opens = p .4 }, p .3 .room)) (λ c. search needs)
     (λ c κs. let p = s c .pre in (p .0, p .1, p .2, whole c .small, onward (p .3) (omega (arith, whole c .after)), p .4)) (λ c. search needs) returns returns-2)

@@ -8,13 +8,6 @@ use Rattle.holding.proofs.Sounds.{Shaped}
 use Rattle.holding.proofs.Holding.is_sound.Statement.{statement}
 use Rattle.holding.proofs.Holding.is_sound.Tie as tie
 
-returns : tie.Need-returns
-unfolding tested
-returns c =
-    let h = c .before .before .args .self in
-    let issue = sym (c .before .issue-fits .ensures) ∙ not-true _ (c .if1 .taken) in
-    sym (not-tested h (rw issue))
-
 returns-2 : tie.Need-returns-2
 unfolding tested
 returns-2 c =
@@ -45,7 +38,9 @@ returns-3 c =
     c .slots-fit .ensures ∙ (rw (issue, le-leb (h .count) 5 (after .if2 .left)) at (tested-is-sound h shaped))
 
 pub is-sound-spec : {M : Type 1} → statement M
+unfolding tested
 is-sound-spec =
     tie.close
-    (tie.spec (λ c κs. search needs) returns returns-2 (λ c. search needs) (λ c. search needs) (λ c. search needs) (λ c. search needs)
-    (λ c. search needs) (λ c κs. search needs) returns-3)
+    (tie.spec (λ c κs. search needs)
+    (λ c. let h = c .before .before .args .self in let issue = sym (c .before .issue-fits .ensures) ∙ not-true _ (c .if1 .taken) in sym (not-tested h (rw issue)))
+    returns-2 (λ c. search needs) (λ c. search needs) (λ c. search needs) (λ c. search needs) (λ c. search needs) (λ c κs. search needs) returns-3)

@@ -12,10 +12,8 @@ use Rattle.holding.proofs.assigned.highest.Tie as tie
 row : (p : Places) {id : ℕ} (k : ℕ) → id ≡ k → getD (placesOf p) k 0 ≡ getD (placesOf p) id 0
 row p k e = ap (λ (n : ℕ). getD (placesOf p) n 0) (sym e)
 
-returns-5 : tie.Need-returns-5
-returns-5 c = row _ {id = c .before .args .id} 4 (omega (arith, c .match .rest, c .before .pre))
-
 pub highest-spec : {M : Type 1} → statement M
 highest-spec =
     tie.close
-    (tie.spec (λ c. row _ 0 (c .match .keys1)) (λ c. row _ 1 (c .match .keys2)) (λ c. row _ 2 (c .match .keys3)) (λ c. row _ 3 (c .match .keys4)) returns-5)
+    (tie.spec (λ c. row _ 0 (c .match .keys1)) (λ c. row _ 1 (c .match .keys2)) (λ c. row _ 2 (c .match .keys3)) (λ c. row _ 3 (c .match .keys4))
+    (λ c. row _ {id = c .before .args .id} 4 (omega (arith, c .match .rest, c .before .pre))))

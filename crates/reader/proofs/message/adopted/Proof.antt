@@ -15,14 +15,10 @@ returns c =
     let s = a .before .before in
     ap (λ (g : Holding). record { answer = a .adopt .result .answer; holding = g }) (c .adopt2 .ensures) ∙ adopted-new (s .args .holding) (s .pre .3) (s .args .place) _ (a .adopt .ensures) (c .before .before .match .keys1)
 
-returns-2 : tie.Need-returns-2
-unfolding endFrom
-returns-2 c =
-    let a = c .before .before in
-    let s = a .before .before in
-    adopted-not (s .args .holding) (s .pre .3) (s .args .place) _ (a .adopt .ensures) (c .match .keys2)
-
 pub adopted-spec : {M : Type 1} → statement M
+unfolding endFrom
 adopted-spec =
     tie.close
-    (tie.spec (λ c κs. let p = c .before .pre in record { inside = p .0; short = omega (arith, p .1); room = p .2 }) (λ c. search needs) (λ c κs. search needs) returns returns-2)
+    (tie.spec (λ c κs. let p = c .before .pre in record { inside = p .0; short = omega (arith, p .1); room = p .2 }) (λ c. search needs) (λ c κs. search needs)
+    returns
+    (λ c. let a = c .before .before in let s = a .before .before in adopted-not (s .args .holding) (s .pre .3) (s .args .place) _ (a .adopt .ensures) (c .match .keys2)))
