@@ -19,12 +19,6 @@ within c =
     let s = c .before .before .before in
     rw (s .pre .1) (sym (length-take-le _ _ (stripped (s .args .h) (s .pre .0))))
 
-count-requires : tie.Need-count-requires
-count-requires c κs =
-    let s = c .before .before .before in
-    let h = s .args .h in
-    rw (s .pre .1) (omega (arith, few h (s .pre .0), length-take-le (h .nsat) (h .strips) (stripped h (s .pre .0))))
-
 returns-2 : tie.Need-returns-2
 returns-2 c =
     let s = c .before .before .before .before in
@@ -33,4 +27,7 @@ returns-2 c =
 
 pub cells-chosen-spec : {M : Type 1} → statement M
 cells-chosen-spec =
-    tie.close (tie.spec (λ c. let s = c .before .before in every-cell (s .args .h) (s .pre .0) (s .args .chosen) (c .if1 .taken)) within count-requires returns-2)
+    tie.close
+    (tie.spec (λ c. let s = c .before .before in every-cell (s .args .h) (s .pre .0) (s .args .chosen) (c .if1 .taken)) within
+    (λ c κs. let s = c .before .before .before in let h = s .args .h in rw (s .pre .1) (omega (arith, few h (s .pre .0), length-take-le (h .nsat) (h .strips) (stripped h (s .pre .0)))))
+    returns-2)

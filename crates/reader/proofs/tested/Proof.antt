@@ -11,13 +11,6 @@ use Rattle.reader.proofs.Lents.{is-holding}
 use Rattle.reader.proofs.tested.Statement.{statement}
 use Rattle.reader.proofs.tested.Tie as tie
 
-returns-2 : tie.Need-returns-2
-unfolding testedBy lentTests verdict
-returns-2 c =
-    let x = c .before .before .before .before .args in
-    let out = sym (c .before .is-placed .ensures) ∙ not-true _ (c .if2 .taken) in
-    rw (le-leb 2048 (x .room) (omega arith), out) refl
-
 returns-3 : tie.Need-returns-3
 unfolding testedBy lentTests verdict
 returns-3 c =
@@ -38,5 +31,6 @@ pub tested-spec : {M : Type 1} → statement M
 unfolding testedBy lentTests verdict
 tested-spec =
     tie.close
-    (tie.spec (λ c. rw (lt-leb 2048 (c .before .before .args .room) (c .if1 .taken)) refl) (λ c κs. search needs) returns-2 (λ c κs. search needs) returns-3
-    returns-4)
+    (tie.spec (λ c. rw (lt-leb 2048 (c .before .before .args .room) (c .if1 .taken)) refl) (λ c κs. search needs)
+    (λ c. let x = c .before .before .before .before .args in let out = sym (c .before .is-placed .ensures) ∙ not-true _ (c .if2 .taken) in rw (le-leb 2048 (x .room) (omega arith), out) refl)
+    (λ c κs. search needs) returns-3 returns-4)

@@ -57,12 +57,6 @@ module _ (c : tie.After-count) where
   on : assigned satellitePlaces (s p .args .id) (spell 40 (sats p)) ≡ true
   on = sym (c .before .before .satellites-assigned .ensures) ∙ not-false _ (c .before .if1 .left)
 
-returns-3 : tie.Need-returns-3
-unfolding endMasked FitsMasked systemMasks
-returns-3 c =
-    let took = c .before .before .before in
-    (sym (bits-short (took .before .before .pre .2) 40 (sym (took .taken .ensures _ (took .before .before .pre .3)) ∙ c .before .taken2 .given .1) _), tt)
-
 -- the front of the signal mask
 module _ (c : tie.After-front-at) where
   abbrev k : tie.After-known-told2
@@ -83,7 +77,7 @@ returns-4 c =
     (read .0 (x .bytes .now) (opens (c .before)) ∙ same ∙ sym (ends at ∙ rw (on count, fit)), subst (λ (g : Front). FitsMasked (x .bytes .now) (g .end) (c .read-signals .result)) front (read .1 (x .bytes .now) (opens (c .before))))
 
 pub read-masks-spec : {M : Type 1} → statement M
-unfolding endMasked FitsMasked
+unfolding endMasked FitsMasked systemMasks
 read-masks-spec =
     tie.close
     (tie.spec (λ c κs. (record { bytes = _; opens = c .before .pre .3 }, omega arith, c .before .pre .2 .room)) (λ c. search needs) (λ c. search needs)
@@ -91,4 +85,6 @@ read-masks-spec =
     (λ c κs. search needs) (λ c. omega (arith, few c))
     (λ c. let at = p (c .before) in (sym (ends at ∙ rw (on (c .before), lt-leb (s at .args .n + ones (sats at)) 64 (omega (arith, c .before .count .ensures, c .if2 .taken)))), tt))
     (λ c. search needs) (λ c. omega (arith, after (p (c .before .before)))) (λ c κs. search needs)
-    (λ c κs. (search needs, low (k c), record { bytes = _; opens = opens c })) returns-3 returns-4)
+    (λ c κs. (search needs, low (k c), record { bytes = _; opens = opens c }))
+    (λ c. let took = c .before .before .before in (sym (bits-short (took .before .before .pre .2) 40 (sym (took .taken .ensures _ (took .before .before .pre .3)) ∙ c .before .taken2 .given .1) _), tt))
+    returns-4)

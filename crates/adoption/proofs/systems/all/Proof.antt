@@ -40,11 +40,6 @@ module _ (c : tie.After-read-system Inv-loop μ-loop) where
       let e : l .before .before .args .n - l .loop .h .count ≡ suc more = omega arith in
       rw e at (l .loop .inv)
 
-returns : tie.Need-returns Inv-loop μ-loop
-returns c =
-    let p = c .before .before .before .before in
-    c .refused .ensures ∙ sym (one-refused (stands p) (p .read-system .result) (p .read-system .ensures .0) (c .before .before .r .given .1))
-
 -- where it is read up to its cells
 module _ (c : tie.After-known-told2 Inv-loop μ-loop) where
   abbrev read : tie.After-read-system Inv-loop μ-loop
@@ -106,7 +101,8 @@ all-spec =
     (tie.spec Inv-loop μ-loop
     (λ c. rw sub-zero (none-yet (c .before .args .numbers) (c .before .args .iod) (c .before .args .n) (c .before .pre .0) (c .before .pre .1)))
     (λ c κs. let l = c .before .before .before .before .loop .inv in (ids-named l .0, l .held .few-satellites, l .there)) (λ c. search needs) (λ c κs. search needs)
-    returns (λ c. search needs)
+    (λ c. let p = c .before .before .before .before in c .refused .ensures ∙ sym (one-refused (stands p) (p .read-system .result) (p .read-system .ensures .0) (c .before .before .r .given .1)))
+    (λ c. search needs)
     (λ c κs. (fits (c .before) .1, fits (c .before) .0, omega (arith, next (c .before)), omega (arith, next (c .before)), strips-left (stands (read (c .before)))))
     (λ c. omega (arith, c .strips .ensures .0 .1, l (read (q c)) .loop .inv .held .few-cells)) (λ c κs. search needs) returns-2 (λ c κs. search needs)
     (λ c. omega (arith, c .count .ensures, fits (p (c .before)) .1)) (λ c. few (c .before)) (λ c. omega (arith, few (c .before))) (λ c. few (c .before))

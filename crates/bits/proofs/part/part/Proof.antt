@@ -26,14 +26,9 @@ within c =
     let s = c .before .before .before in
     rw (c .before .begins .ensures, c .counts .ensures) (ends-within (s .args .from) (s .args .to) _ (s .pre))
 
-returns : tie.Need-returns
-unfolding partOf
-returns c =
-    let k = c .before in
-    record { bytes = rw (add-sub-cancel-left, k .before .begins .ensures, k .counts .ensures); memory = refl; offset = omega (arith, k .before .begins .ensures) }
-
 pub part-spec : {M : Type 1} → statement M
+unfolding partOf
 part-spec =
     tie.close
     (tie.spec (λ c κs. search needs) (λ c κs. search needs) (λ c. omega (arith, within c)) (λ c. search needs) (λ c. search needs) (λ c. omega (arith, within c))
-    returns)
+    (λ c. let k = c .before in record { bytes = rw (add-sub-cancel-left, k .before .begins .ensures, k .counts .ensures); memory = refl; offset = omega (arith, k .before .begins .ensures) }))

@@ -8,12 +8,6 @@ use Rattle.bits.proofs.Short.{widths-sum}
 use Rattle.bits.proofs.read.short_by.Statement.{statement}
 use Rattle.bits.proofs.read.short_by.Tie as tie
 
-returns-2 : tie.Need-returns-2
-unfolding shortBy widthsOf
-returns-2 c =
-    let x = c .before .before .before .before .before .before .args in
-    rw (le-ltb (x .left) (x .w .first) (omega arith), lt-ltb (x .left - x .w .first) (x .w .second) (omega arith))
-
 returns-3 : tie.Need-returns-3
 unfolding shortBy widthsOf
 returns-3 c =
@@ -38,6 +32,7 @@ pub short-by-spec : {M : Type 1} → statement M
 unfolding shortBy widthsOf
 short-by-spec =
     tie.close
-    (tie.spec (λ c. search needs) (λ c. let x = c .before .before .before .args in rw (lt-ltb (x .left) (x .w .first) (omega arith))) (λ c. search needs) returns-2
+    (tie.spec (λ c. search needs) (λ c. let x = c .before .before .before .args in rw (lt-ltb (x .left) (x .w .first) (omega arith))) (λ c. search needs)
+    (λ c. let x = c .before .before .before .before .before .before .args in rw (le-ltb (x .left) (x .w .first) (omega arith), lt-ltb (x .left - x .w .first) (x .w .second) (omega arith)))
     (λ c. search needs) returns-3 (λ c. omega (arith, widths-sum (c .before .before .before .before .before .before .before .before .before .before .args .w)))
     returns-4)

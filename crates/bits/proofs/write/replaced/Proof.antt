@@ -29,12 +29,10 @@ module _ (c : tie.After-cut) where
   new-exact : n * 2 ^ t % 2 ^ 64 ≡ n * 2 ^ t
   new-exact = shl-exact w t 64 (c .before .pre .2) (omega arith)
 
-add-result : tie.Need-add-result
-add-result c =
-    record { fits = rw (old-exact c, new-exact c) (replaced-lt (y c) (c .before .args .skip) (w c) (t c) (n c) (omega arith) (c .before .fits .window .fits) (c .before .pre .2)) }
-
 pub replaced-spec : {M : Type 1} → statement M
 replaced-spec =
     tie.close
     (tie.spec (λ c. search needs) (λ c. search needs) (λ c κs. search needs) (λ c. search needs) (λ c. rw (old-exact c) (field-le (y c) (w c) (t c)))
-    (λ c. search needs) add-result (λ c. rw (old-exact c, new-exact c)))
+    (λ c. search needs)
+    (λ c. record { fits = rw (old-exact c, new-exact c) (replaced-lt (y c) (c .before .args .skip) (w c) (t c) (n c) (omega arith) (c .before .fits .window .fits) (c .before .pre .2)) })
+    (λ c. rw (old-exact c, new-exact c)))

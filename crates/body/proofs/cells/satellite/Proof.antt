@@ -74,13 +74,8 @@ loop-again c =
     let new = c .before .before .cell .ensures ∙ keyed _ system number signal ∙ ap (λ (cs : List Column). pos id ∷ pos (x .args .sat .number) ∷ pos (leadingZeros 64 (left f)) ∷ valuesAt cs (x .args .bytes .now) (f .before .before .loop .place)) (same f) in
     (omega (arith, fewer f (r .result) (r .ensures) .fewer), row f (r .result) (r .ensures) .written _ _ (wide f) new)
 
-returns : tie.Need-returns Inv-loop μ-loop
-unfolding cellLines
-returns c =
-    let x = c .before .before .before .before .before .before .args in
-    going-end (ap (cellLines (columnsIn (x .s))) (none-of (satelliteOf (x .sat)) (omega arith))) (c .before .loop .inv .1)
-
 pub satellite-spec : {M : Type 1} → statement M
+unfolding cellLines
 satellite-spec =
     tie.close
     (tie.spec Inv-loop μ-loop (λ c. search needs) (λ c. record { sfits = c .before .before .before .pre .0 }) (λ c κs. c .before .before .before .pre .1)
@@ -89,4 +84,5 @@ satellite-spec =
     (λ c. omega (arith, row c _ refl .room)) (λ c. omega arith) (λ c. search needs) (λ c. row c _ refl .room)
     (λ c κs. let f = c .before in let w = row f _ refl in (w .part, omega (arith, w .near), start f .pre .1, start f .pre .2, omega (arith, w .whole)))
     (λ c κs. search needs) (λ c. let f = c .before .before .before .before in omega (arith, row f _ refl .near, wide f))
-    (λ c. fewer (c .before .before .before .before) (c .rest .result) (c .rest .ensures) .fewer) loop-again (λ c. c .before .loop .inv .1 .same) returns)
+    (λ c. fewer (c .before .before .before .before) (c .rest .result) (c .rest .ensures) .fewer) loop-again (λ c. c .before .loop .inv .1 .same)
+    (λ c. let x = c .before .before .before .before .before .before .args in going-end (ap (cellLines (columnsIn (x .s))) (none-of (satelliteOf (x .sat)) (omega arith))) (c .before .loop .inv .1)))

@@ -84,12 +84,6 @@ call c rest e =
 start : (c : tie.After-shared-slice-known3 Inv-loop μ-loop) → let s = c .before .before .before .before .loop in s .k ≤ length (s .rows)
 start c = call (c .before) _ refl .start
 
-satellite-requires : tie.Need-satellite-requires Inv-loop μ-loop
-satellite-requires c κs =
-    let f = c .before .before in
-    let r = f .before .before in
-    (omega (arith, fewer r _ refl .inside, f .first .ensures), x r .pre .1 .formed, x r .pre .1 .kind, call f _ refl .room)
-
 loop-again : tie.Need-loop-again Inv-loop μ-loop
 loop-again c =
     let r = c .before .before in
@@ -114,7 +108,8 @@ slot-spec =
     (tie.spec Inv-loop μ-loop (λ c. let s = c .before .before .before in (omega arith, omega (arith, s .pre .0), walk-start (omega arith) (s .pre .1 .room)))
     (λ c κs. search needs) (λ c. omega (arith, fewer (c .before .before) _ refl .inside, c .first .ensures)) (λ c. omega (arith, inside (c .before .before)))
     (λ c. omega (arith, inside (c .before .before .before))) (λ c. omega (arith, c .shared-slice-known3 .given (n (c .before .before .before))))
-    (λ c. omega (arith, start c)) start start (λ c. search needs) satellite-requires
+    (λ c. omega (arith, start c)) start start (λ c. search needs)
+    (λ c κs. let f = c .before .before in let r = f .before .before in (omega (arith, fewer r _ refl .inside, f .first .ensures), x r .pre .1 .formed, x r .pre .1 .kind, call f _ refl .room))
     (λ c. let g = call (c .before .before .before .before .before) _ refl .written _ _ (c .before .before .satellite .ensures) in omega (arith, g .count, g .few))
     (λ c κs. search needs) (λ c. omega (arith, inside (c .before .before))) (λ c. fewer (c .before .before) (c .rest .result) (c .rest .ensures) .fewer) loop-again
     (λ c. c .before .loop .inv .2 .going .same) returns)

@@ -71,14 +71,8 @@ loop-again c =
     let new = c .before .wide .ensures ∙ keyed _ refl refl number ∙ ap (λ (cs : List Column). absent ∷ absent ∷ pos (suc (i p)) ∷ valuesAt cs (start p .args .bytes .now) (p .before .loop .place)) (columns p) in
     (omega (arith, p .loop-test .taken), omega (arith, p .before .loop .inv .1), rw (add-one (i p)) (row p .written _ _ (wide p) new))
 
-returns : tie.Need-returns Inv-loop μ-loop
-unfolding packetLines
-returns c =
-    let s = c .before .loop in
-    let none : c .before .before .before .before .before .args .parts - s .i ≡ 0 = omega arith in
-    going-end (ap (packetLines (suc (s .i))) none) (s .inv .2) .numbers
-
 pub fill-spec : {M : Type 1} → statement M
+unfolding packetLines
 fill-spec =
     tie.close
     (tie.spec Inv-loop μ-loop (λ c κs. search needs) (λ c κs. made-formed 0 7 (c .packet .ensures))
@@ -86,4 +80,5 @@ fill-spec =
     (λ c. record { sfits = omega (arith, few c) }) (λ c. omega (arith, row c .room)) (λ c. omega arith) (λ c. search needs) (λ c. row c .room)
     (λ c κs. let p = c .before in let w = row p in (w .part, omega (arith, w .near), made-formed 0 7 (p .before .before .before .packet .ensures), omega (arith, w .whole)))
     (λ c. let p = c .before .before .before in omega (arith, row p .near, wide p)) (λ c. omega (arith, c .before .before .before .loop-test .taken)) loop-again
-    (λ c. c .before .loop .inv .2 .same) returns)
+    (λ c. c .before .loop .inv .2 .same)
+    (λ c. let s = c .before .loop in let none : c .before .before .before .before .before .args .parts - s .i ≡ 0 = omega arith in going-end (ap (packetLines (suc (s .i))) none) (s .inv .2) .numbers))

@@ -40,16 +40,11 @@ ended : (c : tie.After-loop Inv-loop μ-loop) → let x = c .before .before .bef
 ended c some =
     omega (arith, c .before .before .least .ensures, c .loop-test .left, c .before .before .before .if1 .left)
 
-returns-2 : tie.Need-returns-2 Inv-loop μ-loop
-returns-2 c =
-    let x = c .before .before .before .before .before .before .args in
-    let s = c .before .loop in
-    copied-all (x .bytes .now) (x .from) (s .rest) (s .i) 584 (ended c) (s .inv .2) (s .inv .3)
-
 pub copy-spec : {M : Type 1} → statement M
 copy-spec =
     tie.close
     (tie.spec Inv-loop μ-loop returns (λ c. omega arith) (λ c κs. search needs)
     (λ c. let zeros = begun _ (c .before .before .before .before .pre .0) in (omega arith, zeros .0, (λ j below. absurd (omega arith)), zeros .1)) (λ c. omega arith)
     (λ c. omega arith) (λ c. omega arith) (λ c. omega arith) (λ c. omega arith) loop-again
-    (λ c. c .before .loop .inv .1 ∙ sym (begun _ (c .before .before .before .before .before .before .pre .0) .0)) returns-2)
+    (λ c. c .before .loop .inv .1 ∙ sym (begun _ (c .before .before .before .before .before .before .pre .0) .0))
+    (λ c. let x = c .before .before .before .before .before .before .args in let s = c .before .loop in copied-all (x .bytes .now) (x .from) (s .rest) (s .i) 584 (ended c) (s .inv .2) (s .inv .3)))

@@ -14,14 +14,10 @@ add-result c =
           (chosen-fits (x .bytes .now) (x .place) (x .n) (omega arith));
     }
 
-returns-2 : tie.Need-returns-2
-returns-2 c =
-    let x = c .before .before .before .before .args in
-    rw (c .before .read-field2 .ensures, c .read-field3 .ensures) (chosen-twice (x .bytes .now) (x .place) (x .n) (omega arith) (omega arith))
-
 pub chosen-spec : {M : Type 1} → statement M
 chosen-spec =
     tie.close
     (tie.spec (λ c κs. search needs) (λ c. search needs) (λ c. search needs)
     (λ c. let x = c .before .before .before .args in rw (c .read-field .ensures) (chosen-once (x .bytes .now) (x .place) (x .n) (omega arith)))
-    (λ c κs. search needs) (λ c. search needs) (λ c. search needs) (λ c κs. search needs) (λ c. search needs) (λ c. search needs) add-result returns-2)
+    (λ c κs. search needs) (λ c. search needs) (λ c. search needs) (λ c κs. search needs) (λ c. search needs) (λ c. search needs) add-result
+    (λ c. let x = c .before .before .before .before .args in rw (c .before .read-field2 .ensures, c .read-field3 .ensures) (chosen-twice (x .bytes .now) (x .place) (x .n) (omega arith) (omega arith))))

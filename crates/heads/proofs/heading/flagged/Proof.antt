@@ -23,13 +23,6 @@ module _ (c : tie.After-known-told) where
   there : takenAt (s .args .bytes .now) (s .args .f .end) (s .args .f .start + 37) 3 ≡ Whole (c .before .taken2 .given .0 .0)
   there = sym (c .before .before .before .taken .ensures _ (s .pre .5)) ∙ c .before .taken2 .given .1
 
-short-by-requires : tie.Need-short-by-requires
-unfolding bitsOf widthsOf
-short-by-requires c κs =
-    let short = c .before .before in
-    let took = short .before .before in
-    field-short _ _ _ 3 _ (sym (took .taken .ensures _ (took .before .before .pre .5)) ∙ short .enum-told .given .1) .0
-
 returns : tie.Need-returns
 unfolding saidBy FitsHeading widthsOf
 returns c =
@@ -47,8 +40,11 @@ returns-2 c =
     (λ v shows. said v shows ∙ sym (flags-there (s .pre .4) (s .args .under) (s .args .h) (skyIn v) (there (c .before))), c .by-flags .ensures .1)
 
 pub flagged-spec : {M : Type 1} → statement M
+unfolding bitsOf widthsOf
 flagged-spec =
     tie.close
-    (tie.spec (λ c κs. search needs) (λ c. search needs) (λ c. search needs) (λ c. search needs) short-by-requires (λ c. search needs)
+    (tie.spec (λ c κs. search needs) (λ c. search needs) (λ c. search needs) (λ c. search needs)
+    (λ c κs. let short = c .before .before in let took = short .before .before in field-short _ _ _ 3 _ (sym (took .taken .ensures _ (took .before .before .pre .5)) ∙ short .enum-told .given .1) .0)
+    (λ c. search needs)
     (λ c κs. let p = s c .pre in (p .0, p .1, p .2, fits (p .4) 3 (there c), p .3, onward (p .4) (omega (arith, after-field (p .4) 3 (there c))), p .5)) returns
     returns-2)

@@ -23,15 +23,10 @@ loop-again c =
     let more = ap (λ (j : ℕ). onesIn (take j (x .strips .now))) next ∙ ones-part (x .strips .now) (4 * s .k) 4 in
     (omega arith, omega arith, omega (arith, more, c .cells-of-four .ensures .0))
 
-returns : tie.Need-returns Inv-loop μ-loop
-returns c =
-    let x = c .before .before .before .args in
-    let s = c .before .loop in
-    s .inv .2 ∙ ones-past (x .strips .now) (x .n) (4 * s .k) (omega arith) (c .before .before .before .pre .2)
-
 pub cells-in-spec : {M : Type 1} → statement M
 unfolding total
 cells-in-spec =
     tie.close
     (tie.spec Inv-loop μ-loop (λ c. (omega arith, omega arith, refl)) (λ c. omega arith) (λ c. omega arith) (λ c κs. omega arith) (λ c. omega arith)
-    (λ c. omega arith) (λ c. omega arith) loop-again returns)
+    (λ c. omega arith) (λ c. omega arith) loop-again
+    (λ c. let x = c .before .before .before .args in let s = c .before .loop in s .inv .2 ∙ ones-past (x .strips .now) (x .n) (4 * s .k) (omega arith) (c .before .before .before .pre .2)))

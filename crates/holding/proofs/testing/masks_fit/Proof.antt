@@ -9,18 +9,6 @@ use Rattle.holding.specs.Testing.{masksFit}
 use Rattle.holding.proofs.testing.masks_fit.Statement.{statement}
 use Rattle.holding.proofs.testing.masks_fit.Tie as tie
 
-returns-2 : tie.Need-returns-2
-unfolding masksFit
-returns-2 c =
-    let x = c .before .before .before .args in
-    let over = sym (c .before .satellites-assigned .ensures) ∙ not-true _ (c .if2 .taken) in
-    rw (lt-ltb (x .satellites) (2 ^ 40) (omega arith), over)
-
-add-if3 : tie.Need-add-if3
-add-if3 c =
-    let x = c .before .before .before .before .args in
-    omega (arith, c .count .ensures, ones-le 64 (x .satellites) (c .before .before .before .before .fits .satellites .fits))
-
 returns-3 : tie.Need-returns-3
 unfolding masksFit
 returns-3 c =
@@ -41,5 +29,8 @@ pub masks-fit-spec : {M : Type 1} → statement M
 unfolding masksFit
 masks-fit-spec =
     tie.close
-    (tie.spec (λ c. rw (le-ltb (c .before .args .satellites) (2 ^ 40) (omega arith))) (λ c κs. search needs) returns-2 (λ c κs. search needs) add-if3 returns-3
-    (λ c κs. search needs) returns-4)
+    (tie.spec (λ c. rw (le-ltb (c .before .args .satellites) (2 ^ 40) (omega arith))) (λ c κs. search needs)
+    (λ c. let x = c .before .before .before .args in let over = sym (c .before .satellites-assigned .ensures) ∙ not-true _ (c .if2 .taken) in rw (lt-ltb (x .satellites) (2 ^ 40) (omega arith), over))
+    (λ c κs. search needs)
+    (λ c. let x = c .before .before .before .before .args in omega (arith, c .count .ensures, ones-le 64 (x .satellites) (c .before .before .before .before .fits .satellites .fits)))
+    returns-3 (λ c κs. search needs) returns-4)

@@ -26,11 +26,6 @@ returns-3 c =
     let over = sym (c .before .masks-fit .ensures) ∙ not-true _ (c .if3 .taken) in
     rw (lt-ltb (getD (x .ids .now) (x .i) 0) 5 (omega arith), new, over)
 
-add-to : tie.Need-add-to
-add-to c =
-    let s = c .before .before .before .before .before .before .before .before .before in
-    omega (arith, c .count .ensures, ones-le 64 (s .args .satellites) (s .fits .satellites .fits))
-
 strips-fit-requires : tie.Need-strips-fit-requires
 strips-fit-requires c κs =
     let x = c .before .before .before .before .before .before .before .before .before .args in
@@ -53,4 +48,6 @@ slot-fits-spec =
     tie.close
     (tie.spec (λ c. search needs) (λ c. omega (arith, c .shared-slice-known3 .given (c .before .before .before .args .i)))
     (λ c. let x = c .before .before .before .before .args in rw (le-ltb (getD (x .ids .now) (x .i) 0) 5 (omega arith))) (λ c κs. search needs) returns-2
-    (λ c. search needs) (λ c κs. search needs) returns-3 (λ c κs. search needs) add-to strips-fit-requires returns-4)
+    (λ c. search needs) (λ c κs. search needs) returns-3 (λ c κs. search needs)
+    (λ c. let s = c .before .before .before .before .before .before .before .before .before in omega (arith, c .count .ensures, ones-le 64 (s .args .satellites) (s .fits .satellites .fits)))
+    strips-fit-requires returns-4)

@@ -24,18 +24,6 @@ two w =
     let both = and-eq-true-iff (eqb (s .v3 .width) 0) (ltb 0 (s .v1 .width)) .0 (sym (w .before .before .paired .ensures) ∙ w .before .if1 .taken) in
     (ltb-true 0 (s .v1 .width) (both .1), eqb-true (s .v3 .width) 0 (both .0))
 
-value-requires : tie.Need-value-requires
-value-requires c κs =
-    let w = c .before .before in
-    let s = start w in
-    (up-lt (s .args .bytes .now) (s .args .at) (w .eight .ensures) _ (omega (arith, s .pre .2 .first .narrow)), s .pre .2 .first)
-
-value-requires-2 : tie.Need-value-requires-2
-value-requires-2 c κs =
-    let w = c .before .before .before in
-    let s = start w in
-    (up-lt (s .args .bytes .now) (s .args .at) (w .eight .ensures) _ (omega (arith, s .pre .2 .window)), s .pre .2 .second)
-
 returns : tie.Need-returns
 returns c =
     let v2 = c .before .before .before in
@@ -52,5 +40,8 @@ pub cell-spec : {M : Type 1} → statement M
 cell-spec =
     tie.close
     (tie.spec (λ c κs. search needs) (λ c κs. search needs) (λ c. search needs) (λ c. search needs) (λ c. search needs)
-    (λ c. omega (arith, two (c .before .before) .0)) value-requires (λ c. omega (arith, two (c .before .before .before) .0)) value-requires-2
+    (λ c. omega (arith, two (c .before .before) .0))
+    (λ c κs. let w = c .before .before in let s = start w in (up-lt (s .args .bytes .now) (s .args .at) (w .eight .ensures) _ (omega (arith, s .pre .2 .first .narrow)), s .pre .2 .first))
+    (λ c. omega (arith, two (c .before .before .before) .0))
+    (λ c κs. let w = c .before .before .before in let s = start w in (up-lt (s .args .bytes .now) (s .args .at) (w .eight .ensures) _ (omega (arith, s .pre .2 .window)), s .pre .2 .second))
     (λ c κs. search needs) (λ c κs. search needs) (λ c. search needs) returns (λ c. search needs) (λ c. search needs))
