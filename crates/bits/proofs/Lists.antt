@@ -1,10 +1,8 @@
 -- Lists whose every element is stored anew, and some elements of a list one by one. Assumes nothing.
-use mathlib.Core.Path.{_≡_, refl, ap, _∙_}
-use mathlib.Core.List.{List, [], _∷_, _++_, append-nil}
-use Prim.Native.Nat.{ℕ, zero, suc, _+_, _≤_}
+use Rattle.bits.proofs.Words.{_≡_, refl, ap, _∙_, List, [], _∷_, _++_, ℕ, zero, suc, _+_, _≤_, arith, length, getD, take, drop}
+use mathlib.Core.List.{append-nil}
 use native.Mathlib.Nat.{add-suc}
-use native.Mathlib.Omega.{arith}
-use lib.ListN.{length, getD, take, drop, drop-of-length-le}
+use lib.ListN.{drop-of-length-le}
 use lib.Seq.{drop-cons, sets, sets-eq}
 
 -- as many as there is room for, one after the other

@@ -1,14 +1,9 @@
 -- How many bits and rows the chosen satellites of slots have. Assumes nothing.
-use mathlib.Core.Path.{_≡_, refl, sym, ap, _∙_}
-use mathlib.Core.Bool.{Bool, true, false, cond}
-use mathlib.Core.List.{List, [], _∷_, map}
-use Prim.Native.Nat.{ℕ, zero, suc, _+_, _-_, _*_, _/_, _%_, _^_, _≤_, _<_}
+use Rattle.bits.proofs.Words.{_≡_, refl, sym, ap, _∙_, Bool, true, false, cond, List, [], _∷_, map, ℕ, zero, suc, _+_, _-_, _*_, _/_, _%_, _^_, _≤_, _<_, arith, eqb, length, getD, drop}
 use native.Mathlib.Nat.{add-mul, mul-comm, mul-suc, mul-zero, suc-mul, zero-mul}
-use native.Mathlib.Omega.{arith}
 use lib.Count.{ones, ones-le}
-use lib.Dec.{eqb}
 use lib.Pow.{shr-le}
-use lib.ListN.{length, getD, drop, length-map}
+use lib.ListN.{length-map}
 use lib.Seq.{drop-cons, drop-length}
 use Rattle.bits.specs.BitLists.{spell}
 use Rattle.format.proofs.Lengths.{satellite-width, total-append, total-same}

@@ -1,15 +1,9 @@
 -- Four strips at a time, as one number: specs/Testing.antt. Assumes nothing.
-use mathlib.Core.Path.{_≡_, refl, ap, _∙_}
+use Rattle.bits.proofs.Words.{_≡_, refl, ap, _∙_, Bool, true, false, cond, _&&_, List, [], _∷_, ℕ, _+_, _*_, _^_, _≤_, _<_, arith, eqb, length, getD, take, drop}
 use mathlib.Core.Bool as Bools
-use mathlib.Core.Bool.{Bool, true, false, cond, _&&_}
-use mathlib.Core.List.{List, [], _∷_}
-use Prim.Native.Nat.{ℕ, _+_, _*_, _^_, _≤_, _<_}
 use native.Mathlib.Nat.{add-zero}
-use native.Mathlib.Omega.{arith}
 use borrow.Author.Tests.{eqb-true, eq-eqb}
 use lib.Bits.{bitAnd, and-block, and-lt}
-use lib.Dec.{eqb}
-use lib.ListN.{length, getD, take, drop}
 use Rattle.bits.proofs.Lists.{elements, taken}
 use Rattle.holding.specs.Bounds.{every}
 use Rattle.format.proofs.Sames.{and-true, true-and}

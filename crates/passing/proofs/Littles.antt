@@ -1,14 +1,8 @@
 -- Numbers of bytes, the least byte first, by places. Assumes nothing.
-use mathlib.Core.Path.{_≡_, refl, sym, ap, _∙_}
-use mathlib.Core.Bool.{Bool, true, false, _&&_}
-use mathlib.Core.List.{List, [], _∷_, _++_}
-use Prim.Native.Nat.{ℕ, zero, suc, _+_, _*_, _^_, _≤_}
+use Rattle.bits.proofs.Words.{_≡_, refl, sym, ap, _∙_, Bool, true, false, _&&_, List, [], _∷_, _++_, ℕ, zero, suc, _+_, _*_, _^_, _≤_, arith, leb, length, getD, take, drop}
 use native.Mathlib.Nat.{add-zero}
-use native.Mathlib.Omega.{arith}
 use borrow.Author.Tests.{leb-true, leb-false, le-leb, lt-leb}
 use lib.Bits.{bitOr, or-lt, or-add-and, and-le-l, and-le-r}
-use lib.Dec.{leb}
-use lib.ListN.{length, getD, drop, take}
 use lib.Seq.{take-all, drop-drop, getD-drop}
 use Rattle.bits.proofs.Lists.{elements, taken}
 use Rattle.passing.specs.Bytes.{little, littles}

@@ -1,9 +1,5 @@
 -- `adoption::after_head` meets its contract. Assumes nothing.
-use mathlib.Core.Path.{_≡_, sym, ap, _∙_}
-use Prim.Native.Nat.{ℕ, _+_, _<_}
-use native.Mathlib.Omega.{arith}
-use borrow.Author.Needs.{needs}
-use lib.IntN.{ℤ}
+use Rattle.bits.proofs.Words.{_≡_, sym, ap, _∙_, ℕ, _+_, _<_, arith, needs, ℤ}
 use mir.Facts.{toZ-pos}
 use mir.Syntax.{w32}
 use Rattle.adoption.proofs.ManySystems.{answer, firstMask}

@@ -1,6 +1,5 @@
 -- `adoption::head` meets its contract. Assumes nothing.
-use native.Mathlib.Omega.{arith}
-use borrow.Author.Needs.{needs}
+use Rattle.bits.proofs.Words.{arith, needs}
 use Rattle.adoption.proofs.StageEnds.{first-taken}
 use Rattle.bits.specs.Short.{bitsOf, widthsOf}
 use Rattle.bits.proofs.Short.{field-short}

@@ -1,10 +1,6 @@
 -- `body::cells_chosen` meets its contract. Assumes nothing.
-use mathlib.Core.Path.{_∙_, sym, ap}
-use mathlib.Core.List.{List}
-use Prim.Native.Nat.{ℕ}
-use native.Mathlib.Omega.{arith}
+use Rattle.bits.proofs.Words.{sym, ap, _∙_, List, ℕ, arith, take}
 use lib.Count.{ones}
-use lib.ListN.{take}
 use lib.Seq.{length-take-le}
 use Rattle.bits.specs.BitLists.{spell}
 use Rattle.format.specs.Lengths.{total}

@@ -1,9 +1,6 @@
 -- `body::satellites_size` meets its contract. Assumes nothing.
-use mathlib.Core.Path.{_≡_, subst}
-use mathlib.Core.List.{List}
+use Rattle.bits.proofs.Words.{_≡_, subst, List, arith, needs}
 use mathlib.Core.Logic.{⊎-elim}
-use native.Mathlib.Omega.{arith}
-use borrow.Author.Needs.{needs}
 use borrow.Author.Tests.{ltb-true}
 use Rattle.format.specs.Rows.{Line}
 use Rattle.holding.specs.Held.{viewOf}

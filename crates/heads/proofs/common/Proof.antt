@@ -1,6 +1,5 @@
 -- `heads::common` meets its contract. Assumes nothing.
-use mathlib.Core.Path.{_∙_, sym}
-use borrow.Author.Needs.{needs}
+use Rattle.bits.proofs.Words.{sym, _∙_, needs}
 use Rattle.bits.specs.Short.{bitsOf, widthsOf}
 use Rattle.bits.proofs.Short.{field-short}
 use Rattle.format.proofs.Ends.{onward}

@@ -1,7 +1,5 @@
 -- `heads::front_at` meets its contract. Assumes nothing.
-use mathlib.Core.Path.{ap}
-use Prim.Native.Nat.{ℕ}
-use borrow.Author.Needs.{needs}
+use Rattle.bits.proofs.Words.{ap, ℕ, needs}
 use Rattle.heads.proofs.front_at.Statement.{statement}
 use Rattle.heads.proofs.front_at.Tie as tie
 

@@ -1,10 +1,6 @@
 -- `heads::open` meets its contract: each return is one of the ways in which the opening ends. Assumes nothing.
-use mathlib.Core.Path.{_≡_, _∙_, ap}
-use mathlib.Core.List.{List}
-use Prim.Native.Nat.{ℕ, _/_}
+use Rattle.bits.proofs.Words.{_≡_, ap, _∙_, List, ℕ, _/_, arith, needs}
 use native.Mathlib.Nat.{add-zero}
-use native.Mathlib.Omega.{arith}
-use borrow.Author.Needs.{needs}
 use borrow.Author.Tests.{eq-eqb, ne-eqb}
 use Rattle.bits.specs.Places.{field}
 use Rattle.format.proofs.Ends.{number-cut}

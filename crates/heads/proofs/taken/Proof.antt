@@ -1,7 +1,5 @@
 -- `heads::taken` meets its contract. Assumes nothing.
-use mathlib.Core.Path.{_∙_, sym, ap}
-use native.Mathlib.Omega.{arith}
-use borrow.Author.Needs.{needs}
+use Rattle.bits.proofs.Words.{sym, ap, _∙_, arith, needs}
 use Rattle.bits.specs.declared.read.Taken.the-variants.{Whole, Short}
 use Rattle.bits.proofs.Short.{taken-whole, taken-short}
 use Rattle.heads.proofs.taken.Statement.{statement}

@@ -1,10 +1,7 @@
 -- `reader::is_placed` meets its contract.
 -- Assumes nothing.
-use Prim.Native.Nat.{_*_}
-use native.Mathlib.Omega.{arith}
-use borrow.Author.Needs.{needs}
+use Rattle.bits.proofs.Words.{_*_, arith, needs, length}
 use borrow.Author.Tests.{le-leb, lt-leb}
-use lib.ListN.{length}
 use Rattle.format.specs.Reading.{placed}
 use Rattle.reader.proofs.is_placed.Statement.{statement}
 use Rattle.reader.proofs.is_placed.Tie as tie

@@ -1,9 +1,7 @@
 -- `reader::tested` meets its contract.
 -- Assumes nothing.
-use mathlib.Core.Path.{_∙_, sym, refl}
-use borrow.Author.Needs.{needs}
+use Rattle.bits.proofs.Words.{refl, sym, _∙_, arith, needs}
 use borrow.Author.Tests.{lt-leb, le-leb, not-true, not-false}
-use native.Mathlib.Omega.{arith}
 use Rattle.format.specs.Reading.{lentTests}
 use Rattle.format.specs.Tests.{verdict}
 use Rattle.reader.specs.Readings.{testedBy}

@@ -1,8 +1,5 @@
 -- `table::kind_of` meets its contract: each arm is the table's row. Assumes nothing.
-use mathlib.Core.Path.{_≡_, refl, sym, ap, _∙_}
-use Prim.Native.Nat.{ℕ}
-use lib.ListN.{getD}
-use borrow.Author.Needs.{needs}
+use Rattle.bits.proofs.Words.{_≡_, refl, sym, ap, _∙_, ℕ, needs, getD}
 use Rattle.format.proofs.Tables.{NoneOf}
 use Rattle.table.specs.declared.Kind.{Kind}
 use Rattle.table.specs.declared.Kind.the-variants.{Other, Mask, Packet}

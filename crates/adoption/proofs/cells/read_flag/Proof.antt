@@ -1,11 +1,5 @@
 -- `adoption::cells::read_flag` meets its contract. Assumes nothing.
-use mathlib.Core.Path.{_≡_, refl, sym, ap, _∙_}
-use mathlib.Core.Bool.{not}
-use mathlib.Core.List.{List}
-use Prim.Native.Nat.{ℕ, zero, suc, _+_, _-_, _^_, _≤_, _<_}
-use native.Mathlib.Omega.{arith}
-use borrow.Author.Needs.{needs}
-use lib.Dec.{eqb}
+use Rattle.bits.proofs.Words.{_≡_, refl, sym, ap, _∙_, not, List, ℕ, zero, suc, _+_, _-_, _^_, _≤_, _<_, arith, needs, eqb}
 use Rattle.adoption.proofs.StageEnds.{cells-cut, cells-there}
 use Rattle.adoption.specs.Stages.{withCells, endSystem, HasMasks}
 use Rattle.bits.specs.declared.read.Taken.{Taken}

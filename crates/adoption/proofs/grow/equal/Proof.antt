@@ -1,9 +1,6 @@
 -- `adoption::grow::equal` meets its contract. The loop's invariant: the strips stored and those that are left. Assumes nothing.
-use mathlib.Core.Path.{_≡_, refl, sym}
-use Prim.Native.Nat.{suc, _+_, _-_, _≤_}
+use Rattle.bits.proofs.Words.{_≡_, refl, sym, suc, _+_, _-_, _≤_, arith, needs}
 use native.Mathlib.Nat.{sub-zero, add-zero}
-use native.Mathlib.Omega.{arith}
-use borrow.Author.Needs.{needs}
 use lib.ListN.{replicate}
 use Rattle.adoption.proofs.Strips.{Filling, one-filled}
 use Rattle.adoption.proofs.grow.equal.Statement.{statement}

@@ -1,13 +1,8 @@
 -- `adoption::grow::masked` meets its contract. The loop's invariant: the strips stored and their ones, those that are left, and that their bits are there.
 -- Assumes nothing.
-use mathlib.Core.Path.{_≡_, refl, sym, ap, _∙_}
-use mathlib.Core.List.{_∷_}
-use Prim.Native.Nat.{ℕ, suc, _+_, _-_, _*_, _%_, _^_, _≤_, _<_}
+use Rattle.bits.proofs.Words.{_≡_, refl, sym, ap, _∙_, _∷_, ℕ, suc, _+_, _-_, _*_, _%_, _^_, _≤_, _<_, arith, needs, length, getD}
 use native.Mathlib.Nat.{add-zero, sub-zero, suc-mul}
-use native.Mathlib.Omega.{arith}
-use borrow.Author.Needs.{needs}
 use lib.Count.{ones, ones-le}
-use lib.ListN.{length, getD}
 use Rattle.adoption.specs.Growing.{Sees}
 use Rattle.adoption.specs.Spreading.{stripOf}
 use Rattle.adoption.proofs.Bitwise.{spreadOf, spread-lt}

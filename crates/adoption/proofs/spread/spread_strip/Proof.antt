@@ -1,9 +1,7 @@
 -- `adoption::spread::spread_strip` meets its contract. The loop's invariant: the strip so far and what the rest of the mask makes of the rest of the bits
 -- are the whole strip.
 -- Assumes nothing.
-use mathlib.Core.Path.{_≡_}
-use Prim.Native.Nat.{_+_, _^_, _<_}
-use native.Mathlib.Omega.{arith}
+use Rattle.bits.proofs.Words.{_≡_, _+_, _^_, _<_, arith}
 use Rattle.adoption.proofs.Bitwise.{spreadOf, spread-lt, spread-none, Next, next}
 use Rattle.adoption.proofs.spread.spread_strip.Statement.{statement}
 use Rattle.adoption.proofs.spread.spread_strip.Tie as tie

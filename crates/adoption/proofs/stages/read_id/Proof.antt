@@ -1,12 +1,6 @@
 -- `adoption::stages::read_id` meets its contract. Assumes nothing.
-use mathlib.Core.Path.{_≡_, sym, _∙_}
-use mathlib.Core.Bool.{true, cond, not, _&&_}
-use mathlib.Core.List.{List}
-use Prim.Native.Nat.{ℕ, _+_, _<_}
-use native.Mathlib.Omega.{arith}
-use borrow.Author.Needs.{needs}
+use Rattle.bits.proofs.Words.{_≡_, sym, _∙_, true, cond, _&&_, not, List, ℕ, _+_, _<_, arith, needs, take}
 use borrow.Author.Tests.{le-leb, lt-leb}
-use lib.ListN.{take}
 use Rattle.format.proofs.Ends.{fits, number-short}
 use Rattle.adoption.proofs.StageEnds.{first-taken, id-end}
 use Rattle.format.specs.Ends.{endFrom}

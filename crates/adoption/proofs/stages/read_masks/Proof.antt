@@ -1,12 +1,7 @@
 -- `adoption::stages::read_masks` meets its contract. Assumes nothing.
-use mathlib.Core.Path.{_≡_, sym, ap, subst, _∙_}
-use mathlib.Core.Bool.{true, cond}
-use Prim.Native.Nat.{ℕ, _+_, _^_, _≤_, _<_}
-use native.Mathlib.Omega.{arith}
-use borrow.Author.Needs.{needs}
+use Rattle.bits.proofs.Words.{_≡_, sym, ap, _∙_, subst, true, cond, ℕ, _+_, _^_, _≤_, _<_, arith, needs, leb}
 use borrow.Author.Tests.{le-leb, lt-leb, not-true, not-false}
 use lib.Count.{ones, ones-le}
-use lib.Dec.{leb}
 use Rattle.format.proofs.Ends.{after-field, fits, bits-short}
 use Rattle.adoption.proofs.StageEnds.{opens-at, satellites-end}
 use Rattle.format.specs.Ends.{Within, endFrom}

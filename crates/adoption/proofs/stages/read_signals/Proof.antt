@@ -1,9 +1,5 @@
 -- `adoption::stages::read_signals` meets its contract. Assumes nothing.
-use mathlib.Core.Path.{_≡_, refl, sym, _∙_}
-use mathlib.Core.List.{List}
-use Prim.Native.Nat.{ℕ, _^_, _<_}
-use native.Mathlib.Omega.{arith}
-use borrow.Author.Needs.{needs}
+use Rattle.bits.proofs.Words.{_≡_, refl, sym, _∙_, List, ℕ, _^_, _<_, arith, needs}
 use borrow.Author.Tests.{not-true, not-false}
 use Rattle.format.specs.Messages.{systemSignals}
 use Rattle.format.proofs.Ends.{fits, bits-short}

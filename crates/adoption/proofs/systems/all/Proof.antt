@@ -1,11 +1,8 @@
 -- `adoption::systems::all` meets its contract. The loop's invariant: the holding has the systems read so far, and all are answered as those left are after
 -- them. Assumes nothing.
-use mathlib.Core.Path.{_≡_, sym, ap, _∙_}
+use Rattle.bits.proofs.Words.{_≡_, sym, ap, _∙_, ℕ, suc, _+_, _-_, _^_, _≤_, _<_, arith, needs}
 use mathlib.Core.List.{flatMap}
-use Prim.Native.Nat.{ℕ, suc, _+_, _-_, _^_, _≤_, _<_}
 use native.Mathlib.Nat.{sub-zero}
-use native.Mathlib.Omega.{arith}
-use borrow.Author.Needs.{needs}
 use lib.Count.{ones}
 use Rattle.adoption.proofs.ManySystems.{answer, firstMask, Stands, none-yet, none-left, ids-named, strips-left, one-refused, room-for, after, too-many, slot, one-fine}
 use Rattle.adoption.specs.Adoptions.{adoptionBy}

@@ -1,6 +1,5 @@
 -- `bits::part::counts` meets its contract. Assumes nothing.
-use native.Mathlib.Omega.{arith}
-use borrow.Author.Needs.{needs}
+use Rattle.bits.proofs.Words.{arith, needs}
 use borrow.Author.Tests.{lt-ltb, le-ltb}
 use Rattle.bits.specs.Parts.{countOf}
 use Rattle.bits.proofs.part.counts.Statement.{statement}

@@ -1,13 +1,7 @@
 -- `bits::part::part` meets its contract. Assumes nothing.
-use mathlib.Core.Path.{_≡_, refl}
-use mathlib.Core.Bool.{Bool, true, false}
-use Prim.Native.Nat.{ℕ, _+_, _*_, _≤_}
+use Rattle.bits.proofs.Words.{_≡_, refl, Bool, true, false, ℕ, _+_, _*_, _≤_, arith, needs, ltb, length}
 use native.Mathlib.Nat.{add-sub-cancel-left}
-use native.Mathlib.Omega.{arith}
-use borrow.Author.Needs.{needs}
 use borrow.Author.Tests.{ltb-true}
-use lib.Dec.{ltb}
-use lib.ListN.{length}
 use Rattle.bits.specs.Parts.{startOf, countOf, partOf}
 use Rattle.bits.proofs.part.part.Statement.{statement}
 use Rattle.bits.proofs.part.part.Tie as tie

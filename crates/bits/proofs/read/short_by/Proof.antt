@@ -1,7 +1,5 @@
 -- `bits::read::short_by` meets its contract: each width's test decides one step of `shortBy`. Assumes nothing.
-use Prim.Native.Nat.{ℕ, _-_}
-use native.Mathlib.Omega.{arith}
-use borrow.Author.Needs.{needs}
+use Rattle.bits.proofs.Words.{ℕ, _-_, arith, needs}
 use borrow.Author.Tests.{lt-ltb, le-ltb}
 use Rattle.bits.specs.Short.{shortBy, widthsOf}
 use Rattle.bits.proofs.Short.{widths-sum}

@@ -1,9 +1,7 @@
 -- `bits::rest::zero_from` meets its contract. The loop's invariant: the bits passed are all zero.
 -- Assumes nothing.
-use mathlib.Core.Path.{_≡_, sym, ap, _∙_}
-use Prim.Native.Nat.{ℕ, _-_, _≤_, max}
-use native.Mathlib.Omega.{arith}
-use borrow.Author.Needs.{needs}
+use Rattle.bits.proofs.Words.{_≡_, sym, ap, _∙_, ℕ, _-_, _≤_, arith, needs}
+use Prim.Native.Nat.{max}
 use borrow.Author.Tests.{eq-eqb, ne-eqb}
 use Rattle.bits.specs.Places.{field}
 use Rattle.bits.proofs.Fields.{zero-more, zero-part}

@@ -1,9 +1,6 @@
 -- `bits::signed::from_signed` meets its contract. Assumes nothing.
-use mathlib.Core.Path.{_≡_}
-use Prim.Native.Nat.{_*_, _%_, _^_, _<_}
-use native.Mathlib.Omega.{arith}
-use borrow.Author.Needs.{needs}
-use lib.IntN.{pos, _+ℤ_}
+use Rattle.bits.proofs.Words.{_≡_, _*_, _%_, _^_, _<_, arith, needs, pos}
+use lib.IntN.{_+ℤ_}
 use lib.Pow.{pow-pos, pow-mono}
 use mir.Facts.{toZ-ofZ, toZ-pos, sfits-widen}
 use mir.Syntax.{w32, w64}

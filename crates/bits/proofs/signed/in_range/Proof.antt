@@ -1,9 +1,5 @@
 -- `bits::signed::in_range` meets its contract. Assumes nothing.
-use mathlib.Core.Path.{_≡_, ap₂}
-use Prim.Native.Nat.{ℕ, _*_}
-use native.Mathlib.Omega.{arith}
-use borrow.Author.Needs.{needs}
-use lib.Dec.{ltb}
+use Rattle.bits.proofs.Words.{_≡_, ap₂, ℕ, _*_, arith, needs, ltb}
 use lib.Signed.{mag}
 use mir.Facts.{toZ-ofZ}
 use Rattle.bits.proofs.Windows.{one-shifted}

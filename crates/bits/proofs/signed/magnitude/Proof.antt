@@ -1,8 +1,7 @@
 -- `bits::signed::magnitude` meets its contract. Assumes nothing.
-use mathlib.Core.Path.{_≡_}
-use native.Mathlib.Omega.{arith}
+use Rattle.bits.proofs.Words.{_≡_, arith, pos}
 use lib.Dec.{T}
-use lib.IntN.{pos, negsuc, natAbs, _-ℤ_}
+use lib.IntN.{negsuc, natAbs, _-ℤ_}
 use lib.Signed.{mag, nonNeg}
 use mir.Facts.{toZ-ofZ, toZ-pos}
 use mir.Syntax.{w32}

@@ -1,10 +1,6 @@
 -- `bits::window::fewer` meets its contract. The loop's invariant: the sum is the number in the bytes passed.
 -- Assumes nothing.
-use mathlib.Core.Path.{_≡_, sym, ap, _∙_}
-use mathlib.Core.List.{List}
-use Prim.Native.Nat.{ℕ, _+_, _-_, _*_, _%_, _^_, _≤_, _<_}
-use native.Mathlib.Omega.{arith}
-use lib.ListN.{length, getD}
+use Rattle.bits.proofs.Words.{_≡_, sym, ap, _∙_, List, ℕ, _+_, _-_, _*_, _%_, _^_, _≤_, _<_, arith, length, getD}
 use lib.Pow.{pow-mono}
 use Rattle.bits.specs.Places.{field}
 use Rattle.bits.proofs.Fields.{field-lt, field-past}

@@ -1,6 +1,5 @@
 -- `bits::window::store_eight` meets its contract. Assumes nothing.
-use native.Mathlib.Omega.{arith}
-use borrow.Author.Needs.{needs}
+use Rattle.bits.proofs.Words.{arith, needs}
 use lib.ListN.{length-set}
 use Rattle.bits.specs.BitLists.{bytes}
 use Rattle.bits.proofs.Stores.{stored}

@@ -1,9 +1,6 @@
 -- `bits::write::replaced` meets its contract. Assumes nothing.
-use mathlib.Core.Path.{_≡_, ap, _∙_}
-use Prim.Native.Nat.{ℕ, _-_, _*_, _/_, _%_, _^_}
+use Rattle.bits.proofs.Words.{_≡_, ap, _∙_, ℕ, _-_, _*_, _/_, _%_, _^_, arith, needs}
 use native.Mathlib.Nat.{mod-eq-of-lt, lt-of-le-of-lt}
-use native.Mathlib.Omega.{arith}
-use borrow.Author.Needs.{needs}
 use lib.Pow.{shl-exact}
 use Rattle.bits.proofs.Stores.{field-le, replaced-lt}
 use Rattle.bits.proofs.write.replaced.Statement.{statement}

@@ -1,13 +1,8 @@
 -- `body::cells::fill` meets its contract. The loop's invariant: the rows of the slots that are left, with the strips from the n-th on, chosen by the marks that
 -- are left, are still to come. Assumes nothing.
-use mathlib.Core.Path.{_≡_, refl, sym, ap, _∙_}
-use mathlib.Core.List.{List, _++_}
-use Prim.Native.Nat.{ℕ, suc, _+_, _-_, _≤_}
-use native.Mathlib.Numerals.{add-one}
-use native.Mathlib.Omega.{arith}
-use borrow.Author.Needs.{needs}
+use Rattle.bits.proofs.Words.{_≡_, refl, sym, ap, _∙_, List, _++_, ℕ, suc, _+_, _-_, _≤_, add-one, arith, needs, length, getD, take, drop}
 use lib.Count.{ones}
-use lib.ListN.{length, getD, take, drop, length-append, length-drop}
+use lib.ListN.{length-append, length-drop}
 use Rattle.format.specs.Rows.{Column, Line}
 use Rattle.holding.specs.Held.{slotSatellites}
 use Rattle.rows.specs.Shapes.{columnsIn}

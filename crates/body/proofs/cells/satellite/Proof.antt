@@ -1,11 +1,6 @@
 -- `body::cells::satellite` meets its contract. The loop's invariant: the rows of the cells that are left are still to come. Assumes nothing.
-use mathlib.Core.Path.{_≡_, refl, ap, _∙_}
-use mathlib.Core.List.{List, _∷_, []}
-use Prim.Native.Nat.{ℕ, _-_, _^_, _<_}
-use native.Mathlib.Omega.{arith}
-use borrow.Author.Needs.{needs}
+use Rattle.bits.proofs.Words.{_≡_, refl, ap, _∙_, List, [], _∷_, ℕ, _-_, _^_, _<_, arith, needs, pos}
 use lib.Count.{leadingZeros}
-use lib.IntN.{pos}
 use Rattle.format.specs.Masks.{Satellite}
 use Rattle.format.specs.Messages.{cellLines}
 use Rattle.format.specs.Rows.{Column, Line, shapeWidth}

@@ -1,14 +1,8 @@
 -- `body::cells::slot` meets its contract. The loop's invariant: the rows of the satellites that are left, with the strips from the n-th on, chosen by the marks
 -- that are left, are still to come. Assumes nothing.
-use mathlib.Core.Path.{_≡_, refl, ap}
-use mathlib.Core.List.{List, _∷_}
+use Rattle.bits.proofs.Words.{_≡_, refl, ap, List, _∷_, ℕ, suc, _+_, _-_, _*_, _%_, _^_, _≤_, _<_, add-one, arith, needs, length, getD, drop}
 use mathlib.Core.Logic.{⊎-elim}
-use Prim.Native.Nat.{ℕ, suc, _+_, _-_, _*_, _%_, _^_, _<_, _≤_}
-use native.Mathlib.Numerals.{add-one}
-use native.Mathlib.Omega.{arith}
-use borrow.Author.Needs.{needs}
 use lib.Count.{leadingZeros}
-use lib.ListN.{length, getD, drop}
 use Rattle.format.specs.Messages.{cellLines}
 use Rattle.format.specs.Rows.{Column, Line}
 use Rattle.holding.specs.Held.{satellitesIn}

@@ -1,13 +1,7 @@
 -- `body::packet::fill` meets its contract. The loop's invariant: the rows behind the i-th are still to come.
 -- Assumes nothing.
-use mathlib.Core.Path.{_≡_, refl, ap, _∙_, subst}
-use mathlib.Core.List.{List, _∷_, []}
-use Prim.Native.Nat.{ℕ, suc, _+_, _-_, _*_, _^_, _<_, _≤_}
+use Rattle.bits.proofs.Words.{_≡_, refl, ap, _∙_, subst, List, [], _∷_, ℕ, suc, _+_, _-_, _*_, _^_, _≤_, _<_, add-one, arith, needs, pos}
 use native.Mathlib.Nat.{sub-zero}
-use native.Mathlib.Numerals.{add-one}
-use native.Mathlib.Omega.{arith}
-use borrow.Author.Needs.{needs}
-use lib.IntN.{pos}
 use Rattle.format.specs.Messages.{packetLines, packetShape}
 use Rattle.format.specs.Rows.{Column, Line, absent, shapeWidth}
 use Rattle.rows.proofs.Table.{made-formed, columns-at}

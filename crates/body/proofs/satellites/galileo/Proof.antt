@@ -1,18 +1,10 @@
 -- `body::satellites::galileo` meets its contract. The loop's invariant: with those of the slots that are left it is the whole.
 -- Assumes nothing.
-use mathlib.Core.Path.{_≡_}
-use mathlib.Core.Bool.{Bool, true, false, cond}
-use mathlib.Core.List.{List}
+use Rattle.bits.proofs.Words.{_≡_, Bool, true, false, cond, List, ℕ, suc, _+_, _-_, _*_, _/_, _%_, _^_, _≤_, _<_, add-one, arith, needs, eqb, length, getD, drop}
 use mathlib.Core.Logic.{⊎-elim}
-use Prim.Native.Nat.{ℕ, suc, _+_, _-_, _*_, _/_, _%_, _^_, _≤_, _<_}
 use native.Mathlib.Nat.{mod-lt}
-use native.Mathlib.Numerals.{add-one}
-use native.Mathlib.Omega.{arith}
-use borrow.Author.Needs.{needs}
 use borrow.Author.Tests.{eq-eqb, ne-eqb}
 use lib.Count.{ones}
-use lib.Dec.{eqb}
-use lib.ListN.{length, getD, drop}
 use Rattle.bits.specs.BitLists.{spell}
 use Rattle.format.proofs.Picks.{pick-few}
 use Rattle.format.specs.Masks.{pick}

@@ -1,8 +1,6 @@
 -- `body::satellites::picked` meets its contract. Assumes nothing.
-use mathlib.Core.Path.{sym, ap, _∙_}
-use Prim.Native.Nat.{ℕ, _-_, _/_, _^_}
+use Rattle.bits.proofs.Words.{sym, ap, _∙_, ℕ, _-_, _/_, _^_, needs}
 use native.Mathlib.Nat.{div-eq-of-lt}
-use borrow.Author.Needs.{needs}
 use lib.Count.{ones}
 use Rattle.body.proofs.Selected.{all-picked}
 use Rattle.body.proofs.satellites.picked.Statement.{statement}

@@ -1,7 +1,5 @@
 -- `body::satellites::size_alike` meets its contract. Assumes nothing.
-use mathlib.Core.Path.{_∙_}
-use native.Mathlib.Omega.{arith}
-use borrow.Author.Needs.{needs}
+use Rattle.bits.proofs.Words.{_∙_, arith, needs}
 use Rattle.body.proofs.Sizes.{few-ones}
 use Rattle.body.proofs.satellites.size_alike.Statement.{statement}
 use Rattle.body.proofs.satellites.size_alike.Tie as tie

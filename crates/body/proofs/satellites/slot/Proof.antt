@@ -1,14 +1,8 @@
 -- `body::satellites::slot` meets its contract. The loop's invariant: the rows of the satellites that are left, chosen by the marks that are left, are still to
 -- come. Assumes nothing.
-use mathlib.Core.Path.{_≡_, refl, _∙_}
-use mathlib.Core.List.{List, _∷_, []}
+use Rattle.bits.proofs.Words.{_≡_, refl, _∙_, List, [], _∷_, ℕ, suc, _+_, _-_, _*_, _%_, _^_, _≤_, _<_, arith, needs, length, pos}
 use mathlib.Core.Logic.{⊎-elim}
-use Prim.Native.Nat.{ℕ, suc, _+_, _-_, _*_, _%_, _^_, _≤_, _<_}
-use native.Mathlib.Omega.{arith}
-use borrow.Author.Needs.{needs}
 use lib.Count.{leadingZeros}
-use lib.IntN.{pos}
-use lib.ListN.{length}
 use Rattle.format.specs.Messages.{satelliteLines}
 use Rattle.format.specs.Rows.{Column, Line, absent}
 use Rattle.holding.specs.Held.{satellitesIn}

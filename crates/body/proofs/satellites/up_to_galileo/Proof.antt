@@ -1,9 +1,6 @@
 -- `body::satellites::up_to_galileo` meets its contract. The loop's invariant: the last one is none of the slots passed. Assumes nothing.
-use mathlib.Core.Path.{_≡_, refl, sym, ap, _∙_}
-use Prim.Native.Nat.{suc, _-_, _≤_}
-use native.Mathlib.Omega.{arith}
+use Rattle.bits.proofs.Words.{_≡_, refl, sym, ap, _∙_, suc, _-_, _≤_, arith, length, getD}
 use borrow.Author.Tests.{eq-eqb, ne-eqb}
-use lib.ListN.{length, getD}
 use Rattle.body.specs.Chosen.{upToGalileo}
 use Rattle.body.proofs.satellites.up_to_galileo.Statement.{statement}
 use Rattle.body.proofs.satellites.up_to_galileo.Tie as tie

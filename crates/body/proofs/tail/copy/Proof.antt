@@ -1,11 +1,7 @@
 -- `body::tail::copy` meets its contract. The loop's invariant: the bytes passed are those of the string, the others zero.
 -- Assumes nothing.
-use mathlib.Core.Path.{_≡_, refl, sym, _∙_}
-use mathlib.Core.List.{List}
-use Prim.Native.Nat.{ℕ, _+_, _-_, _≤_, _<_}
-use native.Mathlib.Omega.{arith}
-use borrow.Author.Needs.{needs}
-use lib.ListN.{length, replicate, length-set}
+use Rattle.bits.proofs.Words.{_≡_, refl, sym, _∙_, List, ℕ, _+_, _-_, _≤_, _<_, arith, needs, length}
+use lib.ListN.{replicate, length-set}
 use Rattle.body.proofs.Tails.{Copied, Clear, zero-at, copied-more, clear-more, copied-all}
 use Rattle.body.proofs.tail.copy.Statement.{statement}
 use Rattle.body.proofs.tail.copy.Tie as tie

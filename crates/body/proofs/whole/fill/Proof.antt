@@ -1,8 +1,5 @@
 -- `body::whole::fill` meets its contract. Assumes nothing.
-use mathlib.Core.Path.{_≡_, refl, ap, _∙_}
-use mathlib.Core.List.{List}
-use borrow.Author.Needs.{needs}
-use lib.IntN.{ℤ}
+use Rattle.bits.proofs.Words.{_≡_, refl, ap, _∙_, List, needs, ℤ}
 use Rattle.format.specs.Reading.{over}
 use Rattle.format.specs.Rows.{Line}
 use Rattle.holding.specs.Held.{View}

@@ -1,10 +1,5 @@
 -- `heads::heading::by_flags` meets its contract. Assumes nothing.
-use mathlib.Core.Path.{_≡_, ap}
-use Prim.Native.Nat.{ℕ, _+_, _/_, _%_, _<_}
-use native.Mathlib.Omega.{arith}
-use borrow.Author.Needs.{needs}
-use lib.Dec.{eqb}
-use lib.IntN.{pos}
+use Rattle.bits.proofs.Words.{_≡_, ap, ℕ, _+_, _/_, _%_, _<_, arith, needs, eqb, pos}
 use mir.Facts.{toZ-pos}
 use mir.Syntax.{w32}
 use Rattle.bits.proofs.BitLists.{digit-eqb}

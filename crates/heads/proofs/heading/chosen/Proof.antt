@@ -1,7 +1,6 @@
 -- `heads::heading::chosen` meets its contract.
 -- Assumes nothing.
-use native.Mathlib.Omega.{arith}
-use borrow.Author.Needs.{needs}
+use Rattle.bits.proofs.Words.{arith, needs}
 use Rattle.heads.proofs.Chosen.{chosen-once, chosen-fits, chosen-twice}
 use Rattle.heads.proofs.heading.chosen.Statement.{statement}
 use Rattle.heads.proofs.heading.chosen.Tie as tie

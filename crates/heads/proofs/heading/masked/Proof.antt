@@ -1,8 +1,5 @@
 -- `heads::heading::masked` meets its contract. Assumes nothing.
-use mathlib.Core.Path.{_≡_, _∙_, sym}
-use Prim.Native.Nat.{_+_}
-use native.Mathlib.Omega.{arith}
-use borrow.Author.Needs.{needs}
+use Rattle.bits.proofs.Words.{_≡_, sym, _∙_, _+_, arith, needs}
 use Rattle.format.proofs.Ends.{onward, then-well, then-badly}
 use Rattle.format.specs.Messages.{common}
 use Rattle.heads.specs.Headings.{saidBy, FitsHeading, gatedBy, underBy}

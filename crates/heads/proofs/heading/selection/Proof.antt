@@ -1,8 +1,5 @@
 -- `heads::heading::selection` meets its contract: each return is one of the ways in which a network and its selection end. Assumes nothing.
-use mathlib.Core.Path.{_≡_, _∙_, sym}
-use Prim.Native.Nat.{ℕ, _+_, _<_}
-use native.Mathlib.Omega.{arith}
-use borrow.Author.Needs.{needs}
+use Rattle.bits.proofs.Words.{_≡_, sym, _∙_, ℕ, _+_, _<_, arith, needs}
 use mir.Facts.{toZ-pos}
 use mir.Syntax.{w32}
 use Rattle.bits.specs.declared.read.Taken.the-variants.{Whole}

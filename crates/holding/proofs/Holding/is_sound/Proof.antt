@@ -1,6 +1,5 @@
 -- `holding::Holding::is_sound` meets its contract: the test slot by slot is the test of the definitions. Assumes nothing.
-use mathlib.Core.Path.{sym, _∙_}
-use borrow.Author.Needs.{needs}
+use Rattle.bits.proofs.Words.{sym, _∙_, needs}
 use borrow.Author.Tests.{le-leb, lt-leb, not-true, not-false}
 use Rattle.holding.specs.Testing.{tested}
 use Rattle.holding.proofs.Shapes.{as-long, narrow-typed, tested-is-sound, not-tested}

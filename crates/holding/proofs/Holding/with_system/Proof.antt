@@ -1,6 +1,5 @@
 -- `holding::Holding::with_system` meets its contract. Assumes nothing.
-use mathlib.Core.Path.{refl}
-use borrow.Author.Needs.{needs}
+use Rattle.bits.proofs.Words.{refl, needs}
 use Rattle.holding.specs.Building.{withSystem}
 use Rattle.holding.proofs.Holding.with_system.Statement.{statement}
 use Rattle.holding.proofs.Holding.with_system.Tie as tie

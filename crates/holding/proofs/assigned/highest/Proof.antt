@@ -1,8 +1,5 @@
 -- `holding::assigned::highest` meets its contract. Assumes nothing.
-use mathlib.Core.Path.{_≡_, sym, ap}
-use Prim.Native.Nat.{ℕ}
-use native.Mathlib.Omega.{arith}
-use lib.ListN.{getD}
+use Rattle.bits.proofs.Words.{_≡_, sym, ap, ℕ, arith, getD}
 use Rattle.holding.specs.declared.assigned.Places.{Places}
 use Rattle.holding.specs.Assigning.{placesOf}
 use Rattle.holding.proofs.assigned.highest.Statement.{statement}

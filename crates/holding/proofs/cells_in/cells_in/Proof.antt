@@ -1,8 +1,5 @@
 -- `holding::cells_in::cells_in` meets its contract. The loop's invariant: the cells of the strips passed, four each time. Assumes nothing.
-use mathlib.Core.Path.{_≡_, refl, ap, _∙_}
-use Prim.Native.Nat.{ℕ, _+_, _-_, _*_, _≤_}
-use native.Mathlib.Omega.{arith}
-use lib.ListN.{take}
+use Rattle.bits.proofs.Words.{_≡_, refl, ap, _∙_, ℕ, _+_, _-_, _*_, _≤_, arith, take}
 use Rattle.format.specs.Lengths.{total}
 use Rattle.holding.specs.Building.{onesIn}
 use Rattle.holding.proofs.Counts.{ones-part, ones-past}

@@ -1,10 +1,5 @@
 -- `holding::named::named_in` meets its contract. The loop's invariant: none of those passed is the ID. Assumes nothing.
-use mathlib.Core.Path.{_≡_, refl, sym, ap, _∙_}
-use mathlib.Core.Bool.{false}
-use Prim.Native.Nat.{ℕ, _-_, _≤_}
-use native.Mathlib.Numerals.{add-one}
-use native.Mathlib.Omega.{arith}
-use lib.ListN.{take}
+use Rattle.bits.proofs.Words.{_≡_, refl, sym, ap, _∙_, false, ℕ, _-_, _≤_, add-one, arith, take}
 use Rattle.format.specs.Messages.{named}
 use Rattle.holding.proofs.Names.{named-at, named-more}
 use Rattle.holding.proofs.named.named_in.Statement.{statement}

@@ -1,13 +1,8 @@
 -- `holding::strips_fit::each_fits` meets its contract. The loop's invariant: the strips fit from the first on just if they do from the i-th on.
 -- Assumes nothing.
-use mathlib.Core.Path.{_≡_, refl, sym, _∙_}
-use Prim.Native.Nat.{ℕ, _-_, _≤_}
+use Rattle.bits.proofs.Words.{_≡_, refl, sym, _∙_, ℕ, _-_, _≤_, add-one, arith, needs, take, drop}
 use native.Mathlib.Nat.{sub-self}
-use native.Mathlib.Numerals.{add-one}
-use native.Mathlib.Omega.{arith}
-use borrow.Author.Needs.{needs}
 use borrow.Author.Tests.{not-true, not-false}
-use lib.ListN.{take, drop}
 use Rattle.holding.specs.Bounds.{every}
 use Rattle.holding.specs.Testing.{stripsFit}
 use Rattle.holding.proofs.Fitting.{strip-fit}

@@ -1,12 +1,7 @@
 -- `holding::strips_fit::strips_fit` meets its contract. The loop's invariant: the strips passed fit. Assumes nothing.
-use mathlib.Core.Path.{_≡_, sym, _∙_}
-use mathlib.Core.Bool.{true}
-use Prim.Native.Nat.{ℕ, _+_, _-_, _≤_}
+use Rattle.bits.proofs.Words.{_≡_, sym, _∙_, true, ℕ, _+_, _-_, _≤_, arith, needs, take, drop}
 use native.Mathlib.Nat.{sub-self}
-use native.Mathlib.Omega.{arith}
-use borrow.Author.Needs.{needs}
 use borrow.Author.Tests.{not-true, not-false}
-use lib.ListN.{take, drop}
 use Rattle.holding.specs.Bounds.{every}
 use Rattle.holding.specs.Testing.{stripFits, stripsFit}
 use Rattle.holding.proofs.Tests.{every-parts, every-fewer}

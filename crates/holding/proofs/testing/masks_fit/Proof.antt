@@ -1,8 +1,5 @@
 -- `holding::testing::masks_fit` meets its contract: the tests of masksFit one after the other. Assumes nothing.
-use mathlib.Core.Path.{sym, _∙_}
-use Prim.Native.Nat.{_+_, _^_}
-use native.Mathlib.Omega.{arith}
-use borrow.Author.Needs.{needs}
+use Rattle.bits.proofs.Words.{sym, _∙_, _+_, _^_, arith, needs}
 use borrow.Author.Tests.{lt-ltb, le-ltb, le-leb, lt-leb, not-true, not-false}
 use lib.Count.{ones, ones-le}
 use Rattle.holding.specs.Testing.{masksFit}

@@ -1,11 +1,7 @@
 -- `holding::testing::slot_fits` meets its contract: the tests of slotFits one after the other. Assumes nothing.
-use mathlib.Core.Path.{_≡_, sym, ap, _∙_}
-use Prim.Native.Nat.{ℕ, _+_, _-_}
-use native.Mathlib.Omega.{arith}
-use borrow.Author.Needs.{needs}
+use Rattle.bits.proofs.Words.{_≡_, sym, ap, _∙_, ℕ, _+_, _-_, arith, needs, getD, take, drop}
 use borrow.Author.Tests.{lt-ltb, le-ltb, not-true, not-false}
 use lib.Count.{ones, ones-le}
-use lib.ListN.{getD, take, drop}
 use Rattle.holding.specs.Testing.{stripsFit, slotFits}
 use Rattle.holding.proofs.Fitting.{few-with}
 use Rattle.holding.proofs.testing.slot_fits.Statement.{statement}

@@ -1,14 +1,8 @@
 -- `holding::testing::slots_empty` meets its contract. The loop's invariant: nothing is gathered just if the slots are empty from the i-th on.
 -- Assumes nothing.
-use mathlib.Core.Path.{_≡_, sym, _∙_}
-use mathlib.Core.Bool.{false}
-use Prim.Native.Nat.{suc, _-_, _^_, _≤_, _<_}
+use Rattle.bits.proofs.Words.{_≡_, sym, _∙_, false, suc, _-_, _^_, _≤_, _<_, arith, needs, eqb, length, getD, drop}
 use native.Mathlib.Nat.{sub-self}
-use native.Mathlib.Omega.{arith}
-use borrow.Author.Needs.{needs}
 use lib.Bits.{bitOr, or-lt}
-use lib.Dec.{eqb}
-use lib.ListN.{length, getD, drop}
 use Rattle.holding.specs.Testing.{emptySlots}
 use Rattle.holding.proofs.Fitting.{empty-slot}
 use Rattle.holding.proofs.Noughts.{gather-slot, flag-small}

@@ -1,17 +1,9 @@
 -- `holding::testing::slots_fit` meets its contract. The loop's invariant: the whole test is that of what is left, after the n satellites of the slots
 -- passed and the cells of their strips. Assumes nothing.
-use mathlib.Core.Path.{_≡_, sym, _∙_}
-use mathlib.Core.Bool.{false, _&&_}
-use mathlib.Core.List.{[]}
-use Prim.Native.Nat.{_+_, _-_, _≤_}
+use Rattle.bits.proofs.Words.{_≡_, sym, _∙_, false, _&&_, [], _+_, _-_, _≤_, add-one, arith, needs, eqb, leb, length, getD, take, drop}
 use native.Mathlib.Nat.{sub-zero}
-use native.Mathlib.Numerals.{add-one}
-use native.Mathlib.Omega.{arith}
-use borrow.Author.Needs.{needs}
 use borrow.Author.Tests.{eq-eqb, ne-eqb, not-true, not-false}
 use lib.Count.{ones}
-use lib.Dec.{eqb, leb}
-use lib.ListN.{length, getD, take, drop}
 use Rattle.format.specs.Lengths.{total}
 use Rattle.holding.specs.Building.{onesIn}
 use Rattle.holding.specs.Testing.{emptyStrips, emptySlots, slotsFit}

@@ -1,8 +1,5 @@
 -- `passing::give::word` meets its contract. Assumes nothing.
-use mathlib.Core.Path.{_∙_}
-use mathlib.Core.List.{[], _∷_}
-use Prim.Native.Nat.{_/_, _%_}
-use borrow.Author.Needs.{needs}
+use Rattle.bits.proofs.Words.{_∙_, [], _∷_, _/_, _%_, needs}
 use Rattle.bits.proofs.Lists.{stored-all}
 use Rattle.passing.proofs.Parts.{two-parts}
 use Rattle.passing.proofs.give.word.Statement.{statement}

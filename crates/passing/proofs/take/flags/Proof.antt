@@ -1,9 +1,5 @@
 -- `passing::take::flags` meets its contract. Assumes nothing.
-use mathlib.Core.Path.{sym, ap}
-use mathlib.Core.List.{List, map}
-use Prim.Native.Nat.{ℕ}
-use borrow.Author.Needs.{needs}
-use native.Mathlib.Omega.{arith}
+use Rattle.bits.proofs.Words.{sym, ap, List, map, ℕ, arith, needs}
 use Rattle.passing.specs.Passing.{truth}
 use Rattle.passing.proofs.Littles.{five}
 use Rattle.passing.proofs.take.flags.Statement.{statement}

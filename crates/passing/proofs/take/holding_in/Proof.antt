@@ -1,10 +1,7 @@
 -- `passing::take::holding_in` meets its contract. Assumes nothing.
-use mathlib.Core.Path.{_≡_, _∙_, sym}
-use mathlib.Core.Bool.{true, and-eq-true-iff}
-use borrow.Author.Needs.{needs}
+use Rattle.bits.proofs.Words.{_≡_, sym, _∙_, true, needs, leb, length}
+use mathlib.Core.Bool.{and-eq-true-iff}
 use borrow.Author.Tests.{leb-true}
-use lib.Dec.{leb}
-use lib.ListN.{length}
 use Rattle.passing.specs.Passing.{size, passes, holdingIn}
 use Rattle.passing.proofs.take.holding_in.Statement.{statement}
 use Rattle.passing.proofs.take.holding_in.Tie as tie

@@ -1,6 +1,5 @@
 -- `passing::take::long` meets its contract. Assumes nothing.
-use mathlib.Core.Path.{_∙_}
-use borrow.Author.Needs.{needs}
+use Rattle.bits.proofs.Words.{_∙_, needs}
 use Rattle.passing.proofs.Littles.{long-at}
 use Rattle.passing.proofs.take.long.Statement.{statement}
 use Rattle.passing.proofs.take.long.Tie as tie

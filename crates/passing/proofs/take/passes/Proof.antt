@@ -1,7 +1,5 @@
 -- `passing::take::passes` meets its contract. Assumes nothing.
-use lib.ListN.{length, getD}
-use native.Mathlib.Omega.{arith}
-use borrow.Author.Needs.{needs}
+use Rattle.bits.proofs.Words.{arith, needs, length, getD}
 use borrow.Author.Tests.{le-leb, lt-leb}
 use Rattle.passing.specs.Passing.{size, passes}
 use Rattle.passing.proofs.take.passes.Statement.{statement}

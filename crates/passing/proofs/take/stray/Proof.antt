@@ -1,8 +1,5 @@
 -- `passing::take::stray` meets its contract. Assumes nothing.
-use mathlib.Core.Path.{_∙_, ap}
-use borrow.Author.Needs.{needs}
-use mathlib.Core.Bool.{false}
-use native.Mathlib.Omega.{arith}
+use Rattle.bits.proofs.Words.{ap, _∙_, false, arith, needs}
 use Rattle.holding.specs.declared.Holding.{Holding}
 use Rattle.holding.specs.Building.{withSystem}
 use Rattle.holding.specs.Pictures.{pictureOf}

@@ -1,11 +1,6 @@
 -- `passing::take::strips` meets its contract. The loop's invariant: the strips passed are the numbers in their bytes. Assumes nothing.
-use mathlib.Core.Path.{_≡_, refl, sym, ap, _∙_}
-use mathlib.Core.List.{List}
-use Prim.Native.Nat.{ℕ, _-_, _*_, _≤_}
-use native.Mathlib.Numerals.{add-one}
-use native.Mathlib.Omega.{arith}
-use borrow.Author.Needs.{needs}
-use lib.ListN.{length, take, drop, length-set}
+use Rattle.bits.proofs.Words.{_≡_, refl, sym, ap, _∙_, List, ℕ, _-_, _*_, _≤_, add-one, arith, needs, length, take, drop}
+use lib.ListN.{length-set}
 use lib.Seq.{take-suc-set, take-all, drop-drop}
 use Rattle.passing.specs.Bytes.{little, littles}
 use Rattle.passing.proofs.Littles.{littles-more}

@@ -1,7 +1,5 @@
 -- `passing::take::word` meets its contract. Assumes nothing.
-use native.Mathlib.Omega.{arith}
-use Prim.Native.Nat.{_+_}
-use borrow.Author.Needs.{needs}
+use Rattle.bits.proofs.Words.{_+_, arith, needs}
 use Rattle.passing.proofs.Littles.{word-at}
 use Rattle.passing.proofs.take.word.Statement.{statement}
 use Rattle.passing.proofs.take.word.Tie as tie

@@ -1,7 +1,5 @@
 -- `reader::message::adopted` meets its contract. Assumes nothing.
-use mathlib.Core.Path.{_∙_, ap}
-use native.Mathlib.Omega.{arith}
-use borrow.Author.Needs.{needs}
+use Rattle.bits.proofs.Words.{ap, _∙_, arith, needs}
 use Rattle.format.specs.Ends.{endFrom}
 use Rattle.holding.specs.declared.Holding.{Holding}
 use Rattle.reader.proofs.Adopted.{adopted-new, adopted-not}

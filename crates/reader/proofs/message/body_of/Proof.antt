@@ -1,10 +1,6 @@
 -- `reader::message::body_of` meets its contract. Assumes nothing.
-use mathlib.Core.Path.{_≡_, _∙_, sym, ap, subst, refl}
-use mathlib.Core.List.{List, flatten}
-use Prim.Native.Nat.{ℕ, _+_, _-_, _≤_}
-use native.Mathlib.Omega.{arith}
-use borrow.Author.Needs.{needs}
-use lib.ListN.{length}
+use Rattle.bits.proofs.Words.{_≡_, refl, sym, ap, _∙_, subst, List, ℕ, _+_, _-_, _≤_, arith, needs, length}
+use mathlib.Core.List.{flatten}
 use Rattle.body.proofs.Bodies.{lent-view, lent-well}
 use Rattle.format.specs.declared.Answer.the-variants as Answers
 use Rattle.format.specs.Masks.{Held}

@@ -1,9 +1,6 @@
 -- `reader::message::unopened` meets its contract. Assumes nothing.
-use mathlib.Core.Path.{sym, _∙_, refl}
-use Prim.Native.Nat.{_-_}
+use Rattle.bits.proofs.Words.{refl, sym, _∙_, _-_, arith, needs}
 use native.Mathlib.Nat.{le-refl}
-use native.Mathlib.Omega.{arith}
-use borrow.Author.Needs.{needs}
 use borrow.Author.Tests.{ne-eqb, leb-true}
 use Rattle.bits.proofs.Fields.{zero-part}
 use Rattle.reader.specs.Readings.{unopenedAt}

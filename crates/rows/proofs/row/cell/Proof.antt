@@ -1,13 +1,7 @@
 -- `rows::row::cell` meets its contract. Assumes nothing.
-use mathlib.Core.Path.{_≡_, sym, ap, _∙_}
+use Rattle.bits.proofs.Words.{_≡_, sym, ap, _∙_, List, _∷_, _≤_, arith, needs, eqb, ltb, ℤ}
 use mathlib.Core.Bool.{and-eq-true-iff}
-use mathlib.Core.List.{List, _∷_}
-use Prim.Native.Nat.{_≤_}
-use native.Mathlib.Omega.{arith}
-use borrow.Author.Needs.{needs}
 use borrow.Author.Tests.{eqb-true, ltb-true}
-use lib.Dec.{eqb, ltb}
-use lib.IntN.{ℤ}
 use mir.Facts.{toZ-ofZ}
 use mir.Syntax.{w32}
 use Rattle.rows.proofs.Cuts.{up-lt, values-pair}

@@ -1,9 +1,5 @@
 -- `rows::row::wide` meets its contract. Assumes nothing.
-use mathlib.Core.Path.{refl, ap, _∙_}
-use mathlib.Core.List.{List, _∷_}
-use Prim.Native.Nat.{ℕ, _+_, _-_, _%_}
-use borrow.Author.Needs.{needs}
-use lib.IntN.{ℤ}
+use Rattle.bits.proofs.Words.{refl, ap, _∙_, List, _∷_, ℕ, _+_, _-_, _%_, needs, ℤ}
 use mir.Facts.{toZ-ofZ}
 use mir.Syntax.{w32}
 use Rattle.rows.proofs.Cuts.{half-lt, moved-lt, values-wide}

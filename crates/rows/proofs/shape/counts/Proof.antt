@@ -1,7 +1,5 @@
 -- `rows::shape::counts` meets its contract. Assumes nothing.
-use Prim.Native.Nat.{_-_}
-use native.Mathlib.Omega.{arith}
-use borrow.Author.Needs.{needs}
+use Rattle.bits.proofs.Words.{_-_, arith, needs}
 use lib.Pow.{pow-pos}
 use Rattle.rows.specs.Shapes.{columnFor}
 use Rattle.rows.proofs.Columns.{one-up}

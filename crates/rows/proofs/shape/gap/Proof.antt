@@ -1,6 +1,5 @@
 -- `rows::shape::gap` meets its contract. Assumes nothing.
-use mathlib.Core.Path.{refl}
-use borrow.Author.Needs.{needs}
+use Rattle.bits.proofs.Words.{refl, needs}
 use Rattle.rows.specs.Shapes.{columnFor}
 use Rattle.rows.proofs.shape.gap.Statement.{statement}
 use Rattle.rows.proofs.shape.gap.Tie as tie

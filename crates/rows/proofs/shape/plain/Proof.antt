@@ -1,6 +1,5 @@
 -- `rows::shape::plain` meets its contract. Assumes nothing.
-use native.Mathlib.Omega.{arith}
-use borrow.Author.Needs.{needs}
+use Rattle.bits.proofs.Words.{arith, needs}
 use lib.Pow.{pow-pos}
 use Rattle.rows.specs.Shapes.{columnFor}
 use Rattle.rows.proofs.Columns.{one-up}

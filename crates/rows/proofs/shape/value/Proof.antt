@@ -1,8 +1,5 @@
 -- `rows::shape::value` meets its contract. Assumes nothing.
-use mathlib.Core.Path.{_≡_}
-use Prim.Native.Nat.{_+_, _^_, _<_}
-use native.Mathlib.Omega.{arith}
-use borrow.Author.Needs.{needs}
+use Rattle.bits.proofs.Words.{_≡_, _+_, _^_, _<_, arith, needs}
 use lib.Bits.{bitAnd}
 use lib.IntN.{_-ℤ_}
 use mir.Facts.{toZ-ofZ, toZ-pos}

@@ -1,6 +1,5 @@
 -- `rows::shape::width` meets its contract. Assumes nothing.
-use native.Mathlib.Omega.{arith}
-use borrow.Author.Needs.{needs}
+use Rattle.bits.proofs.Words.{arith, needs}
 use Rattle.format.specs.Rows.{shapeWidth}
 use Rattle.rows.specs.Shapes.{columnsOf}
 use Rattle.rows.proofs.Columns.{width-of}

@@ -1,6 +1,5 @@
 -- `rows::shapes::clock` meets its contract. Assumes nothing.
-use mathlib.Core.Path.{_∙_}
-use borrow.Author.Needs.{needs}
+use Rattle.bits.proofs.Words.{_∙_, needs}
 use Rattle.format.specs.Messages.{clockShape}
 use Rattle.rows.specs.Shapes.{shapeWith}
 use Rattle.rows.specs.Table.{shapes, listed, shapeAt, shapeIn}

@@ -1,7 +1,5 @@
 -- `rows::shapes::shape_of` meets its contract. Assumes nothing.
-use mathlib.Core.Path.{_∙_}
-use mathlib.Core.Bool.{true, false}
-use borrow.Author.Needs.{needs}
+use Rattle.bits.proofs.Words.{_∙_, true, false, needs}
 use Rattle.format.proofs.Tables.{NoneOf}
 use Rattle.rows.proofs.Laid.{iode-some}
 use Rattle.rows.proofs.Table.{last-made, orbit-made, gaps-made}

@@ -1,7 +1,5 @@
 -- `rows::shapes::width_in` meets its contract: which shape an arm makes, and so that it is formed and how wide it is. Assumes nothing.
-use mathlib.Core.Path.{_≡_, _∙_}
-use mathlib.Core.Bool.{true, false}
-use borrow.Author.Needs.{needs}
+use Rattle.bits.proofs.Words.{_≡_, _∙_, true, false, needs}
 use Rattle.format.specs.Messages.{clockShape, codeShape, phaseShape, packetShape}
 use Rattle.rows.specs.Table.{shapes, listed, shapeAt, shapeIn}
 use Rattle.format.proofs.Tables.{NoneOf}
