@@ -35,6 +35,6 @@ pub open-spec : {M : Type 1} → statement M
 unfolding openingBy opening
 open-spec =
     tie.close
-    (tie.spec (λ c. search needs) (λ c. search needs) (λ c. λ bs opens. rw (number-cut (opens .within) 12 _ (c .if1 .taken))) (λ c κs. search needs)
+    (tie.spec (λ c. search needs) (λ c. search needs) (λ c bs opens. rw (number-cut (opens .within) 12 _ (c .if1 .taken))) (λ c κs. search needs)
     (λ c. let r = c .before in λ bs opens. rw (number-end (opens .within) (both r opens) (omega arith), ne-eqb (r .within .result / 16) 4073 (c .if2 .taken)))
     (λ c. search needs) returns-3 returns-4)

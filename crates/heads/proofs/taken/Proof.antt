@@ -9,5 +9,5 @@ pub taken-spec : {M : Type 1} → statement M
 taken-spec =
     tie.close
     (tie.spec (λ c. search needs) (λ c. search needs) (λ c. search needs) (λ c. search needs)
-    (λ c. λ bs opens. ap Short (omega arith) ∙ sym (taken-short bs _ _ _ (omega arith))) (λ c κs. search needs)
-    (λ c. λ bs opens. ap Whole (c .within .ensures bs opens) ∙ sym (taken-whole bs _ _ _ (omega arith))))
+    (λ c bs opens. ap Short (omega arith) ∙ sym (taken-short bs _ _ _ (omega arith))) (λ c κs. search needs)
+    (λ c bs opens. ap Whole (c .within .ensures bs opens) ∙ sym (taken-whole bs _ _ _ (omega arith))))

@@ -53,7 +53,7 @@ unfolding endNamed known systemId
 read-id-spec =
     tie.close
     (tie.spec (λ c κs. (c .before .pre .1, omega arith, omega (arith, c .before .pre .1 .opens .within))) (λ c. search needs) (λ c. search needs)
-    (λ c. omega (arith, low c)) (λ c. search needs) (λ c. λ bs opens. sym (ends (c .before) opens ∙ rw (lt-leb (id (c .before)) 4 (c .if1 .taken))))
-    (λ c κs. search needs) (λ c. λ bs opens. sym (ends (p (c .before)) opens ∙ rw (is-known (c .before), is-named (c .before) ∙ c .if2 .taken)))
+    (λ c. omega (arith, low c)) (λ c. search needs) (λ c bs opens. sym (ends (c .before) opens ∙ rw (lt-leb (id (c .before)) 4 (c .if1 .taken))))
+    (λ c κs. search needs) (λ c bs opens. sym (ends (p (c .before)) opens ∙ rw (is-known (c .before), is-named (c .before) ∙ c .if2 .taken)))
     (λ c. let took = c .before .before .before in λ bs opens. sym (number-short (opens .within) 4 (first-taken opens 4 (took .taken .ensures) (c .before .taken2 .given .1)) _))
-    (λ c. λ bs opens. sym (ends (p (c .before)) opens ∙ rw (is-known (c .before), is-named (c .before) ∙ c .if2 .left))))
+    (λ c bs opens. sym (ends (p (c .before)) opens ∙ rw (is-known (c .before), is-named (c .before) ∙ c .if2 .left))))
