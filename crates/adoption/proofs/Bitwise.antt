@@ -1,15 +1,10 @@
 -- A mask from its last place on: what bits spread over it, and the mask without that place.
 -- Assumes nothing.
-use mathlib.Core.Path.{_≡_, refl, sym, ap, _∙_}
-use mathlib.Core.Bool.{Bool, true, false}
-use mathlib.Core.List.{List, [], _∷_, _++_, append-nil}
-use Prim.Native.Nat.{ℕ, zero, suc, _+_, _-_, _*_, _/_, _%_, _^_, _≤_, _<_}
+use Rattle.bits.proofs.Words.{_≡_, refl, sym, ap, _∙_, Bool, true, false, List, [], _∷_, _++_, ℕ, zero, suc, _+_, _-_, _*_, _/_, _%_, _^_, _≤_, _<_, add-one, arith, length, getD, drop}
+use mathlib.Core.List.{append-nil}
 use native.Mathlib.Nat.{add-zero, zero-add, suc-inj, pow-suc, mul-assoc, mul-comm}
-use native.Mathlib.Numerals.{add-one}
-use native.Mathlib.Omega.{arith}
 use lib.Bits.{bitAnd, and-step, and-self, and-le-l}
 use lib.Count.{ones, ones-step}
-use lib.ListN.{length, getD, drop}
 use Rattle.adoption.specs.Spreading.{withoutLast, ByFour}
 use Rattle.bits.proofs.BitLists.{number-lt, number-append, length-spell, spell-append}
 use Rattle.bits.specs.BitLists.{number, spell}

@@ -1,14 +1,10 @@
 -- The systems of a mask message one after the other: what the code knows of the holding that it fills, and what one more system makes of it. Assumes nothing.
-use mathlib.Core.Path.{_≡_, refl, sym, ap, subst, _∙_}
-use mathlib.Core.Bool.{Bool, true, cond}
-use mathlib.Core.List.{List, [], _∷_, _++_, append-nil, flatMap}
-use Prim.Native.Nat.{ℕ, suc, _+_, _-_, _^_, _≤_, _<_}
+use Rattle.bits.proofs.Words.{_≡_, refl, sym, ap, _∙_, subst, Bool, true, cond, List, [], _∷_, _++_, ℕ, suc, _+_, _-_, _^_, _≤_, _<_, arith, ltb, leb, length, take, drop}
+use mathlib.Core.List.{append-nil, flatMap}
 use native.Mathlib.Nat.{mod-eq-of-lt}
-use native.Mathlib.Omega.{arith}
 use borrow.Author.Tests.{lt-ltb, le-leb, lt-leb}
 use lib.Count.{ones}
-use lib.Dec.{leb, ltb}
-use lib.ListN.{length, take, drop, set, replicate, length-append, length-map}
+use lib.ListN.{set, replicate, length-append, length-map}
 use lib.Seq.{append-snoc, take-at, drop-at, sets}
 use Rattle.adoption.specs.Adoptions.{adoptionBy}
 use Rattle.adoption.specs.declared.Adoption.{Adoption}

@@ -1,13 +1,7 @@
 -- Where the parts of a system end, by the fields that the code took and by their tests. Assumes nothing.
-use mathlib.Core.Path.{_≡_, refl, sym, subst, _∙_}
-use mathlib.Core.Bool.{Bool, cond, not, _&&_}
-use mathlib.Core.List.{List}
-use Prim.Native.Nat.{ℕ, _+_, _-_, _*_, _^_, _≤_, _<_}
+use Rattle.bits.proofs.Words.{_≡_, refl, sym, _∙_, subst, Bool, cond, _&&_, not, List, ℕ, _+_, _-_, _*_, _^_, _≤_, _<_, arith, eqb, leb, length}
 use native.Mathlib.Nat.{add-zero}
-use native.Mathlib.Omega.{arith}
 use lib.Count.{ones}
-use lib.Dec.{leb, eqb}
-use lib.ListN.{length}
 use Rattle.adoption.specs.declared.cells.Masks.{Masks}
 use Rattle.adoption.specs.declared.cells.System as cells
 use Rattle.adoption.specs.declared.cells.System.the-variants.{Fine, Refused}

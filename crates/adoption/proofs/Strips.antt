@@ -1,16 +1,14 @@
 -- The strips of a system: where each comes from, how many ones it has, and the array that they are stored in. Assumes nothing.
-use mathlib.Core.Path.{_≡_, refl, sym, ap, ap₂, _∙_}
-use mathlib.Core.Bool.{Bool, true, false}
-use mathlib.Core.List.{List, [], _∷_, _++_, append-assoc}
-use Prim.Native.Nat.{ℕ, zero, suc, _+_, _-_, _*_, _/_, _%_, _^_, _≤_, _<_}
+use Rattle.bits.proofs.Words.{_≡_, refl, sym, ap, ap₂, _∙_, Bool, true, false, cond, List, [], _∷_, _++_, ℕ, zero, suc, _+_, _-_, _*_, _/_, _%_, _^_, _≤_, _<_, arith, ltb, length, take, drop}
+use mathlib.Core.List.{append-assoc}
 use native.Mathlib.Nat.{le-of-suc-le-suc, suc-mul, mul-le-mul, add-comm, mod-eq-of-lt}
-use native.Mathlib.Omega.{arith}
+use borrow.Author.Tests.{ltb-true}
 use lib.Count.{ones, ones-le}
-use lib.ListN.{length, take, drop, set, replicate, length-drop, length-set, length-replicate, replicate-append-replicate, take-append-drop}
+use lib.ListN.{set, replicate, length-drop, length-set, length-replicate, replicate-append-replicate, take-append-drop}
 use lib.Seq.{drop-at, drop-drop, sets, sets-eq}
 use Rattle.adoption.specs.declared.cells.Masks.{Masks}
 use Rattle.adoption.specs.declared.grow.Window.{Window}
-use Rattle.adoption.specs.Growing.{Sees}
+use Rattle.adoption.specs.Growing.{Sees, windowOf, windowFor}
 use Rattle.adoption.specs.Spreading.{stripOf}
 use Rattle.adoption.specs.Stages.{cellBits, systemAt}
 use Rattle.bits.proofs.BitLists.{number-spell, length-bits}
@@ -46,6 +44,16 @@ strips-front (suc n) signals l room =
     let e : suc n * w ≡ w + n * w = suc-mul n w ∙ add-comm (n * w) w in
     let fewer : n * w ≤ length (drop w l) = rw length-drop (omega (arith, e)) in
     rw (strip-front signals l 0 (suc n * w) (omega (arith, e)), e, drop-take w (n * w) l (omega (arith, e)), strips-front n signals (drop w l) fewer)
+
+-- the window for those at a place has them
+pub window-sees : (bs : List ℕ) (last : Window) (at w : ℕ) {window : Window} → w ≤ 16 → Sees bs last at → window ≡ windowFor last bs at w
+    → Sees bs window at × (at - window .from + w < 64)
+unfolding windowFor
+window-sees bs last at w few sees e = rw e (go (ltb (at - last .from + w) 64) refl)
+  where
+    go : (b : Bool) → ltb (at - last .from + w) 64 ≡ b → let window = cond b last (windowOf bs at) in Sees bs window at × (at - window .from + w < 64)
+    go true fits = (sees, ltb-true _ 64 fits)
+    go false past = (record { before = omega arith; bits = refl }, omega arith)
 
 -- those at a place, cut out of a window
 pub seen-field : (bs : List ℕ) (window : Window) (at w n : ℕ) → Sees bs window at → at - window .from + w < 64 → n ≡ window .bits / 2 ^ (64 - (at - window .from) - w) % 2 ^ w → n ≡ field bs at w

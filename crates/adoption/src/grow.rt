@@ -4,7 +4,7 @@ ghost use Prim.Native.Nat.{_+_, _-_, _*_, _^_, _≤_, _<_};
 ghost use lib.Count.{ones};
 ghost use lib.ListN.{length, drop, replicate};
 ghost use lib.Seq.{sets};
-ghost use Rattle.adoption.specs.Growing.{Sees};
+ghost use Rattle.adoption.specs.Growing.{windowFor};
 ghost use Rattle.adoption.specs.Stages.{cellBits, systemAt};
 ghost use Rattle.bits.specs.BitLists.{spell, bits};
 ghost use Rattle.holding.specs.Building.{onesIn};
@@ -25,8 +25,8 @@ struct Window {
 
 // A window that has the w bits at a place: the one that was read last, where it has them all.
 fn window_for(last: Window, bytes: &[u8], at: usize, w: usize) -> Window
-    requires { ⌜ (w ≤ 16) × (at < 2 ^ 33) × Sees (now bytes) last at ⌝ }
-    ensures { λ r. ⌜ Sees (now (bytes .entry)) r at × (at - r .from + w < 64) ⌝ }
+    requires { ⌜ (w ≤ 16) × (at < 2 ^ 33) × (last .from ≤ at) ⌝ }
+    ensures { λ r. ⌜ r ≡ windowFor last (now (bytes .entry)) at w ⌝ }
 {
     if at - last.from + w < 64 {
         return last;

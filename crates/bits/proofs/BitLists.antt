@@ -1,14 +1,10 @@
 -- Laws of bit lists: a number and its spelling, a byte string and its bits.
 -- Assumes nothing.
-use mathlib.Core.Path.{_≡_, refl, sym, ap, ap₂, _∙_}
-use mathlib.Core.Bool.{Bool, true, false}
-use mathlib.Core.List.{List, [], _∷_, _++_, append-assoc}
-use Prim.Native.Nat.{ℕ, zero, suc, _+_, _-_, _*_, _/_, _%_, _^_, _<_}
+use Rattle.bits.proofs.Words.{_≡_, refl, sym, ap, ap₂, _∙_, Bool, true, false, List, [], _∷_, _++_, ℕ, zero, suc, _+_, _-_, _*_, _/_, _%_, _^_, _<_, arith, eqb, length, getD, take, drop}
+use mathlib.Core.List.{append-assoc}
 use native.Mathlib.Nat.{add-mul-div-right, zero-add, add-zero, suc-add, add-comm, add-mul, mul-assoc, pow-suc, mod-lt, mod-eq-of-lt, le-of-suc-le-suc}
 use native.Mathlib.Numerals.{one-add}
-use native.Mathlib.Omega.{arith}
-use lib.Dec.{eqb}
-use lib.ListN.{length, getD, take, drop, length-append, length-drop, take-append-drop}
+use lib.ListN.{length-append, length-drop, take-append-drop}
 use lib.Seq.{take-at, drop-at, length-take-le}
 use lib.Pow.{high, pow-pos, pow-add, shr-shr, mod-pow-add}
 use Rattle.bits.specs.BitLists.{digit, number, spell, bits, bytes}

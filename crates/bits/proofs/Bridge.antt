@@ -1,15 +1,9 @@
 -- The bridge between places and bit lists: the bit at a place, and w bits at a place.
 -- Assumes nothing.
-use mathlib.Core.Path.{_≡_, refl, sym, ap, _∙_}
-use mathlib.Core.Bool.{Bool, false}
-use mathlib.Core.List.{List, [], _∷_, _++_}
-use Prim.Native.Nat.{ℕ, zero, suc, _+_, _-_, _*_, _/_, _%_, _^_, _≤_, _<_}
+use Rattle.bits.proofs.Words.{_≡_, refl, sym, ap, _∙_, Bool, false, List, [], _∷_, _++_, ℕ, zero, suc, _+_, _-_, _*_, _/_, _%_, _^_, _≤_, _<_, add-one, arith, eqb, length, getD, take, drop}
 use native.Mathlib.Nat.{mod-eq-of-lt, zero-add, zero-div}
-use native.Mathlib.Numerals.{add-one}
 use native.Mathlib.Decide.{decLt}
-use native.Mathlib.Omega.{arith}
-use lib.Dec.{eqb}
-use lib.ListN.{length, getD, take, drop, length-drop, List·getD-append}
+use lib.ListN.{length-drop, List·getD-append}
 use lib.Seq.{take-suc, getD-drop, getD-append-add}
 use Rattle.bits.specs.Places.{bitAt, field}
 use Rattle.bits.specs.BitLists.{number, spell, bits}

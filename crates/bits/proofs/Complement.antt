@@ -1,15 +1,13 @@
 -- Two's complement: both ways are inverse to each other on their ranges, over the width; and the shifts and the sum by which code goes them.
 -- An integer is in the range of w bits where twice its magnitude (`mag`: n for n and for -(n + 1)) is below 2 ^ w.
 -- Assumes nothing.
-use mathlib.Core.Path.{_≡_, refl, ap, _∙_}
-use mathlib.Core.Bool.{true, false, false≢true}
-use Prim.Native.Nat.{ℕ, suc, _+_, _-_, _*_, _%_, _^_, _≤_, _<_}
+use Rattle.bits.proofs.Words.{_≡_, refl, ap, _∙_, true, false, ℕ, suc, _+_, _-_, _*_, _%_, _^_, _≤_, _<_, arith, ℤ, pos}
+use mathlib.Core.Bool.{false≢true}
 use native.Mathlib.Nat.{pow-suc, mod-eq-of-lt, add-mod-right}
 use native.Mathlib.Decide.{decLt}
-use native.Mathlib.Omega.{arith}
 use borrow.Author.Tests.{lt-ltb, le-ltb, ltb-true}
 use lib.Dec.{T}
-use lib.IntN.{natAbs, ℤ, pos, negsuc, _+ℤ_, _-ℤ_}
+use lib.IntN.{natAbs, negsuc, _+ℤ_, _-ℤ_}
 use lib.Pow.{pow-mono}
 use lib.Signed.{mag, ltZ, nonNeg}
 use mir.Facts.{toZ-ofZ, toZ-pos, sfits-widen}

@@ -1,11 +1,8 @@
 -- Laws of fields by place: a field's bound, a field cut in two, a byte as a field of 8, a field of the string from a byte on.
 -- Assumes nothing.
-use mathlib.Core.Path.{_≡_, refl, sym, ap, _∙_}
-use mathlib.Core.List.{List}
-use Prim.Native.Nat.{ℕ, zero, suc, _+_, _-_, _*_, _/_, _%_, _^_, _≤_, _<_}
+use Rattle.bits.proofs.Words.{_≡_, refl, sym, ap, _∙_, List, ℕ, zero, suc, _+_, _-_, _*_, _/_, _%_, _^_, _≤_, _<_, arith, length, getD, drop}
 use native.Mathlib.Nat.{zero-mul, zero-div, add-zero, add-suc, add-assoc, pow-zero, pow-suc, mod-lt, mul-assoc}
-use native.Mathlib.Omega.{arith}
-use lib.ListN.{length, getD, drop, List·getD-eq-default}
+use lib.ListN.{List·getD-eq-default}
 use lib.Seq.{getD-drop}
 use lib.Pow.{shr-shr, shl-shr}
 use Rattle.bits.specs.Places.{bitAt, field}

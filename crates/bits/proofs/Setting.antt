@@ -1,13 +1,9 @@
 -- Laws of setting bits: what was set is there, every other bit and the length are as they were, setting what is there changes nothing,
 -- one setting after another is one, and a setting within a part. Assumes nothing.
-use mathlib.Core.Path.{_≡_, refl, sym, ap, _∙_}
-use mathlib.Core.Bool.{Bool, false}
-use mathlib.Core.List.{List, [], _∷_, _++_, append-assoc}
-use Prim.Native.Nat.{ℕ, zero, suc, _+_, _-_, _*_, _^_, _≤_, _<_}
+use Rattle.bits.proofs.Words.{_≡_, refl, sym, ap, _∙_, Bool, false, List, [], _∷_, _++_, ℕ, zero, suc, _+_, _-_, _*_, _^_, _≤_, _<_, arith, eqb, length, getD, take, drop}
+use mathlib.Core.List.{append-assoc}
 use native.Mathlib.Nat.{add-zero, zero-add, suc-add, add-assoc, mod-eq-of-lt, lt-of-lt-of-le}
-use native.Mathlib.Omega.{arith}
-use lib.Dec.{eqb}
-use lib.ListN.{length, getD, take, drop, length-append, length-take, length-drop, take-append-drop}
+use lib.ListN.{length-append, length-take, length-drop, take-append-drop}
 use lib.Pow.{pow-mono}
 use lib.Seq.{take-at, drop-at, drop-drop, length-take-le, getD-take, getD-drop, drop-append-add, take-append-add, take-append-le, drop-append-le}
 use Rattle.bits.specs.Places.{bitAt, field}

@@ -1,12 +1,8 @@
 -- When a field is whole, and by how much it is short. Assumes nothing.
-use mathlib.Core.Path.{_≡_, refl}
-use mathlib.Core.Bool.{cond, false≢true}
-use mathlib.Core.List.{List, [], _∷_}
-use Prim.Native.Nat.{ℕ, zero, suc, _+_, _-_, _≤_, _<_}
+use Rattle.bits.proofs.Words.{_≡_, refl, cond, List, [], _∷_, ℕ, zero, suc, _+_, _-_, _≤_, _<_, arith, ltb}
+use mathlib.Core.Bool.{false≢true}
 use native.Mathlib.Nat.{suc-pred-eq-of-pos}
 use native.Mathlib.Decide.{decLt}
-use native.Mathlib.Omega.{arith}
-use lib.Dec.{ltb}
 use borrow.Author.Tests.{lt-ltb, le-ltb}
 use Rattle.bits.specs.Places.{field}
 use Rattle.bits.specs.Short.{missing, unlessShort, takenAt, bitsOf, shortBy, widthsOf}

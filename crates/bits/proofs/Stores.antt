@@ -1,13 +1,10 @@
 -- A window stored back: its eight bytes, set one after the other as far as the string goes, set its 64 bits; and a field set is the window with that field
 -- replaced, stored back. Assumes nothing.
-use mathlib.Core.Path.{_≡_, refl, sym, ap, ap₂, subst, _∙_}
-use mathlib.Core.Bool.{Bool}
-use mathlib.Core.List.{List, [], _∷_, _++_, append-assoc}
-use Prim.Native.Nat.{ℕ, zero, suc, _+_, _-_, _*_, _/_, _%_, _^_, _≤_, _<_}
+use Rattle.bits.proofs.Words.{_≡_, refl, sym, ap, ap₂, _∙_, subst, Bool, List, [], _∷_, _++_, ℕ, zero, suc, _+_, _-_, _*_, _/_, _%_, _^_, _≤_, _<_, arith, length, getD, take, drop}
+use mathlib.Core.List.{append-assoc}
 use native.Mathlib.Nat.{div-one, add-zero, add-suc, suc-add, le-of-suc-le-suc, zero-add, add-mul, mod-lt, mod-eq-of-lt}
 use native.Mathlib.Decide.{decLt}
-use native.Mathlib.Omega.{arith}
-use lib.ListN.{length, getD, take, drop, set, length-append, length-drop, take-append-drop}
+use lib.ListN.{set, length-append, length-drop, take-append-drop}
 use lib.Pow.{split, pow-pos, pow-add, shr-shr, shr-lt}
 use lib.Arith.{digits-lt}
 use lib.Seq.{take-at, drop-at, take-all, drop-drop, length-take-le, take-append-le, drop-append-le, drop-append-add, sets}

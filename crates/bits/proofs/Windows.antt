@@ -1,12 +1,8 @@
 -- A window is a field of 64 bits that starts with a byte: it is eight bytes joined, and each field that lies in it is cut out of it.
 -- Assumes nothing.
-use mathlib.Core.Path.{_≡_, sym, ap, _∙_}
-use mathlib.Core.List.{List}
-use Prim.Native.Nat.{ℕ, _+_, _-_, _*_, _/_, _%_, _^_, _≤_, _<_}
+use Rattle.bits.proofs.Words.{_≡_, sym, ap, _∙_, List, ℕ, _+_, _-_, _*_, _/_, _%_, _^_, _≤_, _<_, arith, length, getD}
 use native.Mathlib.Nat.{mul-add, mul-mod-left, mul-assoc, add-mul, one-mul, mod-eq-of-lt}
-use native.Mathlib.Omega.{arith}
 use lib.Bits.{bitOr, or-shifted}
-use lib.ListN.{length, getD}
 use lib.Pow.{high, low, pow-pos, pow-add, shr-shr, shl-shr, mod-pow-add, shl-lt}
 use lib.Pow as Pow
 use Rattle.bits.specs.Places.{field}

@@ -1,16 +1,10 @@
 -- The lines of a body under a sound holding: how many they are, how wide, and that each makes eight numbers.
 -- Assumes nothing.
-use mathlib.Core.Path.{_≡_, refl, sym, ap, ap₂, _∙_}
-use mathlib.Core.Bool.{Bool, true, false}
-use mathlib.Core.List.{List, [], _∷_, map}
-use Prim.Native.Nat.{ℕ, zero, suc, _+_, _-_, _*_, _/_, _^_, _≤_, _<_}
+use Rattle.bits.proofs.Words.{_≡_, refl, sym, ap, ap₂, _∙_, Bool, true, false, List, [], _∷_, map, ℕ, zero, suc, _+_, _-_, _*_, _/_, _^_, _≤_, _<_, arith, ltb, length, take, ℤ, pos}
 use native.Mathlib.Nat.{mul-comm, le-of-suc-le-suc}
-use native.Mathlib.Omega.{arith}
 use borrow.Author.Tests.{ltb-true}
 use lib.Count.{ones}
-use lib.Dec.{ltb}
-use lib.IntN.{ℤ, pos}
-use lib.ListN.{length, take, length-map, length-append}
+use lib.ListN.{length-map, length-append}
 use lib.Seq.{length-take-le}
 use Rattle.bits.specs.BitLists.{spell}
 use Rattle.format.proofs.Bodies.{none, more}

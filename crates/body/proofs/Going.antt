@@ -1,11 +1,8 @@
 -- A loop that writes rows into a lent part: what the part shall hold at the end is its first numbers as they are, then the rows that are left, then its
 -- old numbers. Assumes nothing.
-use mathlib.Core.Path.{_≡_, refl, sym, ap, ap₂, _∙_, subst}
-use mathlib.Core.List.{List, [], _∷_, _++_, append-assoc, append-nil, flatten}
-use Prim.Native.Nat.{ℕ, _+_, _-_, _*_, _^_, _≤_, _<_}
-use native.Mathlib.Omega.{arith}
-use lib.IntN.{ℤ}
-use lib.ListN.{length, take, drop, length-append, length-take, length-drop, take-append-drop, drop-of-length-le}
+use Rattle.bits.proofs.Words.{_≡_, refl, sym, ap, ap₂, _∙_, subst, List, [], _∷_, _++_, ℕ, _+_, _-_, _*_, _^_, _≤_, _<_, arith, length, take, drop, ℤ}
+use mathlib.Core.List.{append-assoc, append-nil, flatten}
+use lib.ListN.{length-append, length-take, length-drop, take-append-drop, drop-of-length-le}
 use lib.Seq.{take-all, drop-drop, take-append-seam, drop-append-seam, take-append-add, drop-append-add, length-take-le}
 use Rattle.body.specs.declared.End.{End}
 use Rattle.rows.specs.At.{valuesAt, rowsAt}

@@ -1,12 +1,9 @@
 -- The lines of a body satellite by satellite: of one satellite and the others, of one slot and the others, those that are chosen, and how long they are.
 -- Assumes nothing.
-use mathlib.Core.Path.{_≡_, refl, sym, ap, _∙_}
-use mathlib.Core.Bool.{Bool, true, false}
-use mathlib.Core.List.{List, [], _∷_, _++_, map-append, flatten}
-use Prim.Native.Nat.{ℕ, suc, _+_, _*_, _%_, _^_, _≤_, _<_}
+use Rattle.bits.proofs.Words.{_≡_, refl, sym, ap, _∙_, Bool, true, false, List, [], _∷_, _++_, ℕ, suc, _+_, _*_, _%_, _^_, _≤_, _<_, arith, length, getD, drop}
+use mathlib.Core.List.{map-append, flatten}
 use native.Mathlib.Nat.{le-of-suc-le-suc}
-use native.Mathlib.Omega.{arith}
-use lib.ListN.{length, drop, getD, length-map}
+use lib.ListN.{length-map}
 use lib.Seq.{drop-cons, drop-nil, drop-drop}
 use Rattle.bits.specs.BitLists.{spell}
 use Rattle.format.specs.Masks.{Satellite, pick}

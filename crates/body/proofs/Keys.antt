@@ -1,8 +1,5 @@
 -- A row's key as the code makes it of an unsigned number. Assumes nothing.
-use mathlib.Core.Path.{_≡_, ap, _∙_}
-use mathlib.Core.List.{List, _∷_}
-use Prim.Native.Nat.{ℕ, _^_, _<_}
-use lib.IntN.{ℤ, pos}
+use Rattle.bits.proofs.Words.{_≡_, ap, _∙_, List, _∷_, ℕ, _^_, _<_, ℤ, pos}
 use mir.Facts.{toZ-pos}
 use mir.Syntax.{w32}
 use mir.Val.{toZ}

@@ -1,8 +1,6 @@
 -- A selection moved up by one for each satellite passed. Assumes nothing.
-use mathlib.Core.Path.{_≡_, sym, ap, _∙_}
-use Prim.Native.Nat.{ℕ, suc, _-_, _*_, _%_, _^_, _≤_, _<_}
+use Rattle.bits.proofs.Words.{_≡_, sym, ap, _∙_, ℕ, suc, _-_, _*_, _%_, _^_, _≤_, _<_, arith}
 use native.Mathlib.Nat.{pow-suc, mul-assoc, mul-one, mod-eq-of-lt, sub-zero}
-use native.Mathlib.Omega.{arith}
 
 -- of all satellites some are left, and the selection was moved up by the others
 pub record Moved (chosen all left marks : ℕ) : Type 0 where

@@ -1,12 +1,7 @@
 -- Picking by the bits of a 64-bit selection: its first bit, the selection moved up, all of it, and how many it picks. Assumes nothing.
-use mathlib.Core.Path.{_≡_, refl, sym, ap, _∙_}
-use mathlib.Core.Bool.{Bool}
-use mathlib.Core.List.{List, [], _∷_, _++_}
-use Prim.Native.Nat.{ℕ, _+_, _-_, _*_, _/_, _%_, _^_, _≤_, _<_}
+use Rattle.bits.proofs.Words.{_≡_, refl, sym, ap, _∙_, Bool, List, [], _∷_, _++_, ℕ, _+_, _-_, _*_, _/_, _%_, _^_, _≤_, _<_, arith, length, take, drop}
 use native.Mathlib.Nat.{mul-mod-left, mod-lt}
-use native.Mathlib.Omega.{arith}
 use lib.Count.{ones}
-use lib.ListN.{length, take, drop}
 use lib.Pow.{pow-pos, split, shl-shr, mod-pow-add, shr-lt}
 use lib.Seq.{take-at}
 use Rattle.bits.proofs.BitLists.{length-spell, spell-low, spell-append}

@@ -1,14 +1,10 @@
 -- How many bits and rows the chosen satellites of slots have. Assumes nothing.
-use mathlib.Core.Path.{_≡_, refl, sym, ap, _∙_}
-use mathlib.Core.Bool.{Bool, true, false, cond}
-use mathlib.Core.List.{List, [], _∷_, map}
-use Prim.Native.Nat.{ℕ, suc, _+_, _-_, _*_, _/_, _%_, _^_, _≤_, _<_}
+use Rattle.bits.proofs.Words.{_≡_, refl, sym, ap, _∙_, Bool, true, false, cond, List, [], _∷_, map, ℕ, zero, suc, _+_, _-_, _*_, _/_, _%_, _^_, _≤_, _<_, arith, eqb, length, getD, drop}
 use native.Mathlib.Nat.{add-mul, mul-comm, mul-suc, mul-zero, suc-mul, zero-mul}
-use native.Mathlib.Omega.{arith}
 use lib.Count.{ones, ones-le}
-use lib.Dec.{eqb}
 use lib.Pow.{shr-le}
-use lib.ListN.{length, getD, length-map}
+use lib.ListN.{length-map}
+use lib.Seq.{drop-cons, drop-length}
 use Rattle.bits.specs.BitLists.{spell}
 use Rattle.format.proofs.Lengths.{satellite-width, total-append, total-same}
 use Rattle.format.specs.Lengths.{total}
@@ -18,7 +14,7 @@ use Rattle.format.specs.Rows.{Column, Line, shapeWidth, bodyWidth}
 use Rattle.holding.specs.Held.{satellitesIn, slotSatellites}
 use Rattle.rows.proofs.Table.{width-at, width-by}
 use Rattle.rows.specs.Table.{shapeAt}
-use Rattle.body.specs.Chosen.{galileo, galileos, alone, chosenLines}
+use Rattle.body.specs.Chosen.{galileo, upToGalileo, galileos, alone, chosenLines}
 use Rattle.body.specs.Written.{Counts}
 use Rattle.body.proofs.Groups.{alone-chosen}
 use Rattle.body.proofs.Selected.{pick-split, picked}
@@ -90,6 +86,23 @@ pick-less f [] xs = omega arith
 pick-less f (b ∷ bits) [] = omega arith
 pick-less f (true ∷ bits) (x ∷ xs) = omega (arith, pick-less f bits xs)
 pick-less f (false ∷ bits) (x ∷ xs) = omega (arith, pick-less f bits xs)
+
+-- behind the last slot of Galileo there is none
+last-galileo : (ids : List ℕ) (n : ℕ) → n ≤ length ids → (upToGalileo ids n ≤ n) × (total galileo (drop (upToGalileo ids n) ids) ≡ total galileo (drop n ids))
+unfolding upToGalileo total
+last-galileo ids zero room = (omega arith, refl)
+last-galileo ids (suc n) room = go (eqb (getD ids n 0) 2) refl (last-galileo ids n (omega arith))
+  where
+    go : (b : Bool) → eqb (getD ids n 0) 2 ≡ b → (upToGalileo ids n ≤ n) × (total galileo (drop (upToGalileo ids n) ids) ≡ total galileo (drop n ids))
+        → let k = cond b (suc n) (upToGalileo ids n) in (k ≤ suc n) × (total galileo (drop k ids) ≡ total galileo (drop (suc n) ids))
+    go true e less = (omega arith, refl)
+    go false e less = (omega (arith, less .0), less .1 ∙ ap (total galileo) (drop-cons ids n 0 room) ∙ rw e (omega arith))
+
+pub past-galileo : (ids : List ℕ) {n : ℕ} → n ≡ upToGalileo ids (length ids) → (n ≤ length ids) × (total galileo (drop n ids) ≡ 0)
+unfolding total
+past-galileo ids e =
+    let past = last-galileo ids (length ids) (omega arith) in
+    rw e (past .0, past .1 ∙ ap (total galileo) (drop-length ids))
 
 -- slots of other systems have none
 other-slots : (ids masks : List ℕ) → total galileo ids ≡ 0 → galileos (slotSatellites ids masks) ≡ 0

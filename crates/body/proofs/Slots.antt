@@ -1,11 +1,7 @@
 -- The satellites of slots, one after the other, and the cells of a satellite. Assumes nothing.
-use mathlib.Core.Path.{_≡_, sym, ap, _∙_}
-use mathlib.Core.Bool.{true}
-use mathlib.Core.List.{List, [], _∷_, _++_}
-use Prim.Native.Nat.{ℕ, suc, _-_, _*_, _%_, _^_, _≤_, _<_}
-use native.Mathlib.Omega.{arith}
+use Rattle.bits.proofs.Words.{_≡_, sym, ap, _∙_, true, List, [], _∷_, _++_, ℕ, suc, _-_, _*_, _%_, _^_, _≤_, _<_, arith, length, getD, drop}
 use lib.Count.{ones, leadingZeros, ones-le}
-use lib.ListN.{length, getD, drop, length-map, drop-of-length-le}
+use lib.ListN.{length-map, drop-of-length-le}
 use lib.Pow.{pow-pos}
 use lib.Seq.{drop-cons}
 use Rattle.bits.specs.BitLists.{spell}

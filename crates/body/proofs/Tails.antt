@@ -1,12 +1,8 @@
 -- Rows read from a copy of a string's bytes from one on, with zeros behind them. Assumes nothing.
-use mathlib.Core.Path.{_≡_, refl, sym, ap, ap₂, _∙_}
-use mathlib.Core.List.{List, [], _∷_, _++_}
-use Prim.Native.Nat.{ℕ, zero, suc, _+_, _*_, _/_, _%_, _≤_, _<_}
+use Rattle.bits.proofs.Words.{_≡_, refl, sym, ap, ap₂, _∙_, List, [], _∷_, _++_, ℕ, zero, suc, _+_, _*_, _/_, _%_, _≤_, _<_, arith, length, getD, drop, ℤ}
 use native.Mathlib.Nat.{add-assoc}
 use native.Mathlib.Decide.{decLt}
-use native.Mathlib.Omega.{arith}
-use lib.IntN.{ℤ}
-use lib.ListN.{length, getD, drop, set, replicate, List·getD-eq-default}
+use lib.ListN.{set, replicate, List·getD-eq-default}
 use lib.Seq.{getD-drop, getD-set-same, getD-set-other}
 use Rattle.bits.proofs.Fields.{field-drop}
 use Rattle.bits.specs.Places.{bitAt, field}

@@ -1,12 +1,8 @@
 -- A loop over satellites of which a selection chooses some: its marks, moved up by one for each satellite passed, choose among those that are left.
 -- Assumes nothing.
-use mathlib.Core.Path.{_≡_, refl, ap, _∙_}
-use mathlib.Core.List.{List, [], _∷_, _++_, flatten}
-use Prim.Native.Nat.{ℕ, _+_, _-_, _*_, _%_, _^_, _≤_, _<_}
+use Rattle.bits.proofs.Words.{_≡_, refl, ap, _∙_, List, [], _∷_, _++_, ℕ, _+_, _-_, _*_, _%_, _^_, _≤_, _<_, arith, length, take, drop, ℤ}
+use mathlib.Core.List.{flatten}
 use native.Mathlib.Nat.{mod-lt}
-use native.Mathlib.Omega.{arith}
-use lib.IntN.{ℤ}
-use lib.ListN.{length, take, drop}
 use Rattle.bits.specs.BitLists.{spell}
 use Rattle.format.specs.Masks.{pick}
 use Rattle.format.specs.Reading.{over}

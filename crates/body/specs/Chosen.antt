@@ -1,8 +1,9 @@
 -- The lines of a body satellite by satellite, and those of the satellites that a selection chooses.
 use mathlib.Core.Bool.{cond}
 use mathlib.Core.List.{List, [], _∷_, map, flatten}
-use Prim.Native.Nat.{ℕ}
+use Prim.Native.Nat.{ℕ, zero, suc}
 use lib.Dec.{eqb}
+use lib.ListN.{getD}
 use Rattle.bits.specs.BitLists.{spell}
 use Rattle.format.specs.Lengths.{total}
 use Rattle.format.specs.Masks.{Satellite, Cell, placesFrom, pick}
@@ -18,6 +19,11 @@ satelliteOf sat = record { system = sat .system; number = sat .number }
 -- one for Galileo's ID, none for another's
 abbrev pub galileo : ℕ → ℕ
 galileo id = cond (eqb id 2) 1 0
+
+-- of the first n slots how many there are up to the last one of Galileo, none where it has none
+unfoldable pub upToGalileo : List ℕ → ℕ → ℕ
+upToGalileo ids zero = 0
+upToGalileo ids (suc n) = cond (eqb (getD ids n 0) 2) (suc n) (upToGalileo ids n)
 
 -- how many are Galileo's
 unfoldable pub galileos : List Satellite → ℕ

@@ -2,13 +2,12 @@
 ghost use mathlib.Core.Path.{_≡_};
 ghost use Prim.Native.Nat.{_-_, _*_, _/_, _^_, _≤_};
 ghost use lib.Count.{ones};
-ghost use lib.ListN.{length, drop};
+ghost use lib.ListN.{length};
 ghost use Rattle.bits.specs.BitLists.{spell};
 ghost use Rattle.body.specs.Asking.{aloneIn, Asks};
-ghost use Rattle.body.specs.Chosen.{galileo, galileos, alone, chosenLines};
+ghost use Rattle.body.specs.Chosen.{upToGalileo, galileos, alone, chosenLines};
 ghost use Rattle.body.specs.Lent.{Slots};
 ghost use Rattle.body.specs.Written.{numbersAt, Handed, Counts};
-ghost use Rattle.format.specs.Lengths.{total};
 ghost use Rattle.format.specs.Masks.{pick};
 ghost use Rattle.format.specs.Reading.{over};
 ghost use Rattle.format.specs.Rows.{shapeWidth};
@@ -123,7 +122,7 @@ pub fn size_alike(n: usize, width: usize, chosen: u64) -> Extent
 // How many slots there are up to the last one of Galileo, none where it has none: their IDs are seen sooner than the
 // satellites of a slot are counted.
 fn up_to_galileo(ids: &[u8]) -> usize
-    ensures { λ r. ⌜ (r ≤ length (now (ids .entry))) × (total galileo (drop r (now (ids .entry))) ≡ 0) ⌝ }
+    ensures { λ r. ⌜ r ≡ upToGalileo (now (ids .entry)) (length (now (ids .entry))) ⌝ }
 {
     let mut n = ids.len();
     while n > 0 {

@@ -1,11 +1,6 @@
 -- A reading by what opens its message: number and sub type, and then its kind; or refused before that, or idle. Assumes nothing.
-use mathlib.Core.Path.{_≡_, sym, _∙_}
-use mathlib.Core.Bool.{cond}
-use mathlib.Core.List.{List}
-use Prim.Native.Nat.{ℕ, _+_, _-_, _<_}
+use Rattle.bits.proofs.Words.{_≡_, sym, _∙_, cond, List, ℕ, _+_, _-_, _<_, arith, eqb}
 use native.Mathlib.Nat.{le-refl}
-use native.Mathlib.Omega.{arith}
-use lib.Dec.{eqb}
 use borrow.Author.Tests.{ne-eqb, eqb-true}
 use Rattle.bits.specs.Places.{field}
 use Rattle.bits.proofs.Fields.{field-lt, zero-part}

@@ -1,9 +1,6 @@
 -- A selection moved up to the front of 64 bits. Assumes nothing.
-use mathlib.Core.Path.{_≡_, sym, ap, _∙_}
-use mathlib.Core.List.{List}
-use Prim.Native.Nat.{ℕ, suc, _+_, _-_, _*_, _%_, _^_, _≤_, _<_}
+use Rattle.bits.proofs.Words.{_≡_, sym, ap, _∙_, List, ℕ, suc, _+_, _-_, _*_, _%_, _^_, _≤_, _<_, arith}
 use native.Mathlib.Nat.{pow-suc, mul-assoc, add-mul}
-use native.Mathlib.Omega.{arith}
 use lib.Pow.{shl-exact, shl-lt, pow-add}
 use Rattle.bits.specs.Places.{field}
 use Rattle.bits.proofs.Fields.{field-add, field-lt}

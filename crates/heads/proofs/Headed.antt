@@ -1,12 +1,5 @@
 -- Where crate format's programs of what a message says before its body end, each by what the code took. Assumes nothing.
-use mathlib.Core.Path.{_≡_, _∙_}
-use mathlib.Core.Bool.{Bool, true, false, not}
-use mathlib.Core.List.{List, [], _∷_}
-use Prim.Native.Nat.{ℕ, _+_, _-_, _/_, _%_, _≤_, _<_}
-use native.Mathlib.Omega.{arith}
-use lib.Dec.{eqb}
-use lib.IntN.{pos}
-use lib.ListN.{length, getD}
+use Rattle.bits.proofs.Words.{_≡_, _∙_, Bool, true, false, not, List, [], _∷_, ℕ, _+_, _-_, _/_, _%_, _≤_, _<_, arith, eqb, length, getD, pos}
 use borrow.Author.Tests.{eq-eqb, ne-eqb, le-ltb}
 use Rattle.bits.specs.BitLists.{spell}
 use Rattle.bits.specs.declared.read.Taken.the-variants as Taken

@@ -1,11 +1,6 @@
 -- Where crate format's program of what opens a message ends, by number and sub type as the code reads them: both at once, whether or not the second is there.
 -- Assumes nothing.
-use mathlib.Core.Path.{_≡_, ap, _∙_}
-use mathlib.Core.Bool.{cond}
-use mathlib.Core.List.{List}
-use Prim.Native.Nat.{ℕ, _+_, _-_, _/_, _%_, _≤_, _<_}
-use native.Mathlib.Omega.{arith}
-use lib.Dec.{eqb}
+use Rattle.bits.proofs.Words.{_≡_, ap, _∙_, cond, List, ℕ, _+_, _-_, _/_, _%_, _≤_, _<_, arith, eqb}
 use Rattle.bits.proofs.Fields.{field-add, field-lt}
 use Rattle.bits.specs.Places.{field}
 use Rattle.format.proofs.Ends.{done-end, test-end, onward, number-there, number-cut}

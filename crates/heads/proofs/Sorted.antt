@@ -1,12 +1,6 @@
 -- Reading a message by its sub type is crate format's reading: its opening, then its heading and body, or a mask. Assumes nothing.
-use mathlib.Core.Path.{_≡_, refl, ap, _∙_}
-use mathlib.Core.Bool.{Bool, true, false}
-use mathlib.Core.List.{List, []}
-use Prim.Native.Nat.{ℕ, zero, suc, _+_, _-_}
+use Rattle.bits.proofs.Words.{_≡_, refl, ap, _∙_, Bool, true, false, List, [], ℕ, zero, suc, _+_, _-_, eqb, take, ℤ}
 use native.Mathlib.Nat.{add-zero}
-use lib.Dec.{eqb}
-use lib.IntN.{ℤ}
-use lib.ListN.{take}
 use Rattle.format.specs.declared.Refusal.the-variants.{OtherIssue}
 use Rattle.format.specs.Ends.{Within, endFrom}
 use Rattle.format.specs.Masks.{Held, nothing, mask, lent, Sky, skyOf}

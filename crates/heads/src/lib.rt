@@ -70,7 +70,7 @@ pub fn front_at(bytes: &[u8], end: usize, start: usize) -> Front
 
 // The w bits behind the first ones of a front, whether or not the stretch has them.
 fn within(f: Front, first: usize, w: usize) -> u64
-    requires { ⌜ first + w < 56 ⌝ }
+    requires { ⌜ Opened f × (first + w < 56) ⌝ }
     ensures { λ r. ⌜ ((bs : List ℕ) → Opens bs f → r ≡ field bs (f .start + first) w) ⌝ }
 {
     cut(f.bits, ABOVE + first, w)
@@ -78,7 +78,7 @@ fn within(f: Front, first: usize, w: usize) -> u64
 
 // The same w bits, or how many of them lie past the stretch's end.
 pub fn taken(f: Front, first: usize, w: usize) -> Taken
-    requires { ⌜ (first + w < 56) × (f .start + first ≤ f .end) ⌝ }
+    requires { ⌜ Opened f × (first + w < 56) × (f .start + first ≤ f .end) ⌝ }
     ensures { λ r. ⌜ ((bs : List ℕ) → Opens bs f → r ≡ takenAt bs (f .end) (f .start + first) w) ⌝ }
 {
     let left = f.end - f.start;
@@ -96,7 +96,7 @@ pub enum Opening {
 
 // Both fields are cut at once, whether or not the second is there, and then parted.
 pub fn open(f: Front) -> Opening
-    requires { ⌜ f .start ≤ f .end ⌝ }
+    requires { ⌜ Opened f × (f .start ≤ f .end) ⌝ }
     ensures { λ r. ⌜ ((bs : List ℕ) → Opens bs f → r ≡ openingBy (endFrom Table.opening bs (f .end) (f .start))) ⌝ }
 {
     let left = f.end - f.start;

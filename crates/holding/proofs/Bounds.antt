@@ -1,13 +1,8 @@
 -- A bound of all numbers of a list or table, by one test: at an index, under a wider bound, of parts, of lists one after the other. Assumes nothing.
-use mathlib.Core.Path.{_≡_, refl}
-use mathlib.Core.Bool.{true}
-use mathlib.Core.List.{List, [], _∷_, _++_}
-use Prim.Native.Nat.{ℕ, zero, suc, _-_, _^_, _≤_, _<_}
+use Rattle.bits.proofs.Words.{_≡_, refl, true, List, [], _∷_, _++_, ℕ, zero, suc, _-_, _^_, _≤_, _<_, arith, ltb, length, getD, take, drop}
 use native.Mathlib.Nat.{le-of-suc-le-suc}
-use native.Mathlib.Omega.{arith}
 use borrow.Author.Tests.{ltb-true, lt-ltb}
-use lib.Dec.{ltb}
-use lib.ListN.{length, getD, take, drop, replicate}
+use lib.ListN.{replicate}
 use lib.Pow.{pow-pos}
 use Rattle.format.proofs.Sames.{and-true, true-and}
 use Rattle.holding.specs.Bounds.{below, narrow, every}

@@ -1,13 +1,9 @@
 -- One more system in a holding: its strips and its slot make the picture of the mask with it. Assumes nothing.
-use mathlib.Core.Path.{_≡_, refl, sym, ap, _∙_}
-use mathlib.Core.Bool.{true, false}
-use mathlib.Core.List.{List, [], _∷_, _++_, append-nil, map, map-append, flatMap}
-use Prim.Native.Nat.{ℕ, suc, _+_, _-_, _^_, _≤_, _<_}
+use Rattle.bits.proofs.Words.{_≡_, refl, sym, ap, _∙_, true, false, List, [], _∷_, _++_, map, ℕ, suc, _+_, _-_, _^_, _≤_, _<_, arith, ltb, length}
+use mathlib.Core.List.{append-nil, map-append, flatMap}
 use native.Mathlib.Nat.{suc-inj}
-use native.Mathlib.Omega.{arith}
 use borrow.Author.Tests.{ltb-true}
-use lib.Dec.{ltb}
-use lib.ListN.{length, set, replicate, length-append, length-map}
+use lib.ListN.{set, replicate, length-append, length-map}
 use lib.Seq.{append-snoc, set-at, sets}
 use Rattle.format.specs.Lengths.{total}
 use Rattle.bits.specs.BitLists.{number}

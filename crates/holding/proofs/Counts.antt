@@ -1,13 +1,7 @@
 -- How many cells some strips have: in parts, four at a time, and where the strips behind are not used. Assumes nothing.
-use mathlib.Core.Path.{_≡_, refl, ap, _∙_}
-use mathlib.Core.Bool.{true}
-use mathlib.Core.List.{List, [], _∷_}
-use Prim.Native.Nat.{ℕ, zero, suc, _+_, _-_, _*_, _^_, _≤_, _<_}
-use native.Mathlib.Omega.{arith}
+use Rattle.bits.proofs.Words.{_≡_, refl, ap, _∙_, true, List, [], _∷_, ℕ, zero, suc, _+_, _-_, _*_, _^_, _≤_, _<_, arith, eqb, length, getD, take, drop}
 use borrow.Author.Tests.{eqb-true}
 use lib.Count.{ones, ones-cat, ones-le}
-use lib.Dec.{eqb}
-use lib.ListN.{length, getD, take, drop}
 use lib.Seq.{take-add}
 use Rattle.format.specs.Lengths.{total}
 use Rattle.holding.specs.Bounds.{every}

@@ -1,15 +1,9 @@
 -- The tests of specs/Testing.antt, one strip or slot at a time. Assumes nothing.
-use mathlib.Core.Path.{_≡_, ap, _∙_}
-use mathlib.Core.Bool.{Bool, true, false, _&&_, not}
-use mathlib.Core.List.{List}
-use Prim.Native.Nat.{ℕ, suc, _+_, _-_, _^_, _≤_, _<_}
+use Rattle.bits.proofs.Words.{_≡_, ap, _∙_, Bool, true, false, _&&_, not, List, ℕ, suc, _+_, _-_, _^_, _≤_, _<_, add-one, arith, eqb, ltb, leb, length, getD, take, drop}
 use native.Mathlib.Nat.{add-zero, sub-self}
-use native.Mathlib.Numerals.{add-one}
-use native.Mathlib.Omega.{arith}
 use borrow.Author.Tests.{leb-true}
 use lib.Count.{ones}
-use lib.Dec.{eqb, leb, ltb}
-use lib.ListN.{length, getD, take, drop, length-drop}
+use lib.ListN.{length-drop}
 use lib.Seq.{take-suc, drop-cons, drop-drop, getD-drop}
 use Rattle.holding.specs.Bounds.{every}
 use Rattle.bits.specs.BitLists.{spell}

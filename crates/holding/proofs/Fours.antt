@@ -1,16 +1,10 @@
 -- Four strips at a time, as one number: specs/Testing.antt. Assumes nothing.
-use mathlib.Core.Path.{_≡_, refl, ap, _∙_}
+use Rattle.bits.proofs.Words.{_≡_, refl, ap, _∙_, Bool, true, false, cond, _&&_, List, [], _∷_, ℕ, _+_, _*_, _^_, _≤_, _<_, arith, eqb, length, getD, take, drop}
 use mathlib.Core.Bool as Bools
-use mathlib.Core.Bool.{Bool, true, false, cond, _&&_}
-use mathlib.Core.List.{List, [], _∷_}
-use Prim.Native.Nat.{ℕ, _+_, _*_, _^_, _≤_, _<_}
-use native.Mathlib.Numerals.{add-one}
-use native.Mathlib.Omega.{arith}
+use native.Mathlib.Nat.{add-zero}
 use borrow.Author.Tests.{eqb-true, eq-eqb}
 use lib.Bits.{bitAnd, and-block, and-lt}
-use lib.Dec.{eqb}
-use lib.ListN.{length, getD, take, drop}
-use lib.Seq.{drop-cons}
+use Rattle.bits.proofs.Lists.{elements, taken}
 use Rattle.holding.specs.Bounds.{every}
 use Rattle.format.proofs.Sames.{and-true, true-and}
 use Rattle.holding.specs.Testing.{four, stripFits, emptyStrips, stripsFit}
@@ -18,19 +12,10 @@ use Rattle.holding.proofs.Tests.{same-test}
 
 -- ---- the four
 
--- a strip and those behind it
-strip-at : (strips : List ℕ) (a b : ℕ) → a + 1 ≡ b → a < length strips → drop a strips ≡ getD strips a 0 ∷ drop b strips
-strip-at strips a b e inside = rw (← e, add-one a) (drop-cons strips a 0 inside)
-
 pub four-strips : (strips : List ℕ) (i : ℕ) → i + 4 ≤ length strips
     → take 4 (drop i strips) ≡ getD strips i 0 ∷ getD strips (i + 1) 0 ∷ getD strips (i + 2) 0 ∷ getD strips (i + 3) 0 ∷ []
-four-strips strips i room =
-    rw (
-      strip-at strips i (i + 1) refl (omega arith),
-      strip-at strips (i + 1) (i + 2) (omega arith) (omega arith),
-      strip-at strips (i + 2) (i + 3) (omega arith) (omega arith),
-      strip-at strips (i + 3) (i + 4) (omega arith) (omega arith),
-    )
+unfolding elements
+four-strips strips i room = rw add-zero at (taken 0 strips i 0 4 (omega arith))
 
 -- ---- tested at once
 

@@ -1,10 +1,7 @@
 -- How many bits the numbers of a good mask's picture have. Assumes nothing.
-use mathlib.Core.Path.{_≡_, refl, _∙_}
-use mathlib.Core.Bool.{Bool, true}
-use mathlib.Core.List.{List, [], _∷_, _++_, map, flatMap}
-use Prim.Native.Nat.{ℕ, zero, suc, _^_}
+use Rattle.bits.proofs.Words.{_≡_, refl, _∙_, Bool, true, List, [], _∷_, _++_, map, ℕ, zero, suc, _^_, length, drop}
+use mathlib.Core.List.{flatMap}
 use borrow.Author.Tests.{lt-ltb}
-use lib.ListN.{length, drop}
 use Rattle.bits.specs.BitLists.{number}
 use Rattle.format.proofs.Sames.{and-true, true-and}
 use Rattle.format.proofs.Steps.{field-lt}

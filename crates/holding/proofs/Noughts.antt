@@ -1,12 +1,8 @@
 -- Numbers gathered by OR, which is 0 just where each of them is. Assumes nothing.
-use mathlib.Core.Path.{_≡_, refl, sym, ap, _∙_}
-use mathlib.Core.Bool.{Bool, true, false, _&&_, not}
-use Prim.Native.Nat.{ℕ, zero, suc, _^_, _<_}
-use native.Mathlib.Omega.{arith}
+use Rattle.bits.proofs.Words.{_≡_, refl, sym, ap, _∙_, Bool, true, false, _&&_, not, ℕ, zero, suc, _^_, _<_, arith, eqb}
 use mir.Val.{boolByte}
 use borrow.Author.Tests.{ne-eqb}
 use lib.Bits.{bitOr, or-zero-l, or-add-and, and-le-r}
-use lib.Dec.{eqb}
 use Rattle.holding.proofs.Tests.{and-assoc, and-sorts}
 
 -- one more is gathered

@@ -1,14 +1,10 @@
 -- One slot of the struct: where it meets the test of specs/Testing.antt, it says a good system, and its strips are that system's. Assumes nothing.
-use mathlib.Core.Path.{_≡_, refl, sym, ap, ap₂, _∙_}
-use mathlib.Core.Bool.{Bool, true, false, cond, not}
-use mathlib.Core.List.{List, [], _∷_, _++_, map, map-append, flatMap}
-use Prim.Native.Nat.{ℕ, suc, _+_, _*_, _^_, _≤_, _<_}
+use Rattle.bits.proofs.Words.{_≡_, refl, sym, ap, ap₂, _∙_, Bool, true, false, cond, not, List, [], _∷_, _++_, map, ℕ, suc, _+_, _*_, _^_, _≤_, _<_, arith, eqb, ltb, leb, length, take}
+use mathlib.Core.List.{map-append, flatMap}
 use native.Mathlib.Nat.{suc-inj, suc-mul, mod-eq-of-lt}
-use native.Mathlib.Omega.{arith}
 use lib.Bits.{bitAnd}
 use lib.Count.{ones}
-use lib.Dec.{eqb, leb, ltb}
-use lib.ListN.{length, take, replicate, length-append}
+use lib.ListN.{replicate, length-append}
 use lib.Seq.{drop-at, length-take-le}
 use borrow.Author.Tests.{eqb-true, leb-true, ltb-true, eq-eqb, le-leb}
 use Rattle.bits.proofs.BitLists.{length-spell, number-spell}
@@ -20,7 +16,6 @@ use Rattle.format.specs.Masks.{System, placesFrom, pick, satellites, cells}
 use Rattle.format.specs.Messages.{named, idsOf}
 use Rattle.holding.specs.Building.{onesIn}
 use Rattle.holding.specs.Bounds.{narrow, every}
-use Rattle.format.specs.Messages.{named}
 use Rattle.holding.specs.Pictures.{stripsFrom, stripsOf, systemOf}
 use Rattle.holding.specs.Spread.{spread, within}
 use Rattle.holding.specs.Testing.{stripFits, stripsFit, masksFit, slotFits}

@@ -1,12 +1,8 @@
 -- A good holding and its picture: each says the other, and the test of a lent struct holds of just the pictures of good holdings. Assumes nothing.
-use mathlib.Core.Path.{_≡_, refl, ap, ap₂, _∙_}
-use mathlib.Core.Bool.{Bool, true, false, cond}
-use mathlib.Core.List.{List, [], _∷_, _++_, append-assoc, flatMap, map}
-use Prim.Native.Nat.{ℕ, zero, suc, _+_, _*_}
+use Rattle.bits.proofs.Words.{_≡_, refl, ap, ap₂, _∙_, Bool, true, false, cond, List, [], _∷_, _++_, map, ℕ, zero, suc, _+_, _*_, arith, ltb, length, drop}
+use mathlib.Core.List.{append-assoc, flatMap}
 use native.Mathlib.Nat.{suc-mul}
-use native.Mathlib.Omega.{arith}
-use lib.Dec.{ltb}
-use lib.ListN.{length, drop, replicate, length-drop, take-append-drop}
+use lib.ListN.{replicate, length-drop, take-append-drop}
 use lib.Seq.{take-at, drop-at}
 use Rattle.bits.specs.BitLists.{number, spell}
 use Rattle.format.proofs.Sames.{and-true, true-and}

@@ -1,12 +1,8 @@
 -- The cells of a good mask from its picture: satellite by satellite, the places of its strip. Assumes nothing.
-use mathlib.Core.Path.{_≡_, refl, sym, ap₂, _∙_}
-use mathlib.Core.Bool.{Bool, true, cond}
-use mathlib.Core.List.{List, [], _∷_, _++_, append-assoc, flatMap}
-use Prim.Native.Nat.{ℕ}
+use Rattle.bits.proofs.Words.{_≡_, refl, sym, ap₂, _∙_, Bool, true, cond, List, [], _∷_, _++_, ℕ, arith, ltb, length}
+use mathlib.Core.List.{append-assoc, flatMap}
 use native.Mathlib.Nat.{suc-inj}
-use native.Mathlib.Omega.{arith}
-use lib.Dec.{ltb}
-use lib.ListN.{length, replicate, length-map}
+use lib.ListN.{replicate, length-map}
 use Rattle.bits.specs.BitLists.{number}
 use Rattle.format.proofs.Picks.{pick-nil, pick-append, pick-map}
 use Rattle.format.proofs.Sames.{and-true}

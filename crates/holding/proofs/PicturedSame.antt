@@ -1,9 +1,6 @@
 -- The test sameHolding of specs/Pictures.antt holds of just the structs that are the same. Assumes nothing.
-use mathlib.Core.Path.{_≡_}
-use mathlib.Core.Bool.{true, Bool·beq}
-use mathlib.Core.List.{List}
-use Prim.Native.Nat.{ℕ}
-use lib.Dec.{eqb}
+use Rattle.bits.proofs.Words.{_≡_, true, List, ℕ, eqb}
+use mathlib.Core.Bool.{Bool·beq}
 use borrow.Author.Tests.{eqb-true}
 use Rattle.format.proofs.Sames.{and-true}
 use Rattle.format.proofs.Sames.{sameList-sound, sameList-refl, sameBit-sound, sameBit-refl, sameBits-sound, sameBits-refl, eqb-refl}

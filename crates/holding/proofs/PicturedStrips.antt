@@ -1,11 +1,7 @@
 -- The sizes of a good mask and of its picture: a strip for each satellite, at most 64 satellites and 256 cells. Assumes nothing.
-use mathlib.Core.Path.{_≡_, refl, ap, _∙_}
-use mathlib.Core.Bool.{Bool, true, false, cond}
-use mathlib.Core.List.{List, [], _∷_, _++_, append-assoc, append-nil, flatMap}
-use Prim.Native.Nat.{ℕ, zero, suc, _+_, _≤_}
-use native.Mathlib.Omega.{arith}
-use lib.Dec.{ltb}
-use lib.ListN.{length, drop, replicate, length-append, length-map, length-replicate}
+use Rattle.bits.proofs.Words.{_≡_, refl, ap, _∙_, Bool, true, false, cond, List, [], _∷_, _++_, ℕ, zero, suc, _+_, _≤_, arith, ltb, length, drop}
+use mathlib.Core.List.{append-assoc, append-nil, flatMap}
+use lib.ListN.{replicate, length-append, length-map, length-replicate}
 use lib.Seq.{append-snoc}
 use Rattle.bits.specs.BitLists.{number, spell}
 use Rattle.format.proofs.Sames.{and-true}

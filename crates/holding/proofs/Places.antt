@@ -1,13 +1,8 @@
 -- The places that a mask names, from the number that holds the mask: how many, which, and none beyond the assigned ones. Assumes nothing.
-use mathlib.Core.Path.{_≡_, refl, sym, ap, _∙_}
-use mathlib.Core.Bool.{Bool, true, false}
-use mathlib.Core.List.{List, [], _∷_, _++_, append-nil}
-use Prim.Native.Nat.{ℕ, zero, suc, _+_, _-_, _*_, _%_, _^_, _≤_, _<_}
+use Rattle.bits.proofs.Words.{_≡_, refl, sym, ap, _∙_, Bool, true, false, List, [], _∷_, _++_, ℕ, zero, suc, _+_, _-_, _*_, _%_, _^_, _≤_, _<_, arith, eqb, length, drop}
+use mathlib.Core.List.{append-nil}
 use native.Mathlib.Nat.{zero-add, add-zero, add-suc, suc-add, zero-sub, sub-zero, suc-sub-suc, zero-div, div-eq-of-lt, mod-eq-of-lt, pow-suc}
-use native.Mathlib.Omega.{arith}
 use lib.Count.{ones, leadingZeros, ones-cat, leading-top}
-use lib.Dec.{eqb}
-use lib.ListN.{length, drop}
 use lib.Pow.{high, pow-pos}
 use Rattle.bits.proofs.BitLists.{number-lt, length-spell, number-spell, spell-low, spell-append}
 use Rattle.bits.specs.BitLists.{number, spell}

@@ -1,11 +1,8 @@
 -- What the types of the struct's fields say of its lists, and with it: the test of the code is that of the definitions. Assumes nothing.
-use mathlib.Core.Path.{_≡_, refl, sym, _∙_}
-use mathlib.Core.Bool.{Bool, true, false}
-use mathlib.Core.List.{List, [], _∷_, map}
-use Prim.Native.Nat.{ℕ, _^_}
+use Rattle.bits.proofs.Words.{_≡_, refl, sym, _∙_, Bool, true, false, List, [], _∷_, map, ℕ, _^_, length}
 use borrow.Author.Tests.{lt-ltb}
 use denote.Struct.Laws.{u16-laws}
-use lib.ListN.{length, length-map}
+use lib.ListN.{length-map}
 use mir.Val.{WTs, ofList}
 use Rattle.format.proofs.Sames.{true-and}
 use Rattle.holding.specs.declared.Holding.{Holding}

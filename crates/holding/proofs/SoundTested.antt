@@ -1,13 +1,9 @@
 -- The test of a lent holding slot by slot, of specs/Testing.antt, holds of the picture of a good holding, and so of every sound struct.
 -- Assumes nothing.
-use mathlib.Core.Path.{_≡_, refl, sym, _∙_}
-use mathlib.Core.Bool.{Bool, true, false}
-use mathlib.Core.List.{List, [], _∷_, _++_, append-assoc, append-nil, map, map-append, flatMap}
-use Prim.Native.Nat.{ℕ, zero, suc, _-_, _≤_}
-use native.Mathlib.Omega.{arith}
+use Rattle.bits.proofs.Words.{_≡_, refl, sym, _∙_, Bool, true, false, List, [], _∷_, _++_, map, ℕ, zero, suc, _-_, _≤_, arith, ltb, length, drop}
+use mathlib.Core.List.{append-assoc, append-nil, map-append, flatMap}
 use lib.Count.{ones}
-use lib.Dec.{ltb}
-use lib.ListN.{length, drop, replicate, length-map, length-replicate}
+use lib.ListN.{replicate, length-map, length-replicate}
 use lib.Seq.{append-snoc, take-at, drop-at}
 use borrow.Author.Tests.{leb-true, lt-ltb, le-leb}
 use Rattle.holding.specs.Bounds.{every}

@@ -1,11 +1,7 @@
 -- What a sound holding is: its sizes, and what its numbers say of the mask that it holds. Assumes nothing.
-use mathlib.Core.Path.{_≡_, refl, sym, ap, _∙_}
-use mathlib.Core.Bool.{true, false}
-use mathlib.Core.List.{List, [], _∷_, _++_, append-nil, map, flatMap}
-use Prim.Native.Nat.{ℕ, _-_, _≤_}
-use native.Mathlib.Omega.{arith}
-use lib.Dec.{ltb}
-use lib.ListN.{length, replicate, length-append, length-map, length-replicate}
+use Rattle.bits.proofs.Words.{_≡_, refl, sym, ap, _∙_, true, false, List, [], _∷_, _++_, map, ℕ, _-_, _≤_, arith, ltb, length}
+use mathlib.Core.List.{append-nil, flatMap}
+use lib.ListN.{replicate, length-append, length-map, length-replicate}
 use lib.Seq.{take-at}
 use Rattle.bits.specs.BitLists.{number}
 use Rattle.format.proofs.MakesBack.{good-system}

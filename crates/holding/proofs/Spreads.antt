@@ -1,13 +1,8 @@
 -- Bits at the places of a mask: spread and pick undo each other, and "no place that the other has not" is a test of the numbers. Assumes nothing.
-use mathlib.Core.Path.{_≡_, refl, sym, ap, _∙_}
-use mathlib.Core.Bool.{Bool, true, false}
-use mathlib.Core.List.{List, [], _∷_}
-use Prim.Native.Nat.{ℕ, zero, suc, _+_, _*_, _^_, _≤_, _<_}
+use Rattle.bits.proofs.Words.{_≡_, refl, sym, ap, _∙_, Bool, true, false, List, [], _∷_, ℕ, zero, suc, _+_, _*_, _^_, _≤_, _<_, arith, eqb, length, take}
 use native.Mathlib.Nat.{suc-inj, zero-add, mod-eq-of-lt, suc-add, le-of-suc-le-suc}
-use native.Mathlib.Omega.{arith}
 use lib.Bits.{bitAnd, and-block, and-le-l}
-use lib.Dec.{eqb, eqb·suc-suc}
-use lib.ListN.{length, take}
+use lib.Dec.{eqb·suc-suc}
 use lib.Pow.{pow-pos}
 use borrow.Author.Tests.{ne-eqb}
 use Rattle.bits.proofs.BitLists.{number-lt, length-spell, number-spell}

@@ -1,13 +1,9 @@
 -- A struct that meets the test slot by slot of specs/Testing.antt is sound: it says a good holding and is its picture. Assumes nothing.
-use mathlib.Core.Path.{_≡_, refl, sym, ap, ap₂, _∙_}
-use mathlib.Core.Bool.{Bool, true, false, cond, not, _&&_}
-use mathlib.Core.List.{List, [], _∷_, _++_, append-assoc, map, flatMap}
-use Prim.Native.Nat.{ℕ, zero, suc, _+_, _-_, _^_, _≤_, _<_}
+use Rattle.bits.proofs.Words.{_≡_, refl, sym, ap, ap₂, _∙_, Bool, true, false, cond, _&&_, not, List, [], _∷_, _++_, map, ℕ, zero, suc, _+_, _-_, _^_, _≤_, _<_, arith, eqb, ltb, leb, length, getD, take, drop}
+use mathlib.Core.List.{append-assoc, flatMap}
 use native.Mathlib.Nat.{sub-zero, suc-sub-suc, le-of-suc-le-suc}
-use native.Mathlib.Omega.{arith}
 use lib.Count.{ones}
-use lib.Dec.{eqb, leb, ltb}
-use lib.ListN.{length, getD, take, drop, replicate, length-append, length-drop, take-append-drop}
+use lib.ListN.{replicate, length-append, length-drop, take-append-drop}
 use lib.Seq.{length-take-le}
 use borrow.Author.Tests.{not-true, eqb-true, leb-true}
 use Rattle.bits.specs.BitLists.{number, spell}

@@ -1,10 +1,7 @@
 -- Tests as Booleans, and a test of each number of a list, in parts. Assumes nothing.
-use mathlib.Core.Path.{_≡_, refl, sym, ap, _∙_}
-use mathlib.Core.Bool.{Bool, true, false, _&&_, and-comm}
-use mathlib.Core.List.{List, [], _∷_, _++_}
-use Prim.Native.Nat.{ℕ, _+_, _-_, _≤_}
-use native.Mathlib.Omega.{arith}
-use lib.ListN.{take, drop, take-append-drop}
+use Rattle.bits.proofs.Words.{_≡_, refl, sym, ap, _∙_, Bool, true, false, _&&_, List, [], _∷_, _++_, ℕ, _+_, _-_, _≤_, arith, take, drop}
+use mathlib.Core.Bool.{and-comm}
+use lib.ListN.{take-append-drop}
 use lib.Seq.{take-add, drop-drop}
 use Rattle.holding.specs.Bounds.{every}
 use Rattle.format.proofs.Sames as Sames

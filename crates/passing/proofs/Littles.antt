@@ -1,28 +1,22 @@
 -- Numbers of bytes, the least byte first, by places. Assumes nothing.
-use mathlib.Core.Path.{_≡_, refl, sym, ap, _∙_}
-use mathlib.Core.Bool.{Bool, true, false, _&&_}
-use mathlib.Core.List.{List, [], _∷_, _++_}
-use Prim.Native.Nat.{ℕ, zero, suc, _+_, _*_, _^_, _≤_}
+use Rattle.bits.proofs.Words.{_≡_, refl, sym, ap, _∙_, Bool, true, false, _&&_, List, [], _∷_, _++_, ℕ, zero, suc, _+_, _*_, _^_, _≤_, arith, leb, length, getD, take, drop}
 use native.Mathlib.Nat.{add-zero}
-use native.Mathlib.Omega.{arith}
 use borrow.Author.Tests.{leb-true, leb-false, le-leb, lt-leb}
 use lib.Bits.{bitOr, or-lt, or-add-and, and-le-l, and-le-r}
-use lib.Dec.{leb}
-use lib.ListN.{length, getD, drop, take}
-use lib.Seq.{take-all, drop-cons, drop-drop, getD-drop}
+use lib.Seq.{take-all, drop-drop, getD-drop}
+use Rattle.bits.proofs.Lists.{elements, taken}
 use Rattle.passing.specs.Bytes.{little, littles}
 
--- the number from a byte on: that byte, and 256 times the number from the next on
-little-step : (k : ℕ) (bs : List ℕ) (i : ℕ) → little (suc k) (drop i bs) ≡ getD bs i 0 + 256 * little k (drop (i + 1) bs)
+-- the number from the j-th byte behind the i-th on: that byte, and 256 times the number from the next on
+little-step : (k : ℕ) (bs : List ℕ) (i j : ℕ) → little (suc k) (drop (i + j) bs) ≡ getD bs (i + j) 0 + 256 * little k (drop (i + suc j) bs)
 unfolding little
-little-step k bs i = rw (getD-drop i bs 0 0, add-zero, drop-drop 1 i bs)
+little-step k bs i j =
+    let next : i + j + 1 ≡ i + suc j = omega arith in
+    rw (getD-drop (i + j) bs 0 0, add-zero (i + j), drop-drop 1 (i + j) bs, next)
 
 pub word-at : (bs : List ℕ) (i : ℕ) → getD bs i 0 + getD bs (i + 1) 0 * 256 ≡ little 2 (drop i bs)
 unfolding little
-word-at bs i =
-    let first = little-step 1 bs i in
-    let second = little-step 0 bs (i + 1) in
-    omega (arith, first, second)
+word-at bs i = omega (arith, rw add-zero at (little-step 1 bs i 0), little-step 0 bs i 1)
 
 pub long-at : (bs : List ℕ) (i : ℕ)
     → getD bs (i + 7) 0 * 2 ^ 56 + getD bs (i + 6) 0 * 2 ^ 48 + getD bs (i + 5) 0 * 2 ^ 40 + getD bs (i + 4) 0 * 2 ^ 32 + getD bs (i + 3) 0 * 2 ^ 24
@@ -30,37 +24,13 @@ pub long-at : (bs : List ℕ) (i : ℕ)
     ≡ little 8 (drop i bs)
 unfolding little
 long-at bs i =
-    let e₂ : i + 1 + 1 ≡ i + 2 = omega arith in
-    let e₃ : i + 2 + 1 ≡ i + 3 = omega arith in
-    let e₄ : i + 3 + 1 ≡ i + 4 = omega arith in
-    let e₅ : i + 4 + 1 ≡ i + 5 = omega arith in
-    let e₆ : i + 5 + 1 ≡ i + 6 = omega arith in
-    let e₇ : i + 6 + 1 ≡ i + 7 = omega arith in
-    omega (
-      arith,
-      little-step 7 bs i,
-      rw e₂ at (little-step 6 bs (i + 1)),
-      rw e₃ at (little-step 5 bs (i + 2)),
-      rw e₄ at (little-step 4 bs (i + 3)),
-      rw e₅ at (little-step 3 bs (i + 4)),
-      rw e₆ at (little-step 2 bs (i + 5)),
-      rw e₇ at (little-step 1 bs (i + 6)),
-      little-step 0 bs (i + 7),
-    )
+    omega (arith, rw add-zero at (little-step 7 bs i 0), little-step 6 bs i 1, little-step 5 bs i 2, little-step 4 bs i 3, little-step 3 bs i 4, little-step 2 bs i 5, little-step 1 bs i 6, little-step 0 bs i 7)
 
 -- five elements from one on
 pub five : {A : Type 0} (d : A) (l : List A) (i : ℕ) → i + 5 ≤ length l
     → take 5 (drop i l) ≡ getD l i d ∷ getD l (i + 1) d ∷ getD l (i + 2) d ∷ getD l (i + 3) d ∷ getD l (i + 4) d ∷ []
-five d l i room =
-    let e₁ : suc i ≡ i + 1 = omega arith in
-    let e₂ : suc (i + 1) ≡ i + 2 = omega arith in
-    let e₃ : suc (i + 2) ≡ i + 3 = omega arith in
-    let e₄ : suc (i + 3) ≡ i + 4 = omega arith in
-    let d₀ = rw e₁ at (drop-cons l i d (omega arith)) in
-    let d₁ = rw e₂ at (drop-cons l (i + 1) d (omega arith)) in
-    let d₂ = rw e₃ at (drop-cons l (i + 2) d (omega arith)) in
-    let d₃ = rw e₄ at (drop-cons l (i + 3) d (omega arith)) in
-    rw (d₀, d₁, d₂, d₃, drop-cons l (i + 4) d (omega arith))
+unfolding elements
+five d l i room = rw add-zero at (taken d l i 0 5 (omega arith))
 
 -- and all of five
 pub all-five : {A : Type 0} (d : A) (l : List A) → length l ≡ 5 → getD l 0 d ∷ getD l 1 d ∷ getD l 2 d ∷ getD l 3 d ∷ getD l 4 d ∷ [] ≡ l

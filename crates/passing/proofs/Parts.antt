@@ -1,12 +1,8 @@
 -- The bytes of a number, and of some numbers. Assumes nothing.
-use mathlib.Core.Path.{_≡_, refl, sym, ap, _∙_}
-use mathlib.Core.Bool.{Bool, true, false}
-use mathlib.Core.List.{List, [], _∷_, _++_, append-nil, append-assoc}
-use Prim.Native.Nat.{ℕ, zero, suc, _+_, _-_, _*_, _/_, _%_, _^_, _≤_, _<_}
+use Rattle.bits.proofs.Words.{_≡_, refl, sym, ap, _∙_, Bool, true, false, List, [], _∷_, _++_, ℕ, zero, suc, _+_, _-_, _*_, _/_, _%_, _^_, _≤_, _<_, add-one, arith, length, getD, take, drop}
+use mathlib.Core.List.{append-nil, append-assoc}
 use native.Mathlib.Nat.{le-refl, mul-zero, mul-le-mul-left, div-div-eq-div-mul}
-use native.Mathlib.Numerals.{add-one}
-use native.Mathlib.Omega.{arith}
-use lib.ListN.{length, getD, take, drop, length-append, length-drop}
+use lib.ListN.{length-append, length-drop}
 use lib.Seq.{length-take-le, take-all, take-at, take-suc}
 use borrow.Rule.Slice.PartMut.{postOf, putMid, same-len-mid}
 use mir.Val.{boolByte}

@@ -1,9 +1,7 @@
 -- Parts of a list put in one behind the other. Assumes nothing.
-use mathlib.Core.Path.{_≡_, ap, _∙_}
-use mathlib.Core.List.{List, [], _++_, append-nil, append-assoc}
-use Prim.Native.Nat.{ℕ, _+_, _≤_}
-use native.Mathlib.Omega.{arith}
-use lib.ListN.{length, take, drop, drop-of-length-le, length-append, length-drop}
+use Rattle.bits.proofs.Words.{_≡_, ap, _∙_, List, [], _++_, ℕ, _+_, _≤_, arith, length, take, drop}
+use mathlib.Core.List.{append-nil, append-assoc}
+use lib.ListN.{drop-of-length-le, length-append, length-drop}
 use lib.Seq.{length-take-le, take-at, drop-at, drop-drop}
 use borrow.Rule.Slice.PartMut.{postOf, putMid}
 use Rattle.format.specs.Reading.{over}

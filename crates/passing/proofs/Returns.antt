@@ -1,13 +1,9 @@
 -- A holding passed as bytes and back is the same holding, and its bytes are the only ones that say it. Assumes nothing.
-use mathlib.Core.Path.{_≡_, refl, sym, ap, ap₂, _∙_}
-use mathlib.Core.Bool.{Bool, true, false, cond}
-use mathlib.Core.List.{List, [], _∷_, _++_, append-assoc, map}
-use Prim.Native.Nat.{ℕ, zero, suc, _+_, _*_, _/_, _%_, _^_, _≤_, _<_}
+use Rattle.bits.proofs.Words.{_≡_, refl, sym, ap, ap₂, _∙_, Bool, true, false, cond, List, [], _∷_, _++_, map, ℕ, zero, suc, _+_, _*_, _/_, _%_, _^_, _≤_, _<_, arith, ltb, leb, length, getD, take, drop}
+use mathlib.Core.List.{append-assoc}
 use native.Mathlib.Nat.{add-mul-mod-self-left, mod-add-div, mod-lt, mod-eq-of-lt, mul-assoc, one-le-pow, pow-succ'}
-use native.Mathlib.Omega.{arith}
 use borrow.Author.Tests.{ltb-true, le-leb, leb-true}
-use lib.Dec.{leb, ltb}
-use lib.ListN.{length, getD, take, drop, length-append, length-drop, length-map, take-append-drop}
+use lib.ListN.{length-append, length-drop, length-map, take-append-drop}
 use lib.Seq.{take-add, take-at, drop-at, drop-drop, getD-drop}
 use Rattle.bits.specs.BitLists.{digit}
 use Rattle.bits.proofs.Windows.{Bytes}

@@ -1,9 +1,7 @@
 -- The bytes of a holding in three segments: the start, what stands by system, the strips. Assumes nothing.
-use mathlib.Core.Path.{_≡_, refl}
-use mathlib.Core.List.{List, _∷_, _++_, map, append-assoc}
-use Prim.Native.Nat.{ℕ}
-use native.Mathlib.Omega.{arith}
-use lib.ListN.{length, length-append, length-map}
+use Rattle.bits.proofs.Words.{_≡_, refl, List, _∷_, _++_, map, ℕ, arith, length}
+use mathlib.Core.List.{append-assoc}
+use lib.ListN.{length-append, length-map}
 use Rattle.bits.specs.BitLists.{digit}
 use Rattle.holding.specs.declared.Holding.{Holding}
 use Rattle.passing.specs.Bytes.{parts, partsOf}

@@ -1,9 +1,6 @@
 -- What the reader makes of a mask message. Assumes nothing.
-use mathlib.Core.Path.{_≡_, sym, ap}
-use mathlib.Core.Bool.{true}
+use Rattle.bits.proofs.Words.{_≡_, sym, ap, true, ℕ, arith}
 use mathlib.Core.Logic.{_⊎_, inl, inr}
-use Prim.Native.Nat.{ℕ}
-use native.Mathlib.Omega.{arith}
 use denote.Enum.Declared.{tagOf}
 use Rattle.adoption.specs.Adoptions.{adoptionBy}
 use Rattle.adoption.specs.declared.Adoption.{Adoption}

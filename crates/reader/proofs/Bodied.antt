@@ -1,10 +1,6 @@
 -- A body that is there, and one that is short. Assumes nothing.
-use mathlib.Core.Path.{_≡_, refl, ap}
-use mathlib.Core.List.{List, [], _∷_}
-use Prim.Native.Nat.{ℕ, suc, _+_, _-_, _*_, _≤_, _<_}
+use Rattle.bits.proofs.Words.{_≡_, refl, ap, List, [], _∷_, ℕ, suc, _+_, _-_, _*_, _≤_, _<_, arith, length}
 use native.Mathlib.Nat.{suc-pred-eq-of-pos}
-use native.Mathlib.Omega.{arith}
-use lib.ListN.{length}
 use Rattle.format.specs.declared.Answer.the-variants as Answers
 use Rattle.format.specs.declared.Head.{Head}
 use Rattle.format.specs.declared.Refusal.the-variants.{Short}

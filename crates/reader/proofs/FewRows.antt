@@ -1,12 +1,7 @@
 -- A message has at most 256 rows. Assumes nothing.
-use mathlib.Core.Path.{_≡_, refl, sym, _∙_, subst}
-use mathlib.Core.Bool.{Bool, true, false, cond}
-use mathlib.Core.List.{List}
+use Rattle.bits.proofs.Words.{_≡_, refl, sym, _∙_, subst, Bool, true, false, cond, List, ℕ, zero, suc, _+_, _-_, _≤_, arith, eqb, length}
 use mathlib.Core.Logic.{_⊎_, inl, inr}
-use Prim.Native.Nat.{ℕ, zero, suc, _+_, _-_, _≤_}
-use native.Mathlib.Omega.{arith}
-use lib.Dec.{eqb}
-use lib.ListN.{length, length-map}
+use lib.ListN.{length-map}
 use Rattle.bits.specs.Places.{field}
 use Rattle.format.specs.declared.Refusal.{Refusal}
 use Rattle.format.specs.Ends.{Within, endFrom}

@@ -1,12 +1,6 @@
 -- What is found at a place of a stretch, all that is lent being good. Assumes nothing.
-use mathlib.Core.Path.{_≡_, refl, sym, ap, _∙_}
-use mathlib.Core.Bool.{Bool, true, false, cond}
-use mathlib.Core.List.{List, flatten}
-use Prim.Native.Nat.{ℕ, zero, suc, _+_, _-_, _≤_}
-use native.Mathlib.Omega.{arith}
-use lib.Dec.{eqb}
-use lib.IntN.{ℤ}
-use lib.ListN.{length}
+use Rattle.bits.proofs.Words.{_≡_, refl, sym, ap, _∙_, Bool, true, false, cond, List, ℕ, zero, suc, _+_, _-_, _≤_, arith, eqb, length, ℤ}
+use mathlib.Core.List.{flatten}
 use denote.Enum.Declared.{tagOf}
 use Rattle.bits.specs.Places.{field}
 use Rattle.format.specs.declared.Answer.{Answer}

@@ -1,9 +1,5 @@
 -- What is lent as a struct, and what is lent after a reading as that struct again. Assumes nothing.
-use mathlib.Core.Path.{_≡_, refl, ap, _∙_}
-use mathlib.Core.Bool.{Bool, true, false, cond}
-use mathlib.Core.List.{List}
-use Prim.Native.Nat.{ℕ}
-use lib.IntN.{ℤ}
+use Rattle.bits.proofs.Words.{_≡_, refl, ap, _∙_, Bool, true, false, cond, List, ℕ, ℤ}
 use Rattle.format.proofs.Stops.{Stopped, stop-holds}
 use Rattle.format.specs.Good.{isHolding}
 use Rattle.format.specs.Masks.{stray, lent}

@@ -1,12 +1,5 @@
 -- The outcome of a reading by the tests of what is lent. Assumes nothing.
-use mathlib.Core.Path.{_≡_, refl, sym, _∙_}
-use mathlib.Core.Bool.{Bool, true, false}
-use mathlib.Core.List.{List, [], _∷_}
-use Prim.Native.Nat.{ℕ, _≤_}
-use native.Mathlib.Omega.{arith}
-use lib.Dec.{leb}
-use lib.IntN.{ℤ}
-use lib.ListN.{length}
+use Rattle.bits.proofs.Words.{_≡_, refl, sym, _∙_, Bool, true, false, List, [], _∷_, ℕ, _≤_, arith, leb, length, ℤ}
 use borrow.Author.Tests.{leb-true}
 use denote.Enum.Declared.{tagOf}
 use Rattle.format.specs.declared.Refusal.the-variants.{Room, Place, Value}

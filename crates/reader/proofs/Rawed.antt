@@ -1,13 +1,6 @@
 -- The raw part of an answer: a stop's is empty, a message's reaches from its first bit to its last. Assumes nothing.
-use mathlib.Core.Path.{_≡_, refl}
-use mathlib.Core.Bool.{Bool, true, false}
-use mathlib.Core.List.{List}
-use Prim.Native.Nat.{ℕ, suc, _+_, _-_, _≤_}
+use Rattle.bits.proofs.Words.{_≡_, refl, Bool, true, false, List, ℕ, suc, _+_, _-_, _≤_, arith, leb, length, ℤ}
 use native.Mathlib.Nat.{le-refl}
-use native.Mathlib.Omega.{arith}
-use lib.Dec.{leb}
-use lib.IntN.{ℤ}
-use lib.ListN.{length}
 use borrow.Author.Tests.{le-ltb}
 use denote.Enum.Declared.{tagOf}
 use denote.Ref.{RefT}

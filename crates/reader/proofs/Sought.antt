@@ -1,10 +1,5 @@
 -- What is found at a place, by the tests of what is lent. Assumes nothing.
-use mathlib.Core.Path.{_≡_, refl, sym, ap, _∙_}
-use mathlib.Core.List.{List}
-use Prim.Native.Nat.{ℕ}
-use lib.IntN.{ℤ}
-use lib.ListN.{length}
-use native.Mathlib.Omega.{arith}
+use Rattle.bits.proofs.Words.{_≡_, refl, sym, ap, _∙_, List, ℕ, arith, length, ℤ}
 use denote.Enum.Declared.{tagOf}
 use Rattle.format.specs.declared.Answer.{Answer}
 use Rattle.format.specs.declared.Answer.the-variants as Answers

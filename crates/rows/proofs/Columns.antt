@@ -1,15 +1,11 @@
 -- Columns as numbers: which column they are, their bounds, and that the sum, the mask and the difference give the column's value.
 -- Assumes nothing.
-use mathlib.Core.Path.{_≡_, refl, sym, ap, subst}
-use mathlib.Core.Bool.{Bool, true, false, cond}
-use Prim.Native.Nat.{ℕ, zero, suc, _+_, _-_, _*_, _%_, _^_, _≤_, _<_}
+use Rattle.bits.proofs.Words.{_≡_, refl, sym, ap, subst, Bool, true, false, cond, ℕ, zero, suc, _+_, _-_, _*_, _%_, _^_, _≤_, _<_, arith, eqb, ℤ, pos}
 use native.Mathlib.Nat.{add-zero, one-mul, mod-lt, mod-eq-of-lt, mod-add-mod, mod-eq-sub-mod}
 use native.Mathlib.Decide.{decLt}
-use native.Mathlib.Omega.{arith}
 use borrow.Author.Tests.{lt-ltb, le-ltb, eq-eqb, ne-eqb, eqb-true, eqb-false}
 use lib.Bits.{bitAnd, and-mask, and-zero-r, and-le-r}
-use lib.Dec.{eqb}
-use lib.IntN.{ℤ, pos, negsuc, subℕ, _-ℤ_}
+use lib.IntN.{negsuc, subℕ, _-ℤ_}
 use lib.Pow.{pow-pos, pow-mono, pow-lt}
 use lib.Signed.{mag}
 use Rattle.bits.proofs.Complement.{even, signed-pos, signed-neg}

@@ -1,13 +1,9 @@
 -- The values of a row, cut out of a window that was halved: one alone, those of a row of two columns, and those of a row of five with the last from
 -- elsewhere; and those of a row of gaps but for one column.
 -- Assumes nothing.
-use mathlib.Core.Path.{_≡_, refl, sym, ap, ap₂, _∙_}
-use mathlib.Core.List.{List, [], _∷_}
+use Rattle.bits.proofs.Words.{_≡_, refl, sym, ap, ap₂, _∙_, List, [], _∷_, ℕ, _+_, _-_, _*_, _/_, _%_, _^_, _≤_, _<_, arith, ℤ}
 use mathlib.Core.Logic.{_⊎_, ⊎-elim}
-use Prim.Native.Nat.{ℕ, _+_, _-_, _*_, _/_, _%_, _^_, _≤_, _<_}
 use native.Mathlib.Nat.{mod-lt}
-use native.Mathlib.Omega.{arith}
-use lib.IntN.{ℤ}
 use lib.Pow.{shr-le, shr-shr, shl-shr, shl-exact, mod-pow-add, low, pow-pos}
 use Rattle.bits.proofs.Fields.{field-lt}
 use Rattle.bits.proofs.Windows.{in-window, shifted}

@@ -1,12 +1,8 @@
 -- The shapes of satellites' rows: by their layout, the columns that a row of a system has. And how wide the rows of any shape are.
 -- Assumes nothing.
-use mathlib.Core.Path.{_≡_, refl, sym, ap, _∙_}
-use mathlib.Core.Bool.{Bool, true, false, cond, false≢true}
-use mathlib.Core.List.{[], _∷_}
+use Rattle.bits.proofs.Words.{_≡_, refl, sym, ap, _∙_, Bool, true, false, cond, [], _∷_, ℕ, _+_, _≤_, arith, eqb}
+use mathlib.Core.Bool.{false≢true}
 use mathlib.Core.Logic.{_⊎_}
-use Prim.Native.Nat.{ℕ, _+_, _≤_}
-use native.Mathlib.Omega.{arith}
-use lib.Dec.{eqb}
 use Rattle.format.specs.Messages.{iodeWidth}
 use Rattle.format.specs.Rows.{Column, plain, counts, widthOf, shapeWidth}
 use Rattle.rows.specs.declared.shape.Column.{Column as CodeColumn}

@@ -1,13 +1,9 @@
 -- Rows by place: what crate format makes of a body's bits, that two bodies one after the other are one, and how long the rows are.
 -- Assumes nothing.
-use mathlib.Core.Path.{_≡_, refl, sym, ap, ap₂, _∙_}
-use mathlib.Core.Bool.{Bool}
-use mathlib.Core.List.{List, [], _∷_, _++_, flatten}
-use Prim.Native.Nat.{ℕ, suc, _+_, _-_, _*_, _≤_}
+use Rattle.bits.proofs.Words.{_≡_, refl, sym, ap, ap₂, _∙_, Bool, List, [], _∷_, _++_, ℕ, suc, _+_, _-_, _*_, _≤_, arith, length, take, drop, ℤ}
+use mathlib.Core.List.{flatten}
 use native.Mathlib.Nat.{add-zero, add-assoc}
-use native.Mathlib.Omega.{arith}
-use lib.IntN.{ℤ}
-use lib.ListN.{length, take, drop, length-append, length-drop}
+use lib.ListN.{length-append, length-drop}
 use lib.Seq.{take-take, drop-drop}
 use Rattle.bits.proofs.BitLists.{length-bits}
 use Rattle.bits.proofs.Bridge.{field-number}

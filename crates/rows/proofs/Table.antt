@@ -1,15 +1,9 @@
 -- The table of shapes: each is formed and has its columns in every system; those of satellites are laid, and those of cells narrow.
 -- Assumes nothing.
-use mathlib.Core.Path.{_≡_, refl, sym, ap, _∙_}
-use mathlib.Core.Bool.{Bool, true, false, cond}
-use mathlib.Core.List.{List, [], _∷_}
+use Rattle.bits.proofs.Words.{_≡_, refl, sym, ap, _∙_, Bool, true, false, cond, List, [], _∷_, ℕ, zero, suc, _+_, _-_, _*_, _≤_, _<_, arith, eqb, length}
 use mathlib.Core.Logic.{inl, inr}
-use Prim.Native.Nat.{ℕ, zero, suc, _+_, _-_, _*_, _≤_, _<_}
 use native.Mathlib.Nat.{zero-add}
-use native.Mathlib.Omega.{arith}
 use borrow.Author.Tests.{eqb-true}
-use lib.Dec.{eqb}
-use lib.ListN.{length}
 use Rattle.format.proofs.Tables.{Each, end, then, each-at, NoneOf, none-of}
 use Rattle.format.specs.Messages.{iodeWidth, clockShape, codeShape, phaseShape, combinedShape, packetShape, named}
 use Rattle.format.specs.Rows.{Column, gap, plain, counts, widthOf, shapeWidth}

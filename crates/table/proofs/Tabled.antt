@@ -1,11 +1,6 @@
 -- The table of the code is the table of crate format: one computed law over its rows. Assumes nothing.
-use mathlib.Core.Path.{_≡_, refl, ap, _∙_}
-use mathlib.Core.Bool.{Bool, true, false}
-use mathlib.Core.List.{List, [], _∷_}
-use Prim.Native.Nat.{ℕ, zero, suc, _+_, _≤_}
+use Rattle.bits.proofs.Words.{_≡_, refl, ap, _∙_, Bool, true, false, List, [], _∷_, ℕ, zero, suc, _+_, _≤_, arith, getD}
 use native.Mathlib.Nat.{add-zero, zero-add}
-use native.Mathlib.Omega.{arith}
-use lib.ListN.{getD}
 use Rattle.format.specs.Messages.{combinedShape, orbitShape, codeShape, phaseShape, named}
 use Rattle.format.specs.Rows.{widthOf, shapeWidth}
 use Rattle.format.specs.Table as Table

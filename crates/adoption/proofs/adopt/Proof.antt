@@ -1,9 +1,5 @@
 -- `adoption::adopt` meets its contract. Assumes nothing.
-use mathlib.Core.Path.{sym, ap, _∙_}
-use mathlib.Core.List.{List}
-use Prim.Native.Nat.{ℕ}
-use native.Mathlib.Omega.{arith}
-use borrow.Author.Needs.{needs}
+use Rattle.bits.proofs.Words.{sym, ap, _∙_, List, ℕ, arith, needs}
 use Rattle.adoption.proofs.StageEnds.{opens-at}
 use Rattle.adoption.specs.Adoptions.{adoptionBy}
 use Rattle.adoption.specs.declared.Adoption.{Adoption}
@@ -46,13 +42,10 @@ returns c =
     let cut = common-short (opens t .within) 20 (sym (p .head .ensures (bs t) (opens t)) ∙ c .before .before .missing .given .1) in
     c .refused .ensures ∙ ap adoptionBy (sym (then-badly (opens t .within) (common 20) _ cut)) ∙ ap (answer t) (t .front-at .ensures)
 
-returns-2 : tie.Need-returns-2
-unfolding maskMessage afterCommonHead withSystems headWith commonOf
-returns-2 c =
-    let t = t (c .before) in
-    c .after-head .ensures ∙ ap adoptionBy (sym (then-well (opens t .within) (common 20) _ (read (c .before) .ran))) ∙ ap (answer t) (t .front-at .ensures)
-
 pub adopt-spec : {M : Type 1} → statement M
+unfolding maskMessage afterCommonHead withSystems headWith commonOf
 adopt-spec =
     tie.close
-    (tie.spec (λ c κs. search needs) (λ c κs. record { bytes = bs c; opens = opens c }) (λ c. search needs) (λ c κs. search needs) (λ c. search needs) (λ c κs. (read c .small, read c .after, opens (t c))) returns returns-2)
+    (tie.spec (λ c κs. search needs) (λ c κs. record { bytes = bs c; opens = opens c }) (λ c. search needs) (λ c κs. search needs) (λ c. search needs)
+    (λ c κs. (read c .small, read c .after, opens (t c))) returns
+    (λ c. let t = t (c .before) in c .after-head .ensures ∙ ap adoptionBy (sym (then-well (opens t .within) (common 20) _ (read (c .before) .ran))) ∙ ap (answer t) (t .front-at .ensures)))

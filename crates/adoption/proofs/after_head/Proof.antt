@@ -1,9 +1,5 @@
 -- `adoption::after_head` meets its contract. Assumes nothing.
-use mathlib.Core.Path.{_≡_, sym, ap, _∙_}
-use Prim.Native.Nat.{ℕ, _+_, _<_}
-use native.Mathlib.Omega.{arith}
-use borrow.Author.Needs.{needs}
-use lib.IntN.{ℤ}
+use Rattle.bits.proofs.Words.{_≡_, sym, ap, _∙_, ℕ, _+_, _<_, arith, needs, ℤ}
 use mir.Facts.{toZ-pos}
 use mir.Syntax.{w32}
 use Rattle.adoption.proofs.ManySystems.{answer, firstMask}
@@ -51,6 +47,6 @@ returns-2 c =
 pub after-head-spec : {M : Type 1} → statement M
 after-head-spec =
     tie.close
-    (tie.spec (λ c κs. (omega arith, c .before .pre .1 .room)) (λ c. search needs) (λ c κs. search needs) (λ c. search needs) (λ c. record { sfits = omega (arith, few c) })
+    (tie.spec (λ c κs. (record { bytes = _; opens = c .before .pre .2 }, omega arith, c .before .pre .1 .room)) (λ c. search needs) (λ c κs. search needs) (λ c. search needs) (λ c. record { sfits = omega (arith, few c) })
     (λ c κs. search needs) (λ c. search needs) (λ c. omega (arith, after-field (s (c .before .before) .pre .1) 4 (there (c .before .before)))) (λ c. search needs)
     (λ c κs. let p = c .before .before .before in (s p .pre .0 .iod, after-field (s p .pre .1) 4 (there p))) returns returns-2)

@@ -1,10 +1,6 @@
 -- `body::cells_chosen` meets its contract. Assumes nothing.
-use mathlib.Core.Path.{_∙_, sym, ap}
-use mathlib.Core.List.{List}
-use Prim.Native.Nat.{ℕ}
-use native.Mathlib.Omega.{arith}
+use Rattle.bits.proofs.Words.{sym, ap, _∙_, List, ℕ, arith, take}
 use lib.Count.{ones}
-use lib.ListN.{take}
 use lib.Seq.{length-take-le}
 use Rattle.bits.specs.BitLists.{spell}
 use Rattle.format.specs.Lengths.{total}
@@ -19,12 +15,6 @@ within c =
     let s = c .before .before .before in
     rw (s .pre .1) (sym (length-take-le _ _ (stripped (s .args .h) (s .pre .0))))
 
-count-requires : tie.Need-count-requires
-count-requires c κs =
-    let s = c .before .before .before in
-    let h = s .args .h in
-    rw (s .pre .1) (omega (arith, few h (s .pre .0), length-take-le (h .nsat) (h .strips) (stripped h (s .pre .0))))
-
 returns-2 : tie.Need-returns-2
 returns-2 c =
     let s = c .before .before .before .before in
@@ -33,4 +23,7 @@ returns-2 c =
 
 pub cells-chosen-spec : {M : Type 1} → statement M
 cells-chosen-spec =
-    tie.close (tie.spec (λ c. let s = c .before .before in every-cell (s .args .h) (s .pre .0) (s .args .chosen) (c .if1 .taken)) within count-requires returns-2)
+    tie.close
+    (tie.spec (λ c. let s = c .before .before in every-cell (s .args .h) (s .pre .0) (s .args .chosen) (c .if1 .taken)) within
+    (λ c κs. let s = c .before .before .before in let h = s .args .h in rw (s .pre .1) (omega (arith, few h (s .pre .0), length-take-le (h .nsat) (h .strips) (stripped h (s .pre .0)))))
+    returns-2)

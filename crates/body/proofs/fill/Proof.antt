@@ -1,10 +1,6 @@
 -- `body::fill` meets its contract. Assumes nothing.
-use mathlib.Core.Path.{_≡_, refl, ap, _∙_}
-use mathlib.Core.List.{List, flatten}
-use native.Mathlib.Omega.{arith}
-use borrow.Author.Needs.{needs}
-use lib.IntN.{ℤ}
-use lib.ListN.{length}
+use Rattle.bits.proofs.Words.{_≡_, refl, ap, _∙_, List, arith, needs, length, ℤ}
+use mathlib.Core.List.{flatten}
 use Rattle.format.specs.Reading.{over}
 use Rattle.body.proofs.Bodies.{few-in}
 use Rattle.body.proofs.Tails.{copied-rows}

@@ -1,9 +1,6 @@
 -- `body::satellites_size` meets its contract. Assumes nothing.
-use mathlib.Core.Path.{_≡_, subst}
-use mathlib.Core.List.{List}
+use Rattle.bits.proofs.Words.{_≡_, subst, List, arith, needs}
 use mathlib.Core.Logic.{⊎-elim}
-use native.Mathlib.Omega.{arith}
-use borrow.Author.Needs.{needs}
 use borrow.Author.Tests.{ltb-true}
 use Rattle.format.specs.Rows.{Line}
 use Rattle.holding.specs.Held.{viewOf}
@@ -12,11 +9,6 @@ use Rattle.body.specs.Written.{Counts}
 use Rattle.body.proofs.Bodies.{many, few, lends, by-shape, alike}
 use Rattle.body.proofs.satellites_size.Statement.{statement}
 use Rattle.body.proofs.satellites_size.Tie as tie
-
-size-alike-requires : tie.Need-size-alike-requires
-size-alike-requires c κs =
-    let s = c .before .before .before .before in
-    (omega (arith, few (s .args .h) (s .pre .0)), omega (arith, c .width-of .ensures, width-at 0 (s .args .shape)))
 
 returns : tie.Need-returns
 returns c =
@@ -42,4 +34,8 @@ returns-2 c =
     subst (λ (l : List Line). Counts l (c .size .result)) (by-shape (viewOf (s .args .h)) (s .args .chosen) (s .args .shape)) size
 
 pub satellites-size-spec : {M : Type 1} → statement M
-satellites-size-spec = tie.close (tie.spec (λ c κs. search needs) size-alike-requires returns size-requires returns-2)
+satellites-size-spec =
+    tie.close
+    (tie.spec (λ c κs. search needs)
+    (λ c κs. let s = c .before .before .before .before in (omega (arith, few (s .args .h) (s .pre .0)), omega (arith, c .width-of .ensures, width-at 0 (s .args .shape))))
+    returns size-requires returns-2)

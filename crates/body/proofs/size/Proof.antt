@@ -1,8 +1,5 @@
 -- `body::size` meets its contract. Assumes nothing.
-use mathlib.Core.Path.{subst, refl}
-use mathlib.Core.List.{List}
-use native.Mathlib.Omega.{arith}
-use borrow.Author.Needs.{needs}
+use Rattle.bits.proofs.Words.{refl, subst, List, arith, needs}
 use Rattle.format.specs.Rows.{Line}
 use Rattle.holding.specs.Held.{viewOf}
 use Rattle.rows.proofs.Table.{width-at}

@@ -1,8 +1,5 @@
 -- `heads::within` meets its contract. Assumes nothing.
-use mathlib.Core.Path.{_∙_, ap}
-use Prim.Native.Nat.{ℕ, _+_, _-_, _/_, _%_, _^_}
-use native.Mathlib.Omega.{arith}
-use borrow.Author.Needs.{needs}
+use Rattle.bits.proofs.Words.{ap, _∙_, ℕ, _+_, _-_, _/_, _%_, _^_, arith, needs}
 use Rattle.bits.proofs.Windows.{in-field}
 use Rattle.heads.proofs.within.Statement.{statement}
 use Rattle.heads.proofs.within.Tie as tie

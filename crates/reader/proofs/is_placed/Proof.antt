@@ -1,33 +1,15 @@
 -- `reader::is_placed` meets its contract.
 -- Assumes nothing.
-use Prim.Native.Nat.{_*_}
-use native.Mathlib.Omega.{arith}
-use borrow.Author.Needs.{needs}
+use Rattle.bits.proofs.Words.{_*_, arith, needs, length}
 use borrow.Author.Tests.{le-leb, lt-leb}
-use lib.ListN.{length}
 use Rattle.format.specs.Reading.{placed}
 use Rattle.reader.proofs.is_placed.Statement.{statement}
 use Rattle.reader.proofs.is_placed.Tie as tie
 
-returns : tie.Need-returns
-unfolding placed
-returns c = rw (lt-leb (c .before .args .end) 50850 (omega arith))
-
-returns-2 : tie.Need-returns-2
-unfolding placed
-returns-2 c =
-    let x = c .before .before .args in
-    rw (le-leb (x .end) 50850 (omega arith), lt-leb (x .end) (8 * length (x .bytes .now)) (omega arith))
-
-returns-3 : tie.Need-returns-3
-unfolding placed
-returns-3 c =
-    let x = c .before .before .args in
-    rw (le-leb (x .end) 50850 (omega arith), le-leb (x .end) (8 * length (x .bytes .now)) (omega arith))
-
 pub is-placed-spec : {M : Type 1} → statement M
-is-placed-spec = tie.close (tie.spec
-    returns
-    (λ c. search needs)
-    returns-2
-    returns-3)
+unfolding placed
+is-placed-spec =
+    tie.close
+    (tie.spec (λ c. rw (lt-leb (c .before .args .end) 50850 (omega arith))) (λ c. search needs)
+    (λ c. let x = c .before .before .args in rw (le-leb (x .end) 50850 (omega arith), lt-leb (x .end) (8 * length (x .bytes .now)) (omega arith)))
+    (λ c. let x = c .before .before .args in rw (le-leb (x .end) 50850 (omega arith), le-leb (x .end) (8 * length (x .bytes .now)) (omega arith))))

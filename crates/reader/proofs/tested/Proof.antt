@@ -1,26 +1,13 @@
 -- `reader::tested` meets its contract.
 -- Assumes nothing.
-use mathlib.Core.Path.{_∙_, sym, refl}
-use borrow.Author.Needs.{needs}
+use Rattle.bits.proofs.Words.{refl, sym, _∙_, arith, needs}
 use borrow.Author.Tests.{lt-leb, le-leb, not-true, not-false}
-use native.Mathlib.Omega.{arith}
 use Rattle.format.specs.Reading.{lentTests}
 use Rattle.format.specs.Tests.{verdict}
 use Rattle.reader.specs.Readings.{testedBy}
 use Rattle.reader.proofs.Lents.{is-holding}
 use Rattle.reader.proofs.tested.Statement.{statement}
 use Rattle.reader.proofs.tested.Tie as tie
-
-returns : tie.Need-returns
-unfolding testedBy lentTests verdict
-returns c = rw (lt-leb 2048 (c .before .before .args .room) (c .if1 .taken)) refl
-
-returns-2 : tie.Need-returns-2
-unfolding testedBy lentTests verdict
-returns-2 c =
-    let x = c .before .before .before .before .args in
-    let out = sym (c .before .is-placed .ensures) ∙ not-true _ (c .if2 .taken) in
-    rw (le-leb 2048 (x .room) (omega arith), out) refl
 
 returns-3 : tie.Need-returns-3
 unfolding testedBy lentTests verdict
@@ -39,4 +26,9 @@ returns-4 c =
     rw (le-leb 2048 (x .room) (omega arith), inside, fine) refl
 
 pub tested-spec : {M : Type 1} → statement M
-tested-spec = tie.close (tie.spec returns (λ c κs. search needs) returns-2 (λ c κs. search needs) returns-3 returns-4)
+unfolding testedBy lentTests verdict
+tested-spec =
+    tie.close
+    (tie.spec (λ c. rw (lt-leb 2048 (c .before .before .args .room) (c .if1 .taken)) refl) (λ c κs. search needs)
+    (λ c. let x = c .before .before .before .before .args in let out = sym (c .before .is-placed .ensures) ∙ not-true _ (c .if2 .taken) in rw (le-leb 2048 (x .room) (omega arith), out) refl)
+    (λ c κs. search needs) returns-3 returns-4)

@@ -1,11 +1,5 @@
 -- `adoption::cells::read_flag` meets its contract. Assumes nothing.
-use mathlib.Core.Path.{_≡_, refl, sym, ap, _∙_}
-use mathlib.Core.Bool.{not}
-use mathlib.Core.List.{List}
-use Prim.Native.Nat.{ℕ, zero, suc, _+_, _-_, _^_, _≤_, _<_}
-use native.Mathlib.Omega.{arith}
-use borrow.Author.Needs.{needs}
-use lib.Dec.{eqb}
+use Rattle.bits.proofs.Words.{_≡_, refl, sym, ap, _∙_, not, List, ℕ, zero, suc, _+_, _-_, _^_, _≤_, _<_, arith, needs, eqb}
 use Rattle.adoption.proofs.StageEnds.{cells-cut, cells-there}
 use Rattle.adoption.specs.Stages.{withCells, endSystem, HasMasks}
 use Rattle.bits.specs.declared.read.Taken.{Taken}
@@ -69,12 +63,6 @@ returns c =
     let missing = ap (λ (w : ℕ). badly Short (w - (x .f .end - (x .f .start + 16 + 1)))) w in
     (λ bs opens. missing ∙ sym (cells-cut (at (took p) opens) (x .m) (s (took p) .pre .0) (low p) (there p opens) (is p) (omega (arith, w, c .if1 .taken))), tt)
 
-returns-2 : tie.Need-returns-2
-unfolding endSystem withCells HasMasks
-returns-2 c =
-    let took = c .before .before .before in
-    (λ bs opens. sym (number-short (at took opens) 1 (taken-is took opens (c .before .taken2 .given .1)) _), tt)
-
 returns-3 : tie.Need-returns-3
 unfolding endSystem HasMasks
 returns-3 c =
@@ -82,7 +70,10 @@ returns-3 c =
     (λ bs opens. sym (cells-there (at (took p) opens) (s (took p) .args .m) (s (took p) .pre .0) (low p) (there p opens) (is p) (omega (arith, c .before .before .width .ensures, c .if1 .left))), refl)
 
 pub read-flag-spec : {M : Type 1} → statement M
+unfolding endSystem withCells HasMasks
 read-flag-spec =
     tie.close
-    (tie.spec (λ c κs. (omega arith, c .pre .2)) (λ c. search needs) (λ c. search needs) (λ c. omega (arith, after (c .before))) (λ c. omega (arith, after (c .before))) (λ c κs. s (took (c .before)) .pre .0)
-    (λ c. after (c .before .before .before)) (λ c. search needs) returns returns-2 returns-3)
+    (tie.spec (λ c κs. search needs) (λ c. search needs) (λ c. search needs) (λ c. omega (arith, after (c .before))) (λ c. omega (arith, after (c .before)))
+    (λ c κs. s (took (c .before)) .pre .0) (λ c. after (c .before .before .before)) (λ c. search needs) returns
+    (λ c. let took = c .before .before .before in (λ bs opens. sym (number-short (at took opens) 1 (taken-is took opens (c .before .taken2 .given .1)) _), tt))
+    returns-3)

@@ -1,8 +1,5 @@
 -- `adoption::cells::width` meets its contract. Assumes nothing.
-use mathlib.Core.Path.{_≡_, ap₂}
-use Prim.Native.Nat.{_*_}
-use native.Mathlib.Omega.{arith}
-use borrow.Author.Needs.{needs}
+use Rattle.bits.proofs.Words.{_≡_, ap₂, _*_, arith, needs}
 use borrow.Author.Tests.{not-true, not-false}
 use lib.Count.{ones}
 use Rattle.adoption.proofs.Strips.{few-bits}

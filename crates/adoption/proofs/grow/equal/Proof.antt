@@ -1,9 +1,6 @@
 -- `adoption::grow::equal` meets its contract. The loop's invariant: the strips stored and those that are left. Assumes nothing.
-use mathlib.Core.Path.{_≡_, refl, sym}
-use Prim.Native.Nat.{suc, _+_, _-_, _≤_}
+use Rattle.bits.proofs.Words.{_≡_, refl, sym, suc, _+_, _-_, _≤_, arith, needs}
 use native.Mathlib.Nat.{sub-zero, add-zero}
-use native.Mathlib.Omega.{arith}
-use borrow.Author.Needs.{needs}
 use lib.ListN.{replicate}
 use Rattle.adoption.proofs.Strips.{Filling, one-filled}
 use Rattle.adoption.proofs.grow.equal.Statement.{statement}
@@ -23,14 +20,9 @@ loop-again c =
     let next : x .from + (l .i + 1) ≡ suc (x .from + l .i) = omega arith in
     (omega arith, rw next (one-filled (rw left at (l .inv .1))))
 
-returns : tie.Need-returns Inv-loop μ-loop
-returns c =
-    let l = c .before .loop in
-    let none : c .before .before .args .n - l .i ≡ 0 = omega arith in
-    sym ((rw none at (l .inv .1)) .same)
-
 pub equal-spec : {M : Type 1} → statement M
 equal-spec =
     tie.close
-    (tie.spec Inv-loop μ-loop (λ c. (omega arith, rw (add-zero, sub-zero) (record { same = refl; room = refl }))) (λ c. search needs) (λ c. search needs) (λ c. search needs) (λ c. search needs)
-    (λ c. search needs) loop-again (λ c. search needs) returns)
+    (tie.spec Inv-loop μ-loop (λ c. (omega arith, rw (add-zero, sub-zero) (record { same = refl; room = refl }))) (λ c. search needs) (λ c. search needs)
+    (λ c. search needs) (λ c. search needs) (λ c. search needs) loop-again (λ c. search needs)
+    (λ c. let l = c .before .loop in let none : c .before .before .args .n - l .i ≡ 0 = omega arith in sym ((rw none at (l .inv .1)) .same)))

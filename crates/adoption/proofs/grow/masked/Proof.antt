@@ -1,17 +1,12 @@
 -- `adoption::grow::masked` meets its contract. The loop's invariant: the strips stored and their ones, those that are left, and that their bits are there.
 -- Assumes nothing.
-use mathlib.Core.Path.{_≡_, refl, sym, ap, _∙_}
-use mathlib.Core.List.{_∷_}
-use Prim.Native.Nat.{ℕ, suc, _+_, _-_, _*_, _%_, _^_, _≤_, _<_}
+use Rattle.bits.proofs.Words.{_≡_, refl, sym, ap, _∙_, _∷_, ℕ, suc, _+_, _-_, _*_, _%_, _^_, _≤_, _<_, arith, needs, length, getD}
 use native.Mathlib.Nat.{add-zero, sub-zero, suc-mul}
-use native.Mathlib.Omega.{arith}
-use borrow.Author.Needs.{needs}
 use lib.Count.{ones, ones-le}
-use lib.ListN.{length, getD}
 use Rattle.adoption.specs.Growing.{Sees}
 use Rattle.adoption.specs.Spreading.{stripOf}
 use Rattle.adoption.proofs.Bitwise.{spreadOf, spread-lt}
-use Rattle.adoption.proofs.Strips.{stripsAt, seen-field, Filling, one-filled, next-strip}
+use Rattle.adoption.proofs.Strips.{stripsAt, window-sees, seen-field, Filling, one-filled, next-strip}
 use Rattle.bits.specs.Places.{field}
 use Rattle.format.specs.Lengths.{total}
 use Rattle.holding.specs.Building.{onesIn}
@@ -53,6 +48,13 @@ module _ (c : tie.In-loop Inv-loop μ-loop) where
   there : c .before .loop .at + counted .count .result + more * ones (s .args .signals) ≤ 8 * length (s .args .bytes .now)
   there = omega (arith, counted .count .ensures, rw (one-more, suc-mul) at (c .before .loop .inv .3))
 
+-- the window has them
+seen : (c : tie.After-window-for Inv-loop μ-loop) → let r = c .window-for .result in
+    let at = c .before .before .loop .at in Sees (s (c .before) .args .bytes .now) r at × (at - r .from + counted (c .before) .count .result < 64)
+seen c =
+    let l = c .before .before .loop in
+    window-sees (s (c .before) .args .bytes .now) (l .window) (l .at) _ (few (counted (c .before))) (l .inv .1) (c .window-for .ensures)
+
 -- the next strip, of the last four bits and the others
 module _ (c : tie.After-spread-strip Inv-loop μ-loop) where
   abbrev l : tie.In-loop Inv-loop μ-loop
@@ -73,8 +75,8 @@ module _ (c : tie.After-spread-strip Inv-loop μ-loop) where
 
   is-field : bits ≡ field (s l .args .bytes .now) (l .before .loop .at) (counted l .count .result)
   is-field =
-      let seen = c .before .before .before .window-for .ensures in
-      seen-field (s l .args .bytes .now) _ (l .before .loop .at) _ _ (seen .0) (seen .1) (c .before .cut .ensures)
+      let w = seen (c .before .before .before) in
+      seen-field (s l .args .bytes .now) _ (l .before .loop .at) _ _ (w .0) (w .1) (c .before .cut .ensures)
 
   -- it has few ones
   some : ones (getD (l .before .before .before .before .last-four .result .strips) (bits % 16) 0 + c .spread-strip .result) ≤ 16
@@ -87,7 +89,7 @@ loop-again c =
     let x = s p .args in
     let at = p .before .loop in
     let w = counted p .count .result in
-    let seen = c .before .before .before .before .window-for .ensures in
+    let seen = seen (c .before .before .before .before) in
     let first = next-strip (x .bytes .now) (more p) (at .at) (x .signals) w (counted p .count .ensures) (s p .fits .signals .fits) (omega (arith, there p)) in
     let e : stripsAt (x .bytes .now) (at .at) (x .n - at .i) (x .signals) ≡ _ ∷ stripsAt (x .bytes .now) (at .at + w) (more p) (x .signals) =
     rw (one-more p) first ∙ ap (λ (b : ℕ). b ∷ stripsAt (x .bytes .now) (at .at + w) (more p) (x .signals)) (sym (whole (c .before) ∙ ap (stripOf (x .signals)) (is-field (c .before)))) in
@@ -106,7 +108,7 @@ pub masked-spec : {M : Type 1} → statement M
 masked-spec =
     tie.close
     (tie.spec Inv-loop μ-loop (λ c κs. search needs) (λ c κs. search needs) (λ c κs. omega arith) (λ c. omega arith) loop-holds
-    (λ c κs. (few (counted c), omega (arith, c .before .loop .inv), c .before .loop .inv .1)) (λ c. c .before .window-for .ensures .0 .before) (λ c κs. c .before .window-for .ensures .1)
+    (λ c κs. (few (counted c), omega (arith, c .before .loop .inv), c .before .loop .inv .1 .before)) (λ c. seen (c .before) .0 .before) (λ c κs. seen (c .before) .1)
     (λ c. omega arith) (λ c. omega arith) (λ c κs. search needs) (λ c. omega (arith, whole c, small c)) (λ c. omega arith) (λ c. omega arith) (λ c. omega (arith, l c .before .loop .inv .6 .room)) (λ c. omega (arith, whole c, small c)) (λ c κs. search needs)
     (λ c. omega (arith, c .count2 .ensures, some (c .before))) (λ c. omega (arith, few (counted (l (c .before))))) (λ c. omega arith)
     (λ c. omega arith) loop-again (λ c. c .before .loop .inv .6 .room) returns)

@@ -1,10 +1,5 @@
 -- `adoption::grow::strips` meets its contract. Assumes nothing.
-use mathlib.Core.Path.{_≡_, sym, ap, ap₂, _∙_}
-use mathlib.Core.Bool.{true}
-use mathlib.Core.List.{List}
-use Prim.Native.Nat.{ℕ, _-_, _*_, _^_, _≤_, _<_}
-use native.Mathlib.Omega.{arith}
-use borrow.Author.Needs.{needs}
+use Rattle.bits.proofs.Words.{_≡_, sym, ap, ap₂, _∙_, true, List, ℕ, _-_, _*_, _^_, _≤_, _<_, arith, needs}
 use borrow.Author.Tests.{not-true, not-false}
 use lib.Count.{ones, ones-le}
 use lib.ListN.{replicate}

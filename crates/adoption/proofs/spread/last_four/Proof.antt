@@ -1,6 +1,5 @@
 -- `adoption::spread::last_four` meets its contract. Assumes nothing.
-use borrow.Author.Needs.{needs}
-use native.Mathlib.Omega.{arith}
+use Rattle.bits.proofs.Words.{arith, needs}
 use Rattle.adoption.proofs.Bitwise.{four-out}
 use Rattle.adoption.proofs.spread.last_four.Statement.{statement}
 use Rattle.adoption.proofs.spread.last_four.Tie as tie

@@ -1,7 +1,5 @@
 -- `adoption::spread::without_last` meets its contract. Assumes nothing.
-use mathlib.Core.Path.{refl}
-use Prim.Native.Nat.{_-_}
-use native.Mathlib.Omega.{arith}
+use Rattle.bits.proofs.Words.{refl, _-_, arith}
 use lib.Bits.{and-le-l}
 use Rattle.adoption.proofs.spread.without_last.Statement.{statement}
 use Rattle.adoption.proofs.spread.without_last.Tie as tie

@@ -1,12 +1,6 @@
 -- `adoption::stages::read_id` meets its contract. Assumes nothing.
-use mathlib.Core.Path.{_≡_, sym, _∙_}
-use mathlib.Core.Bool.{true, cond, not, _&&_}
-use mathlib.Core.List.{List}
-use Prim.Native.Nat.{ℕ, _+_, _<_}
-use native.Mathlib.Omega.{arith}
-use borrow.Author.Needs.{needs}
+use Rattle.bits.proofs.Words.{_≡_, sym, _∙_, true, cond, _&&_, not, List, ℕ, _+_, _<_, arith, needs, take}
 use borrow.Author.Tests.{le-leb, lt-leb}
-use lib.ListN.{take}
 use Rattle.format.proofs.Ends.{fits, number-short}
 use Rattle.adoption.proofs.StageEnds.{first-taken, id-end}
 use Rattle.format.specs.Ends.{endFrom}
@@ -42,10 +36,6 @@ module _ (c : tie.After-known-told2) where
       → endFrom (systemId ids) bs (s .args .f .end) (s .args .f .start) ≡ cond (known id && not (named id ids)) (well id (s .args .f .start + 4)) (badly System 0)
   ends opens = id-end (opens .within) ids (there opens)
 
-returns : tie.Need-returns
-unfolding endNamed known
-returns c = λ bs opens. sym (ends (c .before) opens ∙ rw (lt-leb (id (c .before)) 4 (c .if1 .taken)))
-
 -- a known one, by whether it is named
 module _ (c : tie.After-named-in) where
   abbrev p : tie.After-known-told2
@@ -58,22 +48,12 @@ module _ (c : tie.After-named-in) where
   unfolding known
   is-known = le-leb (id p) 4 (omega (arith, c .before .if1 .left))
 
-returns-2 : tie.Need-returns-2
-unfolding endNamed
-returns-2 c = λ bs opens. sym (ends (p (c .before)) opens ∙ rw (is-known (c .before), is-named (c .before) ∙ c .if2 .taken))
-
-returns-3 : tie.Need-returns-3
-unfolding endNamed systemId
-returns-3 c =
-    let took = c .before .before .before in
-    λ bs opens. sym (number-short (opens .within) 4 (first-taken opens 4 (took .taken .ensures) (c .before .taken2 .given .1)) _)
-
-returns-4 : tie.Need-returns-4
-unfolding endNamed
-returns-4 c = λ bs opens. sym (ends (p (c .before)) opens ∙ rw (is-known (c .before), is-named (c .before) ∙ c .if2 .left))
-
 pub read-id-spec : {M : Type 1} → statement M
+unfolding endNamed known systemId
 read-id-spec =
     tie.close
-    (tie.spec (λ c κs. (omega arith, omega (arith, c .before .pre .1 .opens .within))) (λ c. search needs) (λ c. search needs) (λ c. omega (arith, low c)) (λ c. search needs) returns (λ c κs. search needs) returns-2 returns-3
-    returns-4)
+    (tie.spec (λ c κs. (c .before .pre .1, omega arith, omega (arith, c .before .pre .1 .opens .within))) (λ c. search needs) (λ c. search needs)
+    (λ c. omega (arith, low c)) (λ c. search needs) (λ c bs opens. sym (ends (c .before) opens ∙ rw (lt-leb (id (c .before)) 4 (c .if1 .taken))))
+    (λ c κs. search needs) (λ c bs opens. sym (ends (p (c .before)) opens ∙ rw (is-known (c .before), is-named (c .before) ∙ c .if2 .taken)))
+    (λ c. let took = c .before .before .before in λ bs opens. sym (number-short (opens .within) 4 (first-taken opens 4 (took .taken .ensures) (c .before .taken2 .given .1)) _))
+    (λ c bs opens. sym (ends (p (c .before)) opens ∙ rw (is-known (c .before), is-named (c .before) ∙ c .if2 .left))))

@@ -1,12 +1,7 @@
 -- `adoption::stages::read_masks` meets its contract. Assumes nothing.
-use mathlib.Core.Path.{_≡_, sym, ap, subst, _∙_}
-use mathlib.Core.Bool.{true, cond}
-use Prim.Native.Nat.{ℕ, _+_, _^_, _≤_, _<_}
-use native.Mathlib.Omega.{arith}
-use borrow.Author.Needs.{needs}
+use Rattle.bits.proofs.Words.{_≡_, sym, ap, _∙_, subst, true, cond, ℕ, _+_, _^_, _≤_, _<_, arith, needs, leb}
 use borrow.Author.Tests.{le-leb, lt-leb, not-true, not-false}
 use lib.Count.{ones, ones-le}
-use lib.Dec.{leb}
 use Rattle.format.proofs.Ends.{after-field, fits, bits-short}
 use Rattle.adoption.proofs.StageEnds.{opens-at, satellites-end}
 use Rattle.format.specs.Ends.{Within, endFrom}
@@ -46,10 +41,6 @@ module _ (c : tie.After-known-told2) where
       (cond (leb (s .args .n + ones sats) 64) (endFrom (systemSignals (s .args .id) (spell 40 sats)) (s .args .bytes .now) (s .args .f .end) (s .args .f .start + 4 + 40)) (badly Size 0)) (badly Reserved 0)
   ends = satellites-end (s .pre .2) (s .args .n) (s .args .id) there
 
-returns : tie.Need-returns
-unfolding endMasked FitsMasked
-returns c = (sym (ends (c .before .before) ∙ rw (sym (c .before .satellites-assigned .ensures) ∙ not-true _ (c .if1 .taken))), tt)
-
 -- how many satellites there are
 module _ (c : tie.After-count) where
   abbrev p : tie.After-known-told2
@@ -60,18 +51,6 @@ module _ (c : tie.After-count) where
 
   on : assigned satellitePlaces (s p .args .id) (spell 40 (sats p)) ≡ true
   on = sym (c .before .before .satellites-assigned .ensures) ∙ not-false _ (c .before .if1 .left)
-
-returns-2 : tie.Need-returns-2
-unfolding endMasked FitsMasked
-returns-2 c =
-    let at = p (c .before) in
-    (sym (ends at ∙ rw (on (c .before), lt-leb (s at .args .n + ones (sats at)) 64 (omega (arith, c .before .count .ensures, c .if2 .taken)))), tt)
-
-returns-3 : tie.Need-returns-3
-unfolding endMasked FitsMasked systemMasks
-returns-3 c =
-    let took = c .before .before .before in
-    (sym (bits-short (took .before .before .pre .2) 40 (sym (took .taken .ensures _ (took .before .before .pre .3)) ∙ c .before .taken2 .given .1) _), tt)
 
 -- the front of the signal mask
 module _ (c : tie.After-front-at) where
@@ -93,8 +72,14 @@ returns-4 c =
     (read .0 (x .bytes .now) (opens (c .before)) ∙ same ∙ sym (ends at ∙ rw (on count, fit)), subst (λ (g : Front). FitsMasked (x .bytes .now) (g .end) (c .read-signals .result)) front (read .1 (x .bytes .now) (opens (c .before))))
 
 pub read-masks-spec : {M : Type 1} → statement M
+unfolding endMasked FitsMasked systemMasks
 read-masks-spec =
     tie.close
-    (tie.spec (λ c κs. (omega arith, c .before .pre .2 .room)) (λ c. search needs) (λ c. search needs) (λ c κs. (search needs, low c)) returns (λ c κs. search needs) (λ c. omega (arith, few c))
-    returns-2 (λ c. search needs) (λ c. omega (arith, after (p (c .before .before)))) (λ c κs. search needs)
-    (λ c κs. (search needs, low (k c), record { bytes = _; opens = opens c })) returns-3 returns-4)
+    (tie.spec (λ c κs. (record { bytes = _; opens = c .before .pre .3 }, omega arith, c .before .pre .2 .room)) (λ c. search needs) (λ c. search needs)
+    (λ c κs. (search needs, low c)) (λ c. (sym (ends (c .before .before) ∙ rw (sym (c .before .satellites-assigned .ensures) ∙ not-true _ (c .if1 .taken))), tt))
+    (λ c κs. search needs) (λ c. omega (arith, few c))
+    (λ c. let at = p (c .before) in (sym (ends at ∙ rw (on (c .before), lt-leb (s at .args .n + ones (sats at)) 64 (omega (arith, c .before .count .ensures, c .if2 .taken)))), tt))
+    (λ c. search needs) (λ c. omega (arith, after (p (c .before .before)))) (λ c κs. search needs)
+    (λ c κs. (search needs, low (k c), record { bytes = _; opens = opens c }))
+    (λ c. let took = c .before .before .before in (sym (bits-short (took .before .before .pre .2) 40 (sym (took .taken .ensures _ (took .before .before .pre .3)) ∙ c .before .taken2 .given .1) _), tt))
+    returns-4)

@@ -1,9 +1,5 @@
 -- `adoption::stages::read_signals` meets its contract. Assumes nothing.
-use mathlib.Core.Path.{_≡_, refl, sym, _∙_}
-use mathlib.Core.List.{List}
-use Prim.Native.Nat.{ℕ, _^_, _<_}
-use native.Mathlib.Omega.{arith}
-use borrow.Author.Needs.{needs}
+use Rattle.bits.proofs.Words.{_≡_, refl, sym, _∙_, List, ℕ, _^_, _<_, arith, needs}
 use borrow.Author.Tests.{not-true, not-false}
 use Rattle.format.specs.Messages.{systemSignals}
 use Rattle.format.proofs.Ends.{fits, bits-short}
@@ -37,12 +33,6 @@ returns c =
     let x = s p .args in
     (λ bs opens. sym (signals-end (opens .within) (x .id) (spell 40 (x .satellites)) (there p opens) ∙ rw (sym (c .before .signals-assigned .ensures) ∙ not-true _ (c .if1 .taken))), λ bs opens. tt)
 
-returns-2 : tie.Need-returns-2
-unfolding endMasked FitsMasked systemSignals
-returns-2 c =
-    let took = c .before .before .before in
-    (λ bs opens. sym (bits-short (opens .within) 16 (first-taken opens 16 (took .taken .ensures) (c .before .taken2 .given .1)) _), λ bs opens. tt)
-
 returns-3 : tie.Need-returns-3
 unfolding endMasked FitsMasked
 returns-3 c =
@@ -51,6 +41,10 @@ returns-3 c =
     (λ bs opens. sym (signals-end (opens .within) (x .id) (spell 40 (x .satellites)) (there p opens) ∙ rw (sym (c .before .signals-assigned .ensures) ∙ not-false _ (c .if1 .left))), λ bs opens. (s p .pre .1, opens, refl))
 
 pub read-signals-spec : {M : Type 1} → statement M
+unfolding endMasked FitsMasked systemSignals
 read-signals-spec =
     tie.close
-    (tie.spec (λ c κs. (omega arith, omega (arith, c .pre .2 .opens .within))) (λ c. search needs) (λ c. search needs) (λ c κs. (search needs, low c)) returns (λ c. omega (arith, low (c .before .before))) returns-2 returns-3)
+    (tie.spec (λ c κs. (c .pre .2, omega arith, omega (arith, c .pre .2 .opens .within))) (λ c. search needs) (λ c. search needs) (λ c κs. (search needs, low c))
+    returns (λ c. omega (arith, low (c .before .before)))
+    (λ c. let took = c .before .before .before in (λ bs opens. sym (bits-short (opens .within) 16 (first-taken opens 16 (took .taken .ensures) (c .before .taken2 .given .1)) _), λ bs opens. tt))
+    returns-3)

@@ -1,11 +1,8 @@
 -- `adoption::systems::all` meets its contract. The loop's invariant: the holding has the systems read so far, and all are answered as those left are after
 -- them. Assumes nothing.
-use mathlib.Core.Path.{_≡_, sym, ap, _∙_}
+use Rattle.bits.proofs.Words.{_≡_, sym, ap, _∙_, ℕ, suc, _+_, _-_, _^_, _≤_, _<_, arith, needs}
 use mathlib.Core.List.{flatMap}
-use Prim.Native.Nat.{ℕ, suc, _+_, _-_, _^_, _≤_, _<_}
 use native.Mathlib.Nat.{sub-zero}
-use native.Mathlib.Omega.{arith}
-use borrow.Author.Needs.{needs}
 use lib.Count.{ones}
 use Rattle.adoption.proofs.ManySystems.{answer, firstMask, Stands, none-yet, none-left, ids-named, strips-left, one-refused, room-for, after, too-many, slot, one-fine}
 use Rattle.adoption.specs.Adoptions.{adoptionBy}
@@ -25,10 +22,6 @@ Inv-loop iod numbers bytes end at₀ n h₀ at h = Stands numbers bytes end (ans
 abbrev μ-loop : tie.MeasureT-loop
 μ-loop iod numbers bytes end at₀ n h₀ at h = n - h .count
 
-loop-holds : tie.Need-loop-holds Inv-loop μ-loop
-unfolding filled pictureOf satellites cells flatMap
-loop-holds c = rw sub-zero (none-yet (c .before .args .numbers) (c .before .args .iod) (c .before .args .n) (c .before .pre .0) (c .before .pre .1))
-
 -- one more, of those left
 module _ (c : tie.After-read-system Inv-loop μ-loop) where
   abbrev l : tie.At-loop Inv-loop μ-loop
@@ -43,11 +36,6 @@ module _ (c : tie.After-read-system Inv-loop μ-loop) where
   stands =
       let e : l .before .before .args .n - l .loop .h .count ≡ suc more = omega arith in
       rw e at (l .loop .inv)
-
-returns : tie.Need-returns Inv-loop μ-loop
-returns c =
-    let p = c .before .before .before .before in
-    c .refused .ensures ∙ sym (one-refused (stands p) (p .read-system .result) (p .read-system .ensures .0) (c .before .before .r .given .1))
 
 -- where it is read up to its cells
 module _ (c : tie.After-known-told2 Inv-loop μ-loop) where
@@ -104,11 +92,16 @@ returns-3 c =
     ap (λ (g : Holding). record { answer = Message (c .before .before .before .args .numbers) (l .at) 0; holding = g }) (sym (s .held .picture)) ∙ sym (none-left s)
 
 pub all-spec : {M : Type 1} → statement M
+unfolding filled pictureOf satellites cells flatMap
 all-spec =
     tie.close
-    (tie.spec Inv-loop μ-loop loop-holds (λ c κs. let l = c .before .before .before .before .loop .inv in (ids-named l .0, l .held .few-satellites, l .there)) (λ c. search needs)
-    (λ c κs. search needs) returns (λ c. search needs) (λ c κs. (fits (c .before) .1, fits (c .before) .0, omega (arith, next (c .before)), omega (arith, next (c .before)), strips-left (stands (read (c .before)))))
+    (tie.spec Inv-loop μ-loop
+    (λ c. rw sub-zero (none-yet (c .before .args .numbers) (c .before .args .iod) (c .before .args .n) (c .before .pre .0) (c .before .pre .1)))
+    (λ c κs. let l = c .before .before .before .before .loop .inv in (ids-named l .0, l .held .few-satellites, l .there)) (λ c. search needs) (λ c κs. search needs)
+    (λ c. let p = c .before .before .before .before in c .refused .ensures ∙ sym (one-refused (stands p) (p .read-system .result) (p .read-system .ensures .0) (c .before .before .r .given .1)))
+    (λ c. search needs)
+    (λ c κs. (fits (c .before) .1, fits (c .before) .0, omega (arith, next (c .before)), omega (arith, next (c .before)), strips-left (stands (read (c .before)))))
     (λ c. omega (arith, c .strips .ensures .0 .1, l (read (q c)) .loop .inv .held .few-cells)) (λ c κs. search needs) returns-2 (λ c κs. search needs)
-    (λ c. omega (arith, c .count .ensures, fits (p (c .before)) .1)) (λ c. few (c .before)) (λ c. omega (arith, few (c .before))) (λ c. few (c .before)) (λ c. omega (arith, few (c .before)))
-    (λ c. few (c .before)) (λ c. few (c .before)) (λ c. omega (arith, few (c .before))) (λ c κs. fits (p (c .before)) .0)
+    (λ c. omega (arith, c .count .ensures, fits (p (c .before)) .1)) (λ c. few (c .before)) (λ c. omega (arith, few (c .before))) (λ c. few (c .before))
+    (λ c. omega (arith, few (c .before))) (λ c. few (c .before)) (λ c. few (c .before)) (λ c. omega (arith, few (c .before))) (λ c κs. fits (p (c .before)) .0)
     (λ c. omega (arith, c .width .ensures, next (p (c .before .before)))) (λ c. omega arith) loop-again returns-3)

@@ -1,12 +1,7 @@
 -- `adoption::systems::read_system` meets its contract: the parts one after the other. Assumes nothing.
-use mathlib.Core.Path.{_≡_, sym, ap, _∙_}
-use mathlib.Core.List.{List}
-use Prim.Native.Nat.{ℕ, _+_, _^_, _≤_, _<_}
-use native.Mathlib.Omega.{arith}
-use borrow.Author.Needs.{needs}
+use Rattle.bits.proofs.Words.{_≡_, sym, ap, _∙_, List, ℕ, _+_, _^_, _≤_, _<_, arith, needs, take}
 use borrow.Author.Tests.{leb-true}
 use lib.Count.{ones}
-use lib.ListN.{take}
 use Rattle.adoption.proofs.StageEnds.{opens-at, masks-fit}
 use Rattle.adoption.specs.Stages.{endNamed, masksBy, endMasked, FitsMasked, withCells, untested, endSystem, FitsSystem}
 use Rattle.format.proofs.Ends.{ended-at, gave, then-well, then-badly}

@@ -1,18 +1,13 @@
 -- `bits::part::counts` meets its contract. Assumes nothing.
-use native.Mathlib.Omega.{arith}
-use borrow.Author.Needs.{needs}
+use Rattle.bits.proofs.Words.{arith, needs}
 use borrow.Author.Tests.{lt-ltb, le-ltb}
 use Rattle.bits.specs.Parts.{countOf}
 use Rattle.bits.proofs.part.counts.Statement.{statement}
 use Rattle.bits.proofs.part.counts.Tie as tie
 
-returns : tie.Need-returns
-unfolding countOf
-returns c = rw (lt-ltb (c .before .args .from) (c .before .args .to) (omega arith))
-
-returns-2 : tie.Need-returns-2
-unfolding countOf
-returns-2 c = rw (le-ltb (c .before .args .from) (c .before .args .to) (omega arith))
-
 pub counts-spec : {M : Type 1} → statement M
-counts-spec = tie.close (tie.spec (λ c. search needs) (λ c. search needs) (λ c. search needs) returns returns-2)
+unfolding countOf
+counts-spec =
+    tie.close
+    (tie.spec (λ c. search needs) (λ c. search needs) (λ c. search needs) (λ c. rw (lt-ltb (c .before .args .from) (c .before .args .to) (omega arith)))
+    (λ c. rw (le-ltb (c .before .args .from) (c .before .args .to) (omega arith))))

@@ -1,13 +1,7 @@
 -- `bits::part::part` meets its contract. Assumes nothing.
-use mathlib.Core.Path.{_≡_, refl}
-use mathlib.Core.Bool.{Bool, true, false}
-use Prim.Native.Nat.{ℕ, _+_, _*_, _≤_}
+use Rattle.bits.proofs.Words.{_≡_, refl, Bool, true, false, ℕ, _+_, _*_, _≤_, arith, needs, ltb, length}
 use native.Mathlib.Nat.{add-sub-cancel-left}
-use native.Mathlib.Omega.{arith}
-use borrow.Author.Needs.{needs}
 use borrow.Author.Tests.{ltb-true}
-use lib.Dec.{ltb}
-use lib.ListN.{length}
 use Rattle.bits.specs.Parts.{startOf, countOf, partOf}
 use Rattle.bits.proofs.part.part.Statement.{statement}
 use Rattle.bits.proofs.part.part.Tie as tie
@@ -26,17 +20,9 @@ within c =
     let s = c .before .before .before in
     rw (c .before .begins .ensures, c .counts .ensures) (ends-within (s .args .from) (s .args .to) _ (s .pre))
 
-add-past : tie.Need-add-past
-add-past c = omega (arith, within c)
-
-part-result-end : tie.Need-part-result-end
-part-result-end c = omega (arith, within c)
-
-returns : tie.Need-returns
-unfolding partOf
-returns c =
-    let k = c .before in
-    record { bytes = rw (add-sub-cancel-left, k .before .begins .ensures, k .counts .ensures); memory = refl; offset = omega (arith, k .before .begins .ensures) }
-
 pub part-spec : {M : Type 1} → statement M
-part-spec = tie.close (tie.spec (λ c κs. search needs) (λ c κs. search needs) add-past (λ c. search needs) (λ c. search needs) part-result-end returns)
+unfolding partOf
+part-spec =
+    tie.close
+    (tie.spec (λ c κs. search needs) (λ c κs. search needs) (λ c. omega (arith, within c)) (λ c. search needs) (λ c. search needs) (λ c. omega (arith, within c))
+    (λ c. let k = c .before in record { bytes = rw (add-sub-cancel-left, k .before .begins .ensures, k .counts .ensures); memory = refl; offset = omega (arith, k .before .begins .ensures) }))

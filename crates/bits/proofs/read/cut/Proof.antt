@@ -1,8 +1,5 @@
 -- `bits::read::cut` meets its contract. Assumes nothing.
-use mathlib.Core.Path.{_≡_, _∙_}
-use Prim.Native.Nat.{ℕ, _+_, _-_, _*_, _%_, _^_}
-use native.Mathlib.Omega.{arith}
-use borrow.Author.Needs.{needs}
+use Rattle.bits.proofs.Words.{_≡_, _∙_, ℕ, _+_, _-_, _*_, _%_, _^_, arith, needs}
 use lib.Pow.{shr-shr}
 use Rattle.bits.proofs.Windows.{shifted}
 use Rattle.bits.proofs.read.cut.Statement.{statement}

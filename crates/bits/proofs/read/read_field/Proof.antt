@@ -1,8 +1,5 @@
 -- `bits::read::read_field` meets its contract. Assumes nothing.
-use mathlib.Core.Path.{_∙_, ap}
-use Prim.Native.Nat.{ℕ, _-_, _/_, _%_, _^_}
-use native.Mathlib.Omega.{arith}
-use borrow.Author.Needs.{needs}
+use Rattle.bits.proofs.Words.{ap, _∙_, ℕ, _-_, _/_, _%_, _^_, arith, needs}
 use Rattle.bits.proofs.Windows.{at-place}
 use Rattle.bits.proofs.read.read_field.Statement.{statement}
 use Rattle.bits.proofs.read.read_field.Tie as tie

@@ -1,9 +1,7 @@
 -- `bits::rest::zero_from` meets its contract. The loop's invariant: the bits passed are all zero.
 -- Assumes nothing.
-use mathlib.Core.Path.{_≡_, sym, ap, _∙_}
-use Prim.Native.Nat.{ℕ, _-_, _≤_, max}
-use native.Mathlib.Omega.{arith}
-use borrow.Author.Needs.{needs}
+use Rattle.bits.proofs.Words.{_≡_, sym, ap, _∙_, ℕ, _-_, _≤_, arith, needs}
+use Prim.Native.Nat.{max}
 use borrow.Author.Tests.{eq-eqb, ne-eqb}
 use Rattle.bits.specs.Places.{field}
 use Rattle.bits.proofs.Fields.{zero-more, zero-part}
@@ -15,13 +13,6 @@ Inv-loop bytes end place at₀ at = (place ≤ at) × (at ≤ max place end) × 
 
 abbrev μ-loop : tie.MeasureT-loop
 μ-loop bytes end place at₀ at = end - at
-
-loop-holds : tie.Need-loop-holds Inv-loop μ-loop
-unfolding field
-loop-holds c =
-    let x = c .before .args in
-    let none : x .place - x .place ≡ 0 = omega arith in
-    (omega arith, omega arith, ap (field (x .bytes .now) (x .place)) none)
 
 returns : tie.Need-returns Inv-loop μ-loop
 returns c =
@@ -44,17 +35,9 @@ returns-2 c =
     sym (eq-eqb _ 0 (ap (field (x .bytes .now) (x .place)) whole ∙ c .before .loop .inv .2))
 
 pub zero-from-spec : {M : Type 1} → statement M
+unfolding field
 zero-from-spec =
     tie.close
-    (tie.spec
-    Inv-loop
-    μ-loop
-    loop-holds
-    (λ c κs. search needs)
-    (λ c κs. search needs)
-    (λ c κs. omega arith)
-    returns
-    (λ c. omega arith)
-    (λ c. omega arith)
-    loop-again
-    returns-2)
+    (tie.spec Inv-loop μ-loop
+    (λ c. let x = c .before .args in let none : x .place - x .place ≡ 0 = omega arith in (omega arith, omega arith, ap (field (x .bytes .now) (x .place)) none))
+    (λ c κs. search needs) (λ c κs. search needs) (λ c κs. omega arith) returns (λ c. omega arith) (λ c. omega arith) loop-again returns-2)

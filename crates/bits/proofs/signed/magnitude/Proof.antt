@@ -1,8 +1,7 @@
 -- `bits::signed::magnitude` meets its contract. Assumes nothing.
-use mathlib.Core.Path.{_≡_}
-use native.Mathlib.Omega.{arith}
+use Rattle.bits.proofs.Words.{_≡_, arith, pos}
 use lib.Dec.{T}
-use lib.IntN.{pos, negsuc, natAbs, _-ℤ_}
+use lib.IntN.{negsuc, natAbs, _-ℤ_}
 use lib.Signed.{mag, nonNeg}
 use mir.Facts.{toZ-ofZ, toZ-pos}
 use mir.Syntax.{w32}
@@ -16,21 +15,10 @@ negative c = below-zero (c .before .args .z) (rw (toZ-ofZ (c .before .fits .z)) 
 plain : (c : tie.Else1) → T (nonNeg (c .before .args .z)) × (natAbs (c .before .args .z) ≡ mag (c .before .args .z))
 plain c = from-zero (c .before .args .z) (rw (toZ-ofZ (c .before .fits .z)) at (c .if1 .left))
 
-sub-result : tie.Need-sub-result
-sub-result c = rw (toZ-ofZ (c .before .fits .z), negative c) (record { sfits = c .before .fits .z .sfits })
-
-cast-result : tie.Need-cast-result
-cast-result c = rw (toZ-ofZ (c .before .fits .z), negative c, toZ-pos w32 (c .before .fits .z .sfits)) (tt, omega (arith, c .before .fits .z .sfits))
-
-cast-result-2 : tie.Need-cast-result-2
-cast-result-2 c =
-    rw (toZ-ofZ (c .before .fits .z), plain c .1) (plain c .0, omega (arith, c .before .fits .z .sfits))
-
-returns : tie.Need-returns
-returns c = rw (toZ-ofZ (c .before .fits .z), negative c, toZ-pos w32 (c .before .fits .z .sfits))
-
-returns-2 : tie.Need-returns-2
-returns-2 c = rw (toZ-ofZ (c .before .fits .z)) (plain c .1)
-
 pub magnitude-spec : {M : Type 1} → statement M
-magnitude-spec = tie.close (tie.spec sub-result cast-result cast-result-2 returns returns-2)
+magnitude-spec =
+    tie.close
+    (tie.spec (λ c. rw (toZ-ofZ (c .before .fits .z), negative c) (record { sfits = c .before .fits .z .sfits }))
+    (λ c. rw (toZ-ofZ (c .before .fits .z), negative c, toZ-pos w32 (c .before .fits .z .sfits)) (tt, omega (arith, c .before .fits .z .sfits)))
+    (λ c. rw (toZ-ofZ (c .before .fits .z), plain c .1) (plain c .0, omega (arith, c .before .fits .z .sfits)))
+    (λ c. rw (toZ-ofZ (c .before .fits .z), negative c, toZ-pos w32 (c .before .fits .z .sfits))) (λ c. rw (toZ-ofZ (c .before .fits .z)) (plain c .1)))

@@ -1,6 +1,5 @@
 -- `bits::window::eight` meets its contract. Assumes nothing.
-use native.Mathlib.Omega.{arith}
-use borrow.Author.Needs.{needs}
+use Rattle.bits.proofs.Words.{arith, needs}
 use Rattle.bits.proofs.Windows.{eight-bytes}
 use Rattle.bits.proofs.window.eight.Statement.{statement}
 use Rattle.bits.proofs.window.eight.Tie as tie

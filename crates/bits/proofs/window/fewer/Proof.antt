@@ -1,10 +1,6 @@
 -- `bits::window::fewer` meets its contract. The loop's invariant: the sum is the number in the bytes passed.
 -- Assumes nothing.
-use mathlib.Core.Path.{_≡_, sym, ap, _∙_}
-use mathlib.Core.List.{List}
-use Prim.Native.Nat.{ℕ, _+_, _-_, _*_, _%_, _^_, _≤_, _<_}
-use native.Mathlib.Omega.{arith}
-use lib.ListN.{length, getD}
+use Rattle.bits.proofs.Words.{_≡_, sym, ap, _∙_, List, ℕ, _+_, _-_, _*_, _%_, _^_, _≤_, _<_, arith, length, getD}
 use lib.Pow.{pow-mono}
 use Rattle.bits.specs.Places.{field}
 use Rattle.bits.proofs.Fields.{field-lt, field-past}
@@ -18,28 +14,12 @@ Inv-loop bytes i sum₀ at₀ sum at = (i ≤ at) × (at ≤ length bytes) × (s
 abbrev μ-loop : tie.MeasureT-loop
 μ-loop bytes i sum₀ at₀ sum at = length bytes - at
 
-returns : tie.Need-returns Inv-loop μ-loop
-returns c = sym (field-past (c .before .args .bytes .now) (8 * c .before .args .i) 64 (omega arith))
-
-loop-holds : tie.Need-loop-holds Inv-loop μ-loop
-unfolding field
-loop-holds c =
-    let x = c .before .args in
-    let none : 8 * (x .i - x .i) ≡ 0 = omega arith in
-    (omega arith, omega arith, rw none)
-
 -- six bytes at most were passed
 small : (c : tie.In-loop Inv-loop μ-loop) → c .before .loop .sum < 2 ^ 48
 small c =
     let x = c .before .before .before .args in
     let few : 8 * (c .before .loop .at - x .i) ≤ 48 = omega arith in
     omega (arith, field-lt (x .bytes .now) (8 * x .i) (8 * (c .before .loop .at - x .i)), pow-mono few)
-
-cast-sum : tie.Need-cast-sum Inv-loop μ-loop
-cast-sum c = omega (arith, c .shared-slice-known .given (c .before .before .loop .at))
-
-add-sum : tie.Need-add-sum Inv-loop μ-loop
-add-sum c = omega (arith, small (c .before), c .shared-slice-known .given (c .before .before .loop .at))
 
 loop-again : tie.Need-loop-again Inv-loop μ-loop
 loop-again c =
@@ -63,22 +43,11 @@ returns-2 c =
     ∙ moved-up bs (x .i) n (64 - 8 * n) (omega arith) (omega arith)
 
 pub fewer-spec : {M : Type 1} → statement M
+unfolding field
 fewer-spec =
     tie.close
-    (tie.spec
-    Inv-loop
-    μ-loop
-    returns
-    loop-holds
-    (λ c. omega (arith, small c))
-    (λ c. omega arith)
-    cast-sum
-    add-sum
-    (λ c. omega arith)
-    (λ c. omega arith)
-    loop-again
-    (λ c. omega arith)
-    (λ c. omega arith)
-    (λ c. omega arith)
-    (λ c. omega arith)
-    returns-2)
+    (tie.spec Inv-loop μ-loop (λ c. sym (field-past (c .before .args .bytes .now) (8 * c .before .args .i) 64 (omega arith)))
+    (λ c. let x = c .before .args in let none : 8 * (x .i - x .i) ≡ 0 = omega arith in (omega arith, omega arith, rw none)) (λ c. omega (arith, small c))
+    (λ c. omega arith) (λ c. omega (arith, c .shared-slice-known .given (c .before .before .loop .at)))
+    (λ c. omega (arith, small (c .before), c .shared-slice-known .given (c .before .before .loop .at))) (λ c. omega arith) (λ c. omega arith) loop-again
+    (λ c. omega arith) (λ c. omega arith) (λ c. omega arith) (λ c. omega arith) returns-2)

@@ -4,8 +4,8 @@ use Rattle.bits.proofs.Stores.{split-bytes}
 use Rattle.bits.proofs.window.split.Statement.{statement}
 use Rattle.bits.proofs.window.split.Tie as tie
 
-returns : tie.Need-returns
-returns c = split-bytes (c .args .window)
-
 pub split-spec : {M : Type 1} → statement M
-split-spec = tie.close (tie.spec (λ c. search needs) (λ c. search needs) (λ c. search needs) (λ c. search needs) (λ c. search needs) (λ c. search needs) (λ c. search needs) (λ c. search needs) returns)
+split-spec =
+    tie.close
+    (tie.spec (λ c. search needs) (λ c. search needs) (λ c. search needs) (λ c. search needs) (λ c. search needs) (λ c. search needs) (λ c. search needs)
+    (λ c. search needs) (λ c. split-bytes (c .args .window)))

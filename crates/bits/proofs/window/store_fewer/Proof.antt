@@ -1,13 +1,8 @@
 -- `bits::window::store_fewer` meets its contract. The loop's invariant: as many of the window's bytes are set as were passed.
 -- Assumes nothing.
-use mathlib.Core.Path.{_≡_, refl, ap, _∙_}
-use mathlib.Core.List.{List}
-use Prim.Native.Nat.{ℕ, _-_, _≤_}
+use Rattle.bits.proofs.Words.{_≡_, refl, ap, _∙_, List, ℕ, _-_, _≤_, add-one, arith, needs, length, getD, take}
 use native.Mathlib.Nat.{zero-add}
-use native.Mathlib.Numerals.{add-one}
-use native.Mathlib.Omega.{arith}
-use borrow.Author.Needs.{needs}
-use lib.ListN.{length, getD, take, set, length-set}
+use lib.ListN.{set, length-set}
 use lib.Seq.{sets}
 use Rattle.bits.specs.BitLists.{spell}
 use Rattle.bits.proofs.BitLists.{length-bytes}

@@ -1,9 +1,6 @@
 -- `bits::write::replaced` meets its contract. Assumes nothing.
-use mathlib.Core.Path.{_≡_, ap, _∙_}
-use Prim.Native.Nat.{ℕ, _-_, _*_, _/_, _%_, _^_}
+use Rattle.bits.proofs.Words.{_≡_, ap, _∙_, ℕ, _-_, _*_, _/_, _%_, _^_, arith, needs}
 use native.Mathlib.Nat.{mod-eq-of-lt, lt-of-le-of-lt}
-use native.Mathlib.Omega.{arith}
-use borrow.Author.Needs.{needs}
 use lib.Pow.{shl-exact}
 use Rattle.bits.proofs.Stores.{field-le, replaced-lt}
 use Rattle.bits.proofs.write.replaced.Statement.{statement}
@@ -29,17 +26,10 @@ module _ (c : tie.After-cut) where
   new-exact : n * 2 ^ t % 2 ^ 64 ≡ n * 2 ^ t
   new-exact = shl-exact w t 64 (c .before .pre .2) (omega arith)
 
-sub-result : tie.Need-sub-result
-sub-result c = rw (old-exact c) (field-le (y c) (w c) (t c))
-
-add-result : tie.Need-add-result
-add-result c =
-    record { fits = rw (old-exact c, new-exact c) (replaced-lt (y c) (c .before .args .skip) (w c) (t c) (n c) (omega arith) (c .before .fits .window .fits) (c .before .pre .2)) }
-
-returns : tie.Need-returns
-returns c = rw (old-exact c, new-exact c)
-
 pub replaced-spec : {M : Type 1} → statement M
 replaced-spec =
     tie.close
-    (tie.spec (λ c. search needs) (λ c. search needs) (λ c κs. search needs) (λ c. search needs) sub-result (λ c. search needs) add-result returns)
+    (tie.spec (λ c. search needs) (λ c. search needs) (λ c κs. search needs) (λ c. search needs) (λ c. rw (old-exact c) (field-le (y c) (w c) (t c)))
+    (λ c. search needs)
+    (λ c. record { fits = rw (old-exact c, new-exact c) (replaced-lt (y c) (c .before .args .skip) (w c) (t c) (n c) (omega arith) (c .before .fits .window .fits) (c .before .pre .2)) })
+    (λ c. rw (old-exact c, new-exact c)))

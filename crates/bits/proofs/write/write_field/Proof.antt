@@ -1,8 +1,5 @@
 -- `bits::write::write_field` meets its contract. Assumes nothing.
-use mathlib.Core.Path.{sym, ap, _∙_}
-use Prim.Native.Nat.{ℕ}
-use native.Mathlib.Omega.{arith}
-use borrow.Author.Needs.{needs}
+use Rattle.bits.proofs.Words.{sym, ap, _∙_, ℕ, arith, needs}
 use Rattle.bits.specs.BitLists.{setField}
 use Rattle.bits.proofs.Setting.{setField-none}
 use Rattle.bits.proofs.Stores.{set-in-window}

@@ -1,15 +1,10 @@
 -- `body::cells::count` meets its contract. The loop's invariant: with the cells of the strips that are left, chosen by the marks that are left, it is the whole.
 -- Assumes nothing.
-use mathlib.Core.Path.{_≡_, ap, _∙_}
-use mathlib.Core.List.{List, []}
+use Rattle.bits.proofs.Words.{_≡_, ap, _∙_, List, [], ℕ, suc, _+_, _-_, _*_, _^_, _≤_, _<_, add-one, arith, needs, length, getD, drop}
 use mathlib.Core.Logic.{⊎-elim}
-use Prim.Native.Nat.{ℕ, suc, _+_, _-_, _*_, _^_, _≤_, _<_}
 use native.Mathlib.Nat.{mod-lt}
-use native.Mathlib.Numerals.{add-one}
-use native.Mathlib.Omega.{arith}
-use borrow.Author.Needs.{needs}
 use lib.Count.{ones, ones-le}
-use lib.ListN.{length, getD, drop, drop-of-length-le}
+use lib.ListN.{drop-of-length-le}
 use lib.Seq.{drop-cons}
 use Rattle.bits.specs.BitLists.{spell}
 use Rattle.format.specs.Lengths.{total}

@@ -1,13 +1,8 @@
 -- `body::cells::fill` meets its contract. The loop's invariant: the rows of the slots that are left, with the strips from the n-th on, chosen by the marks that
 -- are left, are still to come. Assumes nothing.
-use mathlib.Core.Path.{_≡_, refl, sym, ap, _∙_}
-use mathlib.Core.List.{List, _++_}
-use Prim.Native.Nat.{ℕ, suc, _+_, _-_, _≤_}
-use native.Mathlib.Numerals.{add-one}
-use native.Mathlib.Omega.{arith}
-use borrow.Author.Needs.{needs}
+use Rattle.bits.proofs.Words.{_≡_, refl, sym, ap, _∙_, List, _++_, ℕ, suc, _+_, _-_, _≤_, add-one, arith, needs, length, getD, take, drop}
 use lib.Count.{ones}
-use lib.ListN.{length, getD, take, drop, length-append, length-drop}
+use lib.ListN.{length-append, length-drop}
 use Rattle.format.specs.Rows.{Column, Line}
 use Rattle.holding.specs.Held.{slotSatellites}
 use Rattle.rows.specs.Shapes.{columnsIn}
@@ -77,9 +72,6 @@ slot-requires c κs =
     let asked = start p .pre .2 in
     (covered p, record { formed = asked .formed; kind = asked .kind; room = slot-call (marks p) (here p) (behind p _) (both p _ refl) (few p) (p .before .before .before .loop .inv .1) .room })
 
-add-n : tie.Need-add-n Inv-loop μ-loop
-add-n c = let p = c .before .before .before .before .before .before in omega (arith, all p, c .count .ensures, p .before .before .before .loop .inv .0)
-
 add-k : tie.Need-add-k Inv-loop μ-loop
 add-k c =
     let p = c .before .before .before .before .before .before .before in
@@ -103,6 +95,7 @@ pub fill-spec : {M : Type 1} → statement M
 fill-spec =
     tie.close
     (tie.spec Inv-loop μ-loop (λ c. let s = c .before .before .before .before .before in (omega (arith, s .pre .1), going-start (s .pre .2 .room)))
-    (λ c. search needs) (λ c. search needs) (λ c. search needs) (λ c. search needs) (λ c. search needs) (λ c. search needs) (λ c. search needs)
-    (λ c. search needs) (λ c. search needs) (λ c. search needs) (λ c. search needs) slot-requires (λ c κs. search needs) add-n add-k
+    (λ c. search needs) (λ c. search needs) (λ c. search needs) (λ c. search needs) (λ c. search needs) (λ c. search needs) (λ c. search needs) (λ c. search needs)
+    (λ c. search needs) (λ c. search needs) (λ c. search needs) slot-requires (λ c κs. search needs)
+    (λ c. let p = c .before .before .before .before .before .before in omega (arith, all p, c .count .ensures, p .before .before .before .loop .inv .0)) add-k
     (λ c. omega arith) (λ c. omega arith) loop-again (λ c. c .before .loop .inv .1 .same) returns)

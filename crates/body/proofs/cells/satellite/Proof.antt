@@ -1,11 +1,6 @@
 -- `body::cells::satellite` meets its contract. The loop's invariant: the rows of the cells that are left are still to come. Assumes nothing.
-use mathlib.Core.Path.{_≡_, refl, ap, _∙_}
-use mathlib.Core.List.{List, _∷_, []}
-use Prim.Native.Nat.{ℕ, _-_, _^_, _<_}
-use native.Mathlib.Omega.{arith}
-use borrow.Author.Needs.{needs}
+use Rattle.bits.proofs.Words.{_≡_, refl, ap, _∙_, List, [], _∷_, ℕ, _-_, _^_, _<_, arith, needs, pos}
 use lib.Count.{leadingZeros}
-use lib.IntN.{pos}
 use Rattle.format.specs.Masks.{Satellite}
 use Rattle.format.specs.Messages.{cellLines}
 use Rattle.format.specs.Rows.{Column, Line, shapeWidth}
@@ -62,12 +57,6 @@ module _ (c : tie.After-first Inv-loop μ-loop) where
         let all = ap (cellLines columns) (next-of left rest (c .before .loop-test .taken) (c .before .before .loop .inv .0) e sat) in
         going-row line _ refl (five-in _ _) (rw all at (c .before .before .loop .inv .1))
 
-cell-requires : tie.Need-cell-requires Inv-loop μ-loop
-cell-requires c κs =
-    let f = c .before in
-    let w = row f _ refl in
-    (w .part, omega (arith, w .near), start f .pre .1, start f .pre .2, omega (arith, w .whole))
-
 loop-again : tie.Need-loop-again Inv-loop μ-loop
 loop-again c =
     let f = c .before .before .before .before in
@@ -80,19 +69,15 @@ loop-again c =
     let new = c .before .before .cell .ensures ∙ keyed _ system number signal ∙ ap (λ (cs : List Column). pos id ∷ pos (x .args .sat .number) ∷ pos (leadingZeros 64 (left f)) ∷ valuesAt cs (x .args .bytes .now) (f .before .before .loop .place)) (same f) in
     (omega (arith, fewer f (r .result) (r .ensures) .fewer), row f (r .result) (r .ensures) .written _ _ (wide f) new)
 
-returns : tie.Need-returns Inv-loop μ-loop
-unfolding cellLines
-returns c =
-    let x = c .before .before .before .before .before .before .args in
-    going-end (ap (cellLines (columnsIn (x .s))) (none-of (satelliteOf (x .sat)) (omega arith))) (c .before .loop .inv .1)
-
 pub satellite-spec : {M : Type 1} → statement M
+unfolding cellLines
 satellite-spec =
     tie.close
     (tie.spec Inv-loop μ-loop (λ c. search needs) (λ c. record { sfits = c .before .before .before .pre .0 }) (λ c κs. c .before .before .before .pre .1)
     (λ c. (omega arith, going-start (c .before .before .before .before .pre .3))) (λ c κs. search needs)
     (λ c. record { sfits = omega (arith, fewer c _ refl .inside, c .first .ensures) }) (λ c. omega (arith, row c _ refl .room))
-    (λ c. omega (arith, row c _ refl .room)) (λ c. omega arith) (λ c. search needs) (λ c. row c _ refl .room) cell-requires (λ c κs. search needs)
-    (λ c. let f = c .before .before .before .before in omega (arith, row f _ refl .near, wide f))
+    (λ c. omega (arith, row c _ refl .room)) (λ c. omega arith) (λ c. search needs) (λ c. row c _ refl .room)
+    (λ c κs. let f = c .before in let w = row f _ refl in (w .part, omega (arith, w .near), start f .pre .1, start f .pre .2, omega (arith, w .whole)))
+    (λ c κs. search needs) (λ c. let f = c .before .before .before .before in omega (arith, row f _ refl .near, wide f))
     (λ c. fewer (c .before .before .before .before) (c .rest .result) (c .rest .ensures) .fewer) loop-again (λ c. c .before .loop .inv .1 .same)
-    returns)
+    (λ c. let x = c .before .before .before .before .before .before .args in going-end (ap (cellLines (columnsIn (x .s))) (none-of (satelliteOf (x .sat)) (omega arith))) (c .before .loop .inv .1)))

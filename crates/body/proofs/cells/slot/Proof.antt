@@ -1,14 +1,8 @@
 -- `body::cells::slot` meets its contract. The loop's invariant: the rows of the satellites that are left, with the strips from the n-th on, chosen by the marks
 -- that are left, are still to come. Assumes nothing.
-use mathlib.Core.Path.{_≡_, refl, ap}
-use mathlib.Core.List.{List, _∷_}
+use Rattle.bits.proofs.Words.{_≡_, refl, ap, List, _∷_, ℕ, suc, _+_, _-_, _*_, _%_, _^_, _≤_, _<_, add-one, arith, needs, length, getD, drop}
 use mathlib.Core.Logic.{⊎-elim}
-use Prim.Native.Nat.{ℕ, suc, _+_, _-_, _*_, _%_, _^_, _<_, _≤_}
-use native.Mathlib.Numerals.{add-one}
-use native.Mathlib.Omega.{arith}
-use borrow.Author.Needs.{needs}
 use lib.Count.{leadingZeros}
-use lib.ListN.{length, getD, drop}
 use Rattle.format.specs.Messages.{cellLines}
 use Rattle.format.specs.Rows.{Column, Line}
 use Rattle.holding.specs.Held.{satellitesIn}
@@ -84,17 +78,6 @@ call c rest e =
 start : (c : tie.After-shared-slice-known3 Inv-loop μ-loop) → let s = c .before .before .before .before .loop in s .k ≤ length (s .rows)
 start c = call (c .before) _ refl .start
 
-satellite-requires : tie.Need-satellite-requires Inv-loop μ-loop
-satellite-requires c κs =
-    let f = c .before .before in
-    let r = f .before .before in
-    (omega (arith, fewer r _ refl .inside, f .first .ensures), x r .pre .1 .formed, x r .pre .1 .kind, call f _ refl .room)
-
-add-k : tie.Need-add-k Inv-loop μ-loop
-add-k c =
-    let g = call (c .before .before .before .before .before) _ refl .written _ _ (c .before .before .satellite .ensures) in
-    omega (arith, g .count, g .few)
-
 loop-again : tie.Need-loop-again Inv-loop μ-loop
 loop-again c =
     let r = c .before .before in
@@ -119,6 +102,8 @@ slot-spec =
     (tie.spec Inv-loop μ-loop (λ c. let s = c .before .before .before in (omega arith, omega (arith, s .pre .0), walk-start (omega arith) (s .pre .1 .room)))
     (λ c κs. search needs) (λ c. omega (arith, fewer (c .before .before) _ refl .inside, c .first .ensures)) (λ c. omega (arith, inside (c .before .before)))
     (λ c. omega (arith, inside (c .before .before .before))) (λ c. omega (arith, c .shared-slice-known3 .given (n (c .before .before .before))))
-    (λ c. omega (arith, start c)) start start (λ c. search needs) satellite-requires add-k (λ c κs. search needs)
-    (λ c. omega (arith, inside (c .before .before))) (λ c. fewer (c .before .before) (c .rest .result) (c .rest .ensures) .fewer) loop-again
+    (λ c. omega (arith, start c)) start start (λ c. search needs)
+    (λ c κs. let f = c .before .before in let r = f .before .before in (omega (arith, fewer r _ refl .inside, f .first .ensures), x r .pre .1 .formed, x r .pre .1 .kind, call f _ refl .room))
+    (λ c. let g = call (c .before .before .before .before .before) _ refl .written _ _ (c .before .before .satellite .ensures) in omega (arith, g .count, g .few))
+    (λ c κs. search needs) (λ c. omega (arith, inside (c .before .before))) (λ c. fewer (c .before .before) (c .rest .result) (c .rest .ensures) .fewer) loop-again
     (λ c. c .before .loop .inv .2 .going .same) returns)

@@ -1,13 +1,7 @@
 -- `body::packet::fill` meets its contract. The loop's invariant: the rows behind the i-th are still to come.
 -- Assumes nothing.
-use mathlib.Core.Path.{_≡_, refl, ap, _∙_, subst}
-use mathlib.Core.List.{List, _∷_, []}
-use Prim.Native.Nat.{ℕ, suc, _+_, _-_, _*_, _^_, _<_, _≤_}
+use Rattle.bits.proofs.Words.{_≡_, refl, ap, _∙_, subst, List, [], _∷_, ℕ, suc, _+_, _-_, _*_, _^_, _≤_, _<_, add-one, arith, needs, pos}
 use native.Mathlib.Nat.{sub-zero}
-use native.Mathlib.Numerals.{add-one}
-use native.Mathlib.Omega.{arith}
-use borrow.Author.Needs.{needs}
-use lib.IntN.{pos}
 use Rattle.format.specs.Messages.{packetLines, packetShape}
 use Rattle.format.specs.Rows.{Column, Line, absent, shapeWidth}
 use Rattle.rows.proofs.Table.{made-formed, columns-at}
@@ -25,9 +19,6 @@ Inv-loop parts bytes at rows₀ s width i₀ k₀ place₀ rows i k place =
 
 abbrev μ-loop : tie.MeasureT-loop
 μ-loop parts bytes at rows₀ s width i₀ k₀ place₀ rows i k place = parts - i
-
-loop-holds : tie.Need-loop-holds Inv-loop μ-loop
-loop-holds c = (omega arith, refl, rw sub-zero (going-start (c .before .before .before .pre)))
 
 module _ (c : tie.In-loop Inv-loop μ-loop) where
   abbrev start : tie.Start Inv-loop μ-loop
@@ -67,12 +58,6 @@ module _ (c : tie.In-loop Inv-loop μ-loop) where
   wide : c .before .before .width .result ≡ shapeWidth packetShape
   wide = c .before .before .width .ensures ∙ ap shapeWidth columns
 
-wide-requires : tie.Need-wide-requires Inv-loop μ-loop
-wide-requires c κs =
-    let p = c .before in
-    let w = row p in
-    (w .part, omega (arith, w .near), made-formed 0 7 (p .before .before .before .packet .ensures), omega (arith, w .whole))
-
 loop-again : tie.Need-loop-again Inv-loop μ-loop
 loop-again c =
     let p = c .before .before .before in
@@ -80,18 +65,14 @@ loop-again c =
     let new = c .before .wide .ensures ∙ keyed _ refl refl number ∙ ap (λ (cs : List Column). absent ∷ absent ∷ pos (suc (i p)) ∷ valuesAt cs (start p .args .bytes .now) (p .before .loop .place)) (columns p) in
     (omega (arith, p .loop-test .taken), omega (arith, p .before .loop .inv .1), rw (add-one (i p)) (row p .written _ _ (wide p) new))
 
-returns : tie.Need-returns Inv-loop μ-loop
-unfolding packetLines
-returns c =
-    let s = c .before .loop in
-    let none : c .before .before .before .before .before .args .parts - s .i ≡ 0 = omega arith in
-    going-end (ap (packetLines (suc (s .i))) none) (s .inv .2) .numbers
-
 pub fill-spec : {M : Type 1} → statement M
+unfolding packetLines
 fill-spec =
     tie.close
-    (tie.spec Inv-loop μ-loop (λ c κs. search needs) (λ c κs. made-formed 0 7 (c .packet .ensures)) loop-holds (λ c. omega arith)
-    (λ c. omega (arith, row c .room)) (λ c. record { sfits = omega (arith, few c) }) (λ c. omega (arith, row c .room)) (λ c. omega arith)
-    (λ c. search needs) (λ c. row c .room) wide-requires
-    (λ c. let p = c .before .before .before in omega (arith, row p .near, wide p)) (λ c. omega (arith, c .before .before .before .loop-test .taken))
-    loop-again (λ c. c .before .loop .inv .2 .same) returns)
+    (tie.spec Inv-loop μ-loop (λ c κs. search needs) (λ c κs. made-formed 0 7 (c .packet .ensures))
+    (λ c. (omega arith, refl, rw sub-zero (going-start (c .before .before .before .pre)))) (λ c. omega arith) (λ c. omega (arith, row c .room))
+    (λ c. record { sfits = omega (arith, few c) }) (λ c. omega (arith, row c .room)) (λ c. omega arith) (λ c. search needs) (λ c. row c .room)
+    (λ c κs. let p = c .before in let w = row p in (w .part, omega (arith, w .near), made-formed 0 7 (p .before .before .before .packet .ensures), omega (arith, w .whole)))
+    (λ c. let p = c .before .before .before in omega (arith, row p .near, wide p)) (λ c. omega (arith, c .before .before .before .loop-test .taken)) loop-again
+    (λ c. c .before .loop .inv .2 .same)
+    (λ c. let s = c .before .loop in let none : c .before .before .before .before .before .args .parts - s .i ≡ 0 = omega arith in going-end (ap (packetLines (suc (s .i))) none) (s .inv .2) .numbers))

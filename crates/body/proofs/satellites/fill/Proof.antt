@@ -1,12 +1,6 @@
 -- `body::satellites::fill` meets its contract. The loop's invariant: the rows of the slots that are left, chosen by the marks that are left, are still to come.
 -- Assumes nothing.
-use Prim.Native.Nat.{ℕ, suc, _-_, _≤_}
-use mathlib.Core.Path.{_≡_}
-use mathlib.Core.List.{List, _++_}
-use native.Mathlib.Numerals.{add-one}
-use native.Mathlib.Omega.{arith}
-use borrow.Author.Needs.{needs}
-use lib.ListN.{length}
+use Rattle.bits.proofs.Words.{_≡_, List, _++_, ℕ, suc, _-_, _≤_, add-one, arith, needs, length}
 use Rattle.format.specs.Rows.{Column, Line}
 use Rattle.holding.specs.Held.{slotSatellites}
 use Rattle.rows.specs.Shapes.{columnsIn}

@@ -1,23 +1,15 @@
 -- `body::satellites::galileo` meets its contract. The loop's invariant: with those of the slots that are left it is the whole.
 -- Assumes nothing.
-use mathlib.Core.Path.{_≡_}
-use mathlib.Core.Bool.{Bool, true, false, cond}
-use mathlib.Core.List.{List}
+use Rattle.bits.proofs.Words.{_≡_, Bool, true, false, cond, List, ℕ, suc, _+_, _-_, _*_, _/_, _%_, _^_, _≤_, _<_, add-one, arith, needs, eqb, length, getD, drop}
 use mathlib.Core.Logic.{⊎-elim}
-use Prim.Native.Nat.{ℕ, suc, _+_, _-_, _*_, _/_, _%_, _^_, _≤_, _<_}
 use native.Mathlib.Nat.{mod-lt}
-use native.Mathlib.Numerals.{add-one}
-use native.Mathlib.Omega.{arith}
-use borrow.Author.Needs.{needs}
 use borrow.Author.Tests.{eq-eqb, ne-eqb}
 use lib.Count.{ones}
-use lib.Dec.{eqb}
-use lib.ListN.{getD, drop}
 use Rattle.bits.specs.BitLists.{spell}
 use Rattle.format.proofs.Picks.{pick-few}
 use Rattle.format.specs.Masks.{pick}
 use Rattle.body.specs.Chosen.{galileos}
-use Rattle.body.proofs.Sizes.{few-galileos, slot-galileos, no-galileos}
+use Rattle.body.proofs.Sizes.{few-galileos, past-galileo, slot-galileos, no-galileos}
 use Rattle.body.proofs.Slots.{fromSlot, Slot, slot-at}
 use Rattle.body.proofs.satellites.galileo.Statement.{statement}
 use Rattle.body.proofs.satellites.galileo.Tie as tie
@@ -32,17 +24,21 @@ Inv-loop ids masks chosen marks₀ sum₀ end i₀ marks sum i = (marks < 2 ^ 64
 abbrev μ-loop : tie.MeasureT-loop
 μ-loop ids masks chosen marks₀ sum₀ end i₀ marks sum i = end - i
 
-slot : (c : tie.In-loop Inv-loop μ-loop) → let x = c .before .before .before .before .before .args in Slot (x .ids .now) (x .masks .now) (c .before .loop .i)
-slot c =
-    let s = c .before .before .before .before .before in
-    slot-at _ _ (c .before .loop .i) (s .pre .0 .masked) (s .pre .0 .thin) (omega (arith, c .loop-test .taken, c .before .before .up-to-galileo .ensures .0))
+abbrev start : tie.In-loop Inv-loop μ-loop → tie.Start Inv-loop μ-loop
+start c = c .before .before .before .before .before
+
+inside : (c : tie.In-loop Inv-loop μ-loop) → c .before .loop .i < length (start c .args .ids .now)
+inside c = omega (arith, c .loop-test .taken, past-galileo (start c .args .ids .now) (c .before .before .up-to-galileo .ensures) .0)
+
+slot : (c : tie.In-loop Inv-loop μ-loop) → Slot (start c .args .ids .now) (start c .args .masks .now) (c .before .loop .i)
+slot c = slot-at _ _ (c .before .loop .i) (start c .pre .0 .masked) (start c .pre .0 .thin) (inside c)
 
 module _ (c : tie.After-shared-slice-known4 Inv-loop μ-loop) where
   abbrev p : tie.In-loop Inv-loop μ-loop
   p = c .before .before .before
 
   abbrev s : tie.Start Inv-loop μ-loop
-  s = p .before .before .before .before .before
+  s = start p
 
   abbrev marks : ℕ
   marks = p .before .loop .marks
@@ -82,11 +78,11 @@ returns c =
     let l = c .before .loop in
     let up = c .before .before .up-to-galileo in
     let last : l .i ≡ up .result = omega (arith, l .inv .2, c .loop-test .left) in
-    let gone = no-galileos (drop (l .i) (x .ids .now)) (drop (l .i) (x .masks .now)) (spell 64 (l .marks)) (rw last (up .ensures .1)) in
+    let gone = no-galileos (drop (l .i) (x .ids .now)) (drop (l .i) (x .masks .now)) (spell 64 (l .marks)) (rw last (past-galileo (x .ids .now) (up .ensures) .1)) in
     omega (arith, l .inv .1, gone)
 
 pub galileo-spec : {M : Type 1} → statement M
 galileo-spec =
     tie.close
     (tie.spec Inv-loop μ-loop (λ c κs. search needs) (λ c. (omega arith, omega arith, omega arith)) (λ c. omega (arith, slot c .inside)) (λ c. slot (c .before) .inside) (λ c κs. search needs)
-    (λ c. search needs) (λ c κs. omega (arith, few (c .before))) add-sum (λ c. omega (arith, few (c .before))) (λ c. omega arith) (λ c. omega arith) loop-again returns)
+    (λ c. inside (p c)) (λ c κs. omega (arith, few (c .before))) add-sum (λ c. omega (arith, few (c .before))) (λ c. omega arith) (λ c. omega arith) loop-again returns)

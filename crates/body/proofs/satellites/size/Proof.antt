@@ -1,8 +1,6 @@
 -- `body::satellites::size` meets its contract. Assumes nothing.
-use Prim.Native.Nat.{_-_, _*_, _≤_}
+use Rattle.bits.proofs.Words.{_-_, _*_, _≤_, arith, needs}
 use native.Mathlib.Nat.{mul-le-mul}
-use native.Mathlib.Omega.{arith}
-use borrow.Author.Needs.{needs}
 use Rattle.bits.specs.BitLists.{spell}
 use Rattle.format.proofs.Picks.{pick-few}
 use Rattle.format.specs.Masks.{pick}

@@ -1,14 +1,8 @@
 -- `body::satellites::slot` meets its contract. The loop's invariant: the rows of the satellites that are left, chosen by the marks that are left, are still to
 -- come. Assumes nothing.
-use mathlib.Core.Path.{_≡_, refl, _∙_}
-use mathlib.Core.List.{List, _∷_, []}
+use Rattle.bits.proofs.Words.{_≡_, refl, _∙_, List, [], _∷_, ℕ, suc, _+_, _-_, _*_, _%_, _^_, _≤_, _<_, arith, needs, length, pos}
 use mathlib.Core.Logic.{⊎-elim}
-use Prim.Native.Nat.{ℕ, suc, _+_, _-_, _*_, _%_, _^_, _≤_, _<_}
-use native.Mathlib.Omega.{arith}
-use borrow.Author.Needs.{needs}
 use lib.Count.{leadingZeros}
-use lib.IntN.{pos}
-use lib.ListN.{length}
 use Rattle.format.specs.Messages.{satelliteLines}
 use Rattle.format.specs.Rows.{Column, Line, absent}
 use Rattle.holding.specs.Held.{satellitesIn}
@@ -74,18 +68,6 @@ room c = row (c .before) _ refl .room
 near : (c : tie.After-first Inv-loop μ-loop) → c .first .result + 1 < 2 ^ 31
 near c = omega (arith, fewer (c .before .before) _ refl .inside, c .first .ensures)
 
-satellite-requires : tie.Need-satellite-requires Inv-loop μ-loop
-satellite-requires c κs =
-    let t = c .before .before in
-    let x = start (t .before) in
-    let w = row t _ refl in
-    (w .part, omega (arith, w .near), x .pre .formed, x .pre .kind, omega (arith, w .whole))
-
-add-place : tie.Need-add-place Inv-loop μ-loop
-add-place c =
-    let t = c .before .before .before .before in
-    omega (arith, row t _ refl .near, t .before .before .before .width .ensures)
-
 loop-again : tie.Need-loop-again Inv-loop μ-loop
 loop-again c =
     let r = c .before .before in
@@ -100,15 +82,13 @@ loop-again c =
           (λ t. rw (t .1, t .2, t .3) (walk-past w _ _ (all-left r _ e) (omega (arith, t .0 .left)))) (c .before .if1 .came),
     )
 
-returns : tie.Need-returns Inv-loop μ-loop
-returns c =
-    let x = c .before .before .before .before .before .args in
-    walk-end (c .before .loop .inv .1) (alone-nil (columnsIn (x .wanted .shape)) (none-in (x .id) (omega arith)))
-
 pub slot-spec : {M : Type 1} → statement M
 slot-spec =
     tie.close
-    (tie.spec Inv-loop μ-loop (λ c κs. c .before .before .pre .formed)
-    (λ c. (omega arith, walk-start (omega arith) (c .before .before .before .pre .room))) (λ c κs. search needs) (λ c. omega (arith, near c))
-    (λ c. omega (arith, room c)) (λ c. omega (arith, room c)) (λ c. omega arith) (λ c. search needs) room (λ c. record { sfits = near (c .before) }) satellite-requires
-    add-place (λ c κs. search needs) (λ c. fewer (c .before .before) _ (c .rest .ensures) .fewer) loop-again (λ c. c .before .loop .inv .1 .going .same) returns)
+    (tie.spec Inv-loop μ-loop (λ c κs. c .before .before .pre .formed) (λ c. (omega arith, walk-start (omega arith) (c .before .before .before .pre .room)))
+    (λ c κs. search needs) (λ c. omega (arith, near c)) (λ c. omega (arith, room c)) (λ c. omega (arith, room c)) (λ c. omega arith) (λ c. search needs) room
+    (λ c. record { sfits = near (c .before) })
+    (λ c κs. let t = c .before .before in let x = start (t .before) in let w = row t _ refl in (w .part, omega (arith, w .near), x .pre .formed, x .pre .kind, omega (arith, w .whole)))
+    (λ c. let t = c .before .before .before .before in omega (arith, row t _ refl .near, t .before .before .before .width .ensures)) (λ c κs. search needs)
+    (λ c. fewer (c .before .before) _ (c .rest .ensures) .fewer) loop-again (λ c. c .before .loop .inv .1 .going .same)
+    (λ c. let x = c .before .before .before .before .before .args in walk-end (c .before .loop .inv .1) (alone-nil (columnsIn (x .wanted .shape)) (none-in (x .id) (omega arith)))))

@@ -1,6 +1,5 @@
 -- `body::satellites::width` meets its contract. Assumes nothing.
-use native.Mathlib.Omega.{arith}
-use borrow.Author.Needs.{needs}
+use Rattle.bits.proofs.Words.{arith, needs}
 use Rattle.format.specs.Rows.{shapeWidth, widthOf}
 use Rattle.rows.proofs.Columns.{width-of}
 use Rattle.rows.proofs.Laid.{iode-some}

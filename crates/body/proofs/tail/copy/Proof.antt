@@ -1,11 +1,7 @@
 -- `body::tail::copy` meets its contract. The loop's invariant: the bytes passed are those of the string, the others zero.
 -- Assumes nothing.
-use mathlib.Core.Path.{_≡_, refl, sym, _∙_}
-use mathlib.Core.List.{List}
-use Prim.Native.Nat.{ℕ, _+_, _-_, _≤_, _<_}
-use native.Mathlib.Omega.{arith}
-use borrow.Author.Needs.{needs}
-use lib.ListN.{length, replicate, length-set}
+use Rattle.bits.proofs.Words.{_≡_, refl, sym, _∙_, List, ℕ, _+_, _-_, _≤_, _<_, arith, needs, length}
+use lib.ListN.{replicate, length-set}
 use Rattle.body.proofs.Tails.{Copied, Clear, zero-at, copied-more, clear-more, copied-all}
 use Rattle.body.proofs.tail.copy.Statement.{statement}
 use Rattle.body.proofs.tail.copy.Tie as tie
@@ -25,40 +21,26 @@ returns c =
     let s = c .before .before .before in
     copied-all (s .args .bytes .now) (s .args .from) (s .args .rest .now) 0 584 (λ some. omega (arith, c .if1 .taken)) (λ j below. absurd (omega arith)) (begun _ (s .pre .0) .1)
 
-loop-holds : tie.Need-loop-holds Inv-loop μ-loop
-loop-holds c =
-    let zeros = begun _ (c .before .before .before .before .pre .0) in
-    (omega arith, zeros .0, (λ j below. absurd (omega arith)), zeros .1)
-
 loop-again : tie.Need-loop-again Inv-loop μ-loop
 loop-again c =
     let x = c .before .before .before .before .before .before .before .args in
     let s = c .before .before .loop in (
       omega (arith, c .before .loop-test .taken),
       length-set (s .rest) (s .i) _ ∙ s .inv .1,
-      copied-more (x .bytes .now) (x .from) (s .rest) (s .i) (omega (arith, c .before .loop-test .taken, s .inv .1, c .before .before .before .least .ensures .1)) (s .inv .2),
+      copied-more (x .bytes .now) (x .from) (s .rest) (s .i) (omega (arith, c .before .loop-test .taken, s .inv .1, c .before .before .before .least .ensures)) (s .inv .2),
       clear-more (x .bytes .now) (x .from) (s .rest) (s .i) _ (s .inv .3),
     )
 
 -- what is not copied is past the string's end
 ended : (c : tie.After-loop Inv-loop μ-loop) → let x = c .before .before .before .before .before .before .args in c .before .loop .i < 584 → length (x .bytes .now) ≤ x .from + c .before .loop .i
 ended c some =
-    let n = c .before .before .least in
-    let stopped : n .result < 584 = omega (arith, c .loop-test .left) in
-    let all = n .ensures .2 stopped in
-    omega (arith, c .loop-test .left, c .before .before .before .if1 .left)
-
-same-length : tie.Need-same-length Inv-loop μ-loop
-same-length c = c .before .loop .inv .1 ∙ sym (begun _ (c .before .before .before .before .before .before .pre .0) .0)
-
-returns-2 : tie.Need-returns-2 Inv-loop μ-loop
-returns-2 c =
-    let x = c .before .before .before .before .before .before .args in
-    let s = c .before .loop in
-    copied-all (x .bytes .now) (x .from) (s .rest) (s .i) 584 (ended c) (s .inv .2) (s .inv .3)
+    omega (arith, c .before .before .least .ensures, c .loop-test .left, c .before .before .before .if1 .left)
 
 pub copy-spec : {M : Type 1} → statement M
 copy-spec =
     tie.close
-    (tie.spec Inv-loop μ-loop returns (λ c. omega arith) (λ c κs. search needs) loop-holds (λ c. omega arith) (λ c. omega arith) (λ c. omega arith)
-    (λ c. omega arith) (λ c. omega arith) loop-again same-length returns-2)
+    (tie.spec Inv-loop μ-loop returns (λ c. omega arith) (λ c κs. search needs)
+    (λ c. let zeros = begun _ (c .before .before .before .before .pre .0) in (omega arith, zeros .0, (λ j below. absurd (omega arith)), zeros .1)) (λ c. omega arith)
+    (λ c. omega arith) (λ c. omega arith) (λ c. omega arith) (λ c. omega arith) loop-again
+    (λ c. c .before .loop .inv .1 ∙ sym (begun _ (c .before .before .before .before .before .before .pre .0) .0))
+    (λ c. let x = c .before .before .before .before .before .before .args in let s = c .before .loop in copied-all (x .bytes .now) (x .from) (s .rest) (s .i) 584 (ended c) (s .inv .2) (s .inv .3)))

@@ -1,8 +1,5 @@
 -- `body::whole::fill` meets its contract. Assumes nothing.
-use mathlib.Core.Path.{_≡_, refl, ap, _∙_}
-use mathlib.Core.List.{List}
-use borrow.Author.Needs.{needs}
-use lib.IntN.{ℤ}
+use Rattle.bits.proofs.Words.{_≡_, refl, ap, _∙_, List, needs, ℤ}
 use Rattle.format.specs.Reading.{over}
 use Rattle.format.specs.Rows.{Line}
 use Rattle.holding.specs.Held.{View}
@@ -56,12 +53,6 @@ fill-requires-2 c κs =
       record { formed = made-formed 0 _ refl; kind = cells-fit (body s) (s .pre .0 .fits) (known .1) .0; room = rw (by-cells (view s) (known .0 .0) (body s .shape)) (room s (known .1)) },
     )
 
-fill-requires-3 : tie.Need-fill-requires-3
-unfolding linesOver
-fill-requires-3 c κs =
-    let k = c .before .before in
-    room (k .before .before .before .before .before .before .before) (k .keys3 .given .1)
-
 returns : tie.Need-returns
 returns c =
     let w = c .before .before .before in
@@ -78,14 +69,11 @@ returns-2 c =
     let known = k .keys2 .given in
     (rw (w .wanted2 .ensures) at (c .before .fill2 .ensures)) ∙ ap (Rows s) (by-cells (view s) (known .0 .0) (body s .shape)) ∙ whole s (known .1)
 
-returns-3 : tie.Need-returns-3
-unfolding linesOver
-returns-3 c =
-    let k = c .before .before .before .before in
-    c .before .fill3 .ensures ∙ whole (k .before .before .before .before .before .before .before) (k .keys3 .given .1)
-
 pub fill-spec : {M : Type 1} → statement M
+unfolding linesOver
 fill-spec =
     tie.close
-    (tie.spec (λ c. search needs) (λ c κs. search needs) fill-requires (λ c. search needs) (λ c κs. search needs) fill-requires-2
-    (λ c. search needs) fill-requires-3 (λ c. search needs) returns (λ c. search needs) returns-2 (λ c. search needs) returns-3)
+    (tie.spec (λ c. search needs) (λ c κs. search needs) fill-requires (λ c. search needs) (λ c κs. search needs) fill-requires-2 (λ c. search needs)
+    (λ c κs. let k = c .before .before in room (k .before .before .before .before .before .before .before) (k .keys3 .given .1)) (λ c. search needs) returns
+    (λ c. search needs) returns-2 (λ c. search needs)
+    (λ c. let k = c .before .before .before .before in c .before .fill3 .ensures ∙ whole (k .before .before .before .before .before .before .before) (k .keys3 .given .1)))

@@ -1,22 +1,13 @@
 -- `heads::heading::by_flags` meets its contract. Assumes nothing.
-use mathlib.Core.Path.{_≡_, ap}
-use Prim.Native.Nat.{ℕ, _+_, _/_, _%_, _<_}
-use native.Mathlib.Omega.{arith}
-use borrow.Author.Needs.{needs}
-use lib.Dec.{eqb}
-use lib.IntN.{pos}
+use Rattle.bits.proofs.Words.{_≡_, ap, ℕ, _+_, _/_, _%_, _<_, arith, needs, eqb, pos}
 use mir.Facts.{toZ-pos}
 use mir.Syntax.{w32}
 use Rattle.bits.proofs.BitLists.{digit-eqb}
-use Rattle.format.specs.declared.Head.{Head}
-use Rattle.format.specs.Messages.{selection, satelliteLines, headOf}
-use Rattle.format.specs.Masks.{Sky}
-use Rattle.format.specs.Programs.{done, _>>=_}
+use Rattle.format.specs.Messages.{selection, headOf}
+use Rattle.format.specs.Programs.{_>>=_}
 use Rattle.format.proofs.Ends.{done-end}
 use Rattle.holding.specs.Held.{skyIn}
 use Rattle.format.specs.Rows.{absent}
-use Rattle.heads.specs.declared.CommonHead.{CommonHead}
-use Rattle.heads.specs.declared.heading.Under.{Under}
 use Rattle.heads.specs.Headings.{headWith, saidBy, FitsHeading, rowed, networked, networkBy, afterFlags}
 use Rattle.format.proofs.Picks.{pick-all}
 use Rattle.heads.proofs.heading.by_flags.Statement.{statement}
@@ -35,19 +26,6 @@ by-half shape flags small =
     let second = digit-eqb (flags / 2 % 2) (omega arith) in
     rw (first, second) (ap (λ (i : ℕ). shapeAt (shape + i)) (omega arith))
 
--- with a network, and without
-module _ (u : Under) (h : CommonHead) (flags : ℕ) (small : flags < 8) (sky : Sky) where
-  abbrev numbers : Head
-  numbers = headWith (u .subtype) h (pos (flags / 4)) (pos (flags / 2 % 2)) absent
-
-  with-network : flags % 2 ≡ 1 → afterFlags u h flags sky ≡ networkBy (sky .satellites) numbers (shapeAt (u .layout .shape + flags / 2))
-  unfolding afterFlags networkBy rowed networked headWith headOf
-  with-network one = rw (one, by-half (u .layout .shape) flags small)
-
-  without : flags % 2 ≡ 0 → afterFlags u h flags sky ≡ done (record { head = numbers; lines = satelliteLines (shapeAt (u .layout .shape + flags / 2)) (sky .satellites) })
-  unfolding afterFlags selection _>>=_ headWith
-  without none = rw (none, by-half (u .layout .shape) flags small)
-
 -- the head that was made
 module _ (c : tie.After-head) where
   abbrev start : tie.Start
@@ -62,31 +40,31 @@ module _ (c : tie.After-head) where
   fits : Laid (shapeFor (start .args .under .layout .shape + start .args .flags / 2))
   fits = laid _ (omega (arith, start .pre .2, start .pre .3))
 
-selection-requires : tie.Need-selection-requires
-selection-requires c κs = let p = start (c .before) .pre in (p .1, fits (c .before), p .5, p .6)
-
 returns : tie.Need-returns
-unfolding skyIn
+unfolding skyIn afterFlags networkBy rowed networked headWith headOf
 returns c =
     let p = c .before .before in
     let s = start p in
     let x = s .args in
     let one : x .flags % 2 ≡ 1 = omega (arith, c .before .if1 .taken) in
     let said = rw (made p) at (c .selection .ensures .0) in (
-      λ v shows. rw (with-network (x .under) (x .h) (x .flags) (s .pre .3) (skyIn v) one) (said v shows),
+      λ v shows. rw (one, by-half (x .under .layout .shape) (x .flags) (s .pre .3)) (said v shows),
       c .selection .ensures .1,
     )
 
 returns-2 : tie.Need-returns-2
-unfolding saidBy FitsHeading FitsKeys linesIn linesOver skyIn
+unfolding saidBy FitsHeading FitsKeys linesIn linesOver skyIn afterFlags selection _>>=_ headWith
 returns-2 c =
     let p = c .before .before in
     let s = start p in
     let x = s .args in (
       λ v shows.
-          rw (made p, without (x .under) (x .h) (x .flags) (s .pre .3) (skyIn v) (c .before .if1 .left), done-end, pick-all (v .satellites) (omega (arith, shows .count, shows .few))),
+          rw (made p, c .before .if1 .left, by-half (x .under .layout .shape) (x .flags) (s .pre .3), done-end, pick-all (v .satellites) (omega (arith, shows .count, shows .few))),
       fits p,
     )
 
 pub by-flags-spec : {M : Type 1} → statement M
-by-flags-spec = tie.close (tie.spec (λ c. search needs) (λ c. search needs) (λ c. search needs) (λ c κs. search needs) selection-requires returns (λ c. search needs) returns-2)
+by-flags-spec =
+    tie.close
+    (tie.spec (λ c. search needs) (λ c. search needs) (λ c. search needs) (λ c κs. search needs)
+    (λ c κs. let p = start (c .before) .pre in (p .1, fits (c .before), p .5, p .6)) returns (λ c. search needs) returns-2)

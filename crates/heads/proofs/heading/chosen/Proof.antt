@@ -1,15 +1,9 @@
 -- `heads::heading::chosen` meets its contract.
 -- Assumes nothing.
-use native.Mathlib.Omega.{arith}
-use borrow.Author.Needs.{needs}
+use Rattle.bits.proofs.Words.{arith, needs}
 use Rattle.heads.proofs.Chosen.{chosen-once, chosen-fits, chosen-twice}
 use Rattle.heads.proofs.heading.chosen.Statement.{statement}
 use Rattle.heads.proofs.heading.chosen.Tie as tie
-
-returns : tie.Need-returns
-returns c =
-    let x = c .before .before .before .args in
-    rw (c .read-field .ensures) (chosen-once (x .bytes .now) (x .place) (x .n) (omega arith))
 
 add-result : tie.Need-add-result
 add-result c =
@@ -19,13 +13,10 @@ add-result c =
           (chosen-fits (x .bytes .now) (x .place) (x .n) (omega arith));
     }
 
-returns-2 : tie.Need-returns-2
-returns-2 c =
-    let x = c .before .before .before .before .args in
-    rw (c .before .read-field2 .ensures, c .read-field3 .ensures) (chosen-twice (x .bytes .now) (x .place) (x .n) (omega arith) (omega arith))
-
 pub chosen-spec : {M : Type 1} → statement M
 chosen-spec =
     tie.close
-    (tie.spec (λ c κs. search needs) (λ c. search needs) (λ c. search needs) returns (λ c κs. search needs) (λ c. search needs) (λ c. search needs)
-    (λ c κs. search needs) (λ c. search needs) (λ c. search needs) add-result returns-2)
+    (tie.spec (λ c κs. search needs) (λ c. search needs) (λ c. search needs)
+    (λ c. let x = c .before .before .before .args in rw (c .read-field .ensures) (chosen-once (x .bytes .now) (x .place) (x .n) (omega arith)))
+    (λ c κs. search needs) (λ c. search needs) (λ c. search needs) (λ c κs. search needs) (λ c. search needs) (λ c. search needs) add-result
+    (λ c. let x = c .before .before .before .before .args in rw (c .before .read-field2 .ensures, c .read-field3 .ensures) (chosen-twice (x .bytes .now) (x .place) (x .n) (omega arith) (omega arith))))

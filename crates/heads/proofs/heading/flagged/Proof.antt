@@ -1,8 +1,5 @@
 -- `heads::heading::flagged` meets its contract. Assumes nothing.
-use mathlib.Core.Path.{_≡_, _∙_, sym, ap}
-use Prim.Native.Nat.{_+_}
-use native.Mathlib.Omega.{arith}
-use borrow.Author.Needs.{needs}
+use Rattle.bits.proofs.Words.{_≡_, sym, ap, _∙_, _+_, arith, needs}
 use Rattle.bits.specs.declared.read.Taken.the-variants.{Whole}
 use Rattle.bits.specs.Short.{takenAt, bitsOf, widthsOf}
 use Rattle.bits.proofs.Short.{field-short}
@@ -23,18 +20,6 @@ module _ (c : tie.After-known-told) where
   there : takenAt (s .args .bytes .now) (s .args .f .end) (s .args .f .start + 37) 3 ≡ Whole (c .before .taken2 .given .0 .0)
   there = sym (c .before .before .before .taken .ensures _ (s .pre .5)) ∙ c .before .taken2 .given .1
 
-by-flags-requires : tie.Need-by-flags-requires
-by-flags-requires c κs =
-    let p = s c .pre in
-    (p .0, p .1, p .2, fits (p .4) 3 (there c), p .3, onward (p .4) (omega (arith, after-field (p .4) 3 (there c))), p .5)
-
-short-by-requires : tie.Need-short-by-requires
-unfolding bitsOf widthsOf
-short-by-requires c κs =
-    let short = c .before .before in
-    let took = short .before .before in
-    field-short _ _ _ 3 _ (sym (took .taken .ensures _ (took .before .before .pre .5)) ∙ short .enum-told .given .1) .0
-
 returns : tie.Need-returns
 unfolding saidBy FitsHeading widthsOf
 returns c =
@@ -52,6 +37,11 @@ returns-2 c =
     (λ v shows. said v shows ∙ sym (flags-there (s .pre .4) (s .args .under) (s .args .h) (skyIn v) (there (c .before))), c .by-flags .ensures .1)
 
 pub flagged-spec : {M : Type 1} → statement M
+unfolding bitsOf widthsOf
 flagged-spec =
     tie.close
-    (tie.spec (λ c κs. search needs) (λ c. search needs) (λ c. search needs) (λ c. search needs) short-by-requires (λ c. search needs) by-flags-requires returns returns-2)
+    (tie.spec (λ c κs. search needs) (λ c. search needs) (λ c. search needs) (λ c. search needs)
+    (λ c κs. let short = c .before .before in let took = short .before .before in field-short _ _ _ 3 _ (sym (took .taken .ensures _ (took .before .before .pre .5)) ∙ short .enum-told .given .1) .0)
+    (λ c. search needs)
+    (λ c κs. let p = s c .pre in (p .0, p .1, p .2, fits (p .4) 3 (there c), p .3, onward (p .4) (omega (arith, after-field (p .4) 3 (there c))), p .5)) returns
+    returns-2)

@@ -1,17 +1,12 @@
 -- `heads::heading::gated` meets its contract. Assumes nothing.
-use mathlib.Core.Path.{_≡_, ap}
-use mathlib.Core.Bool.{Bool, true, false, cond}
-use Prim.Native.Nat.{ℕ, _-_, _^_}
-use native.Mathlib.Omega.{arith}
-use borrow.Author.Needs.{needs}
+use Rattle.bits.proofs.Words.{_≡_, Bool, true, false, cond, ℕ, _-_, _^_, arith, needs}
 use borrow.Author.Tests.{eq-eqb, ne-eqb, not-true, not-false}
-use Rattle.format.specs.declared.Refusal.the-variants.{NoMask, OtherIssue}
 use Rattle.format.specs.Masks.{Sky}
 use Rattle.format.specs.Messages as Messages
 use Rattle.format.specs.Messages.{rowsAlone, flagged, overSatellites, overCells}
 use Rattle.format.proofs.Ends.{done-end}
 use Rattle.format.specs.Ends.{endFrom}
-use Rattle.format.specs.Programs.{refuse, _>>=_, _>>_, require, later, run}
+use Rattle.format.specs.Programs.{_>>=_, _>>_, require, later, run}
 use Rattle.heads.specs.declared.CommonHead.{CommonHead}
 use Rattle.heads.specs.declared.heading.Under.{Under}
 use Rattle.heads.specs.Heads.{commonOf}
@@ -24,75 +19,40 @@ use Rattle.rows.specs.Table.{shapeAt}
 use Rattle.table.specs.declared.Keys.the-variants.{Satellites, Cells}
 use Rattle.table.specs.declared.Layout.{Layout}
 use Rattle.table.specs.Bodies.{linesIn, linesOver}
-use Rattle.table.specs.Shapes.{shapesFrom}
 use Rattle.table.specs.Kinds.{keysFor, overBy, programBy}
 
-module _ (u : Under) (h : CommonHead) (sky : Sky) where
-  -- the gate's three ways
-  none-held : u .held ≡ false → gatedBy u sky (commonOf h) ≡ refuse NoMask
-  unfolding gatedBy gateBy _>>_ _>>=_
-  none-held e = rw e
+-- past the gate
+passed : (u : Under) (h : CommonHead) (sky : Sky) → u .held ≡ true → h .iod ≡ u .iod → gatedBy u sky (commonOf h) ≡ programBy (u .subtype) (u .layout) sky (commonOf h)
+unfolding gatedBy gateBy commonOf require _>>_ _>>=_
+passed u h sky e same = rw (e, eq-eqb (h .iod) (u .iod) same)
 
-  another : u .held ≡ true → (h .iod ≡ u .iod → ⊥) → gatedBy u sky (commonOf h) ≡ refuse OtherIssue
-  unfolding gatedBy gateBy commonOf require _>>_ _>>=_
-  another e differs = rw (e, ne-eqb (h .iod) (u .iod) differs)
-
-  passed : u .held ≡ true → h .iod ≡ u .iod → gatedBy u sky (commonOf h) ≡ programBy (u .subtype) (u .layout) sky (commonOf h)
-  unfolding gatedBy gateBy commonOf require _>>_ _>>=_
-  passed e same = rw (e, eq-eqb (h .iod) (u .iod) same)
-
--- with flags, and with rows alone
-module _ (n : ℕ) (l : Layout) (sky : Sky) (h : Messages.Common) where
-  with-flags : l .flagged ≡ true → programBy n l sky h ≡ flagged n (shapesFrom (l .shape)) sky h
-  unfolding programBy
-  with-flags e = ap (λ (b : Bool). cond b (flagged n (shapesFrom (l .shape))) (rowsAlone n (overBy l)) sky h) e
-
-  alone : l .flagged ≡ false → programBy n l sky h ≡ rowsAlone n (overBy l) sky h
-  unfolding programBy
-  alone e = ap (λ (b : Bool). cond b (flagged n (shapesFrom (l .shape))) (rowsAlone n (overBy l)) sky h) e
-
--- rows alone go over all that is seen
-module _ (v : View) (n : ℕ) (shows : Shows v n) (shape : ℕ) where
-  all-satellites : linesOver v (Satellites (2 ^ 64 - 1)) shape ≡ overSatellites (shapeAt shape) (skyIn v)
-  unfolding linesOver overSatellites skyIn
-  all-satellites = rw (pick-all (v .satellites) (omega (arith, shows .count, shows .few)))
-
-  all-cells : linesOver v (Cells (2 ^ 64 - 1)) shape ≡ overCells (shapeAt shape) (skyIn v)
-  unfolding linesOver overCells skyIn
-  all-cells = rw (pick-all (v .satellites) (omega (arith, shows .count, shows .few)), pick-all (v .strips) (shows .strips))
+-- rows alone, which go over all that is seen
+alone : (n : ℕ) (l : Layout) (sky : Sky) (h : Messages.Common) → l .flagged ≡ false → programBy n l sky h ≡ rowsAlone n (overBy l) sky h
+unfolding programBy
+alone n l sky h e = rw e
 
 alone-lines : (l : Layout) (v : View) (n : ℕ) → Shows v n → linesOver v (keysFor (l .cells) (2 ^ 64 - 1)) (l .shape) ≡ overBy l (skyIn v)
-unfolding keysFor overBy
+unfolding keysFor overBy linesOver overSatellites overCells skyIn
 alone-lines l v n shows = go (l .cells)
   where
     go : (b : Bool)
         → linesOver v (cond b (Cells (2 ^ 64 - 1)) (Satellites (2 ^ 64 - 1))) (l .shape)
         ≡ cond b (overCells (shapeAt (l .shape))) (overSatellites (shapeAt (l .shape))) (skyIn v)
-    go true = all-cells v n shows (l .shape)
-    go false = all-satellites v n shows (l .shape)
-
-returns : tie.Need-returns
-unfolding saidBy FitsHeading endFrom run later
-returns c =
-    let x = c .before .before .before .args in
-    (λ v shows. rw (none-held (x .under) (x .h) (skyIn v) (not-true (x .under .held) (c .if1 .taken))), tt)
+    go true = rw (pick-all (v .satellites) (omega (arith, shows .count, shows .few)), pick-all (v .strips) (shows .strips))
+    go false = rw (pick-all (v .satellites) (omega (arith, shows .count, shows .few)))
 
 returns-2 : tie.Need-returns-2
-unfolding saidBy FitsHeading endFrom run later
+unfolding gatedBy gateBy commonOf require _>>_ _>>=_ saidBy FitsHeading endFrom run later
 returns-2 c =
     let x = c .before .before .before .before .before .before .args in
-    (λ v shows. rw (another (x .under) (x .h) (skyIn v) (not-false (x .under .held) (c .before .before .before .if1 .left)) (c .if2 .taken)), tt)
-
-flagged-requires : tie.Need-flagged-requires
-flagged-requires c κs =
-    let s = c .before .before .before .before .before .before .before in
-    (s .pre .0, s .pre .1, s .pre .2 .with-flags (c .if3 .taken) .1, s .pre .3, s .pre .4, s .pre .5)
+    (λ v shows. rw (not-false (x .under .held) (c .before .before .before .if1 .left), ne-eqb (x .h .iod) (x .under .iod) (c .if2 .taken)), tt)
 
 returns-3 : tie.Need-returns-3
+unfolding programBy
 returns-3 c =
     let x = c .before .before .before .before .before .before .before .before .args in (
       λ v shows.
-          rw (passed (x .under) (x .h) (skyIn v) (not-false (x .under .held) (c .before .before .before .before .before .if1 .left)) (c .before .before .if2 .left), with-flags (x .under .subtype) (x .under .layout) (skyIn v) (commonOf (x .h)) (c .before .if3 .taken))
+          rw (passed (x .under) (x .h) (skyIn v) (not-false (x .under .held) (c .before .before .before .before .before .if1 .left)) (c .before .before .if2 .left), c .before .if3 .taken)
           (c .flagged .ensures .0 v shows),
       c .flagged .ensures .1,
     )
@@ -116,6 +76,9 @@ returns-4 c =
     )
 
 pub gated-spec : {M : Type 1} → statement M
+unfolding gatedBy gateBy _>>_ _>>=_ saidBy FitsHeading endFrom run later
 gated-spec =
     tie.close
-    (tie.spec returns (λ c. search needs) returns-2 flagged-requires returns-3 (λ c κs. search needs) (λ c κs. search needs) (λ c. search needs) returns-4)
+    (tie.spec (λ c. let x = c .before .before .before .args in (λ v shows. rw (not-true (x .under .held) (c .if1 .taken)), tt)) (λ c. search needs) returns-2
+    (λ c κs. let s = c .before .before .before .before .before .before .before in (s .pre .0, s .pre .1, s .pre .2 .with-flags (c .if3 .taken) .1, s .pre .3, s .pre .4, s .pre .5))
+    returns-3 (λ c κs. search needs) (λ c κs. search needs) (λ c. search needs) returns-4)

@@ -1,8 +1,5 @@
 -- `heads::heading::masked` meets its contract. Assumes nothing.
-use mathlib.Core.Path.{_≡_, _∙_, sym}
-use Prim.Native.Nat.{_+_}
-use native.Mathlib.Omega.{arith}
-use borrow.Author.Needs.{needs}
+use Rattle.bits.proofs.Words.{_≡_, sym, _∙_, _+_, arith, needs}
 use Rattle.format.proofs.Ends.{onward, then-well, then-badly}
 use Rattle.format.specs.Messages.{common}
 use Rattle.heads.specs.Headings.{saidBy, FitsHeading, gatedBy, underBy}
@@ -18,14 +15,6 @@ module _ (c : tie.After-known-told) where
 
   whole : Read (s .pre .3) 12 (c .before .common2 .given .0 .0)
   whole = common-whole (s .pre .3) 12 (omega arith) (sym (c .before .before .before .common .ensures _ (s .pre .4)) ∙ c .before .common2 .given .1)
-
-common-requires : tie.Need-common-requires
-common-requires c κs = let p = c .before .pre in (record { bytes = _; opens = p .4 }, p .3 .room)
-
-gated-requires : tie.Need-gated-requires
-gated-requires c κs =
-    let p = s c .pre in
-    (p .0, p .1, p .2, whole c .small, onward (p .3) (omega (arith, whole c .after)), p .4)
 
 returns : tie.Need-returns
 unfolding underBy
@@ -47,4 +36,5 @@ returns-2 c =
 pub masked-spec : {M : Type 1} → statement M
 masked-spec =
     tie.close
-    (tie.spec common-requires (λ c. search needs) gated-requires (λ c. search needs) returns returns-2)
+    (tie.spec (λ c κs. let p = c .before .pre in (record { bytes = _; opens = p .4 }, p .3 .room)) (λ c. search needs)
+    (λ c κs. let p = s c .pre in (p .0, p .1, p .2, whole c .small, onward (p .3) (omega (arith, whole c .after)), p .4)) (λ c. search needs) returns returns-2)

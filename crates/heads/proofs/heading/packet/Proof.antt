@@ -1,10 +1,5 @@
 -- `heads::heading::packet` meets its contract. Assumes nothing.
-use mathlib.Core.Path.{_≡_, _∙_, sym, ap, refl}
-use mathlib.Core.List.{List}
-use Prim.Native.Nat.{ℕ, _+_, _/_, _%_, _<_}
-use native.Mathlib.Numerals.{add-one}
-use native.Mathlib.Omega.{arith}
-use borrow.Author.Needs.{needs}
+use Rattle.bits.proofs.Words.{_≡_, refl, sym, ap, _∙_, List, ℕ, _+_, _/_, _%_, _<_, add-one, arith, needs}
 use mir.Facts.{toZ-pos}
 use mir.Syntax.{w32}
 use Rattle.bits.specs.declared.read.Taken.{Taken}
@@ -33,12 +28,6 @@ module _ (c : tie.After-taken) where
 
     is : {t : Taken} → c .taken .result ≡ t → takenAt bs (start .args .f .end) (start .args .f .start + 16) 6 ≡ t
     is e = sym (c .taken .ensures bs opens) ∙ e
-
-short-by-requires : tie.Need-short-by-requires
-unfolding bitsOf widthsOf
-short-by-requires c κs =
-    let took = c .before .before .before in
-    field-short _ _ _ 6 _ (is took (start took .pre .0 .opens) (c .before .enum-told .given .1)) .0
 
 returns : tie.Need-returns
 unfolding saidBy FitsHeading widthsOf
@@ -73,7 +62,10 @@ returns-2 c = (
 )
 
 pub packet-spec : {M : Type 1} → statement M
+unfolding bitsOf widthsOf
 packet-spec =
     tie.close
-    (tie.spec (λ c. search needs) (λ c κs. search needs) (λ c. search needs) (λ c. search needs) short-by-requires (λ c. search needs) (λ c. record { sfits = omega (arith, small c) }) (λ c. search needs)
-    (λ c. search needs) (λ c. search needs) (λ c. search needs) returns returns-2)
+    (tie.spec (λ c. search needs) (λ c κs. search needs) (λ c. search needs) (λ c. search needs)
+    (λ c κs. let took = c .before .before .before in field-short _ _ _ 6 _ (is took (start took .pre .0 .opens) (c .before .enum-told .given .1)) .0)
+    (λ c. search needs) (λ c. record { sfits = omega (arith, small c) }) (λ c. search needs) (λ c. search needs) (λ c. search needs) (λ c. search needs) returns
+    returns-2)

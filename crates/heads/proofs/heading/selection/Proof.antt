@@ -1,8 +1,5 @@
 -- `heads::heading::selection` meets its contract: each return is one of the ways in which a network and its selection end. Assumes nothing.
-use mathlib.Core.Path.{_≡_, _∙_, sym}
-use Prim.Native.Nat.{ℕ, _+_, _<_}
-use native.Mathlib.Omega.{arith}
-use borrow.Author.Needs.{needs}
+use Rattle.bits.proofs.Words.{_≡_, sym, _∙_, ℕ, _+_, _<_, arith, needs}
 use mir.Facts.{toZ-pos}
 use mir.Syntax.{w32}
 use Rattle.bits.specs.declared.read.Taken.the-variants.{Whole}
@@ -34,12 +31,6 @@ module _ (c : tie.After-known-told2) where
 
   low : n < 32
   low = fits (s .pre .2) 5 there
-
-returns : tie.Need-returns
-unfolding saidBy FitsHeading
-returns c =
-    let x = s (c .before) .args in
-    (λ v shows. sym (network-none (s (c .before) .pre .2) (v .satellites) (x .numbers) (shapeAt (x .shape)) (there (c .before)) (c .if1 .taken)), tt)
 
 returns-2 : tie.Need-returns-2
 unfolding saidBy FitsHeading
@@ -75,8 +66,11 @@ returns-4 c =
     )
 
 pub selection-spec : {M : Type 1} → statement M
+unfolding saidBy FitsHeading
 selection-spec =
     tie.close
-    (tie.spec (λ c κs. search needs) (λ c. search needs) (λ c. search needs) returns (λ c. search needs) (λ c. search needs) (λ c. after (c .before .before .before) .room)
-    (λ c. after (c .before .before .before .before .before) .room) (λ c. search needs) returns-2 (λ c. record { sfits = omega (arith, low (c .before .before .before .before)) }) (λ c κs. search needs)
+    (tie.spec (λ c κs. search needs) (λ c. search needs) (λ c. search needs)
+    (λ c. let x = s (c .before) .args in (λ v shows. sym (network-none (s (c .before) .pre .2) (v .satellites) (x .numbers) (shapeAt (x .shape)) (there (c .before)) (c .if1 .taken)), tt))
+    (λ c. search needs) (λ c. search needs) (λ c. after (c .before .before .before) .room) (λ c. after (c .before .before .before .before .before) .room)
+    (λ c. search needs) returns-2 (λ c. record { sfits = omega (arith, low (c .before .before .before .before)) }) (λ c κs. search needs)
     (λ c κs. (omega (arith, after (c .before .before .before .before .before)), omega arith)) (λ c. search needs) returns-3 returns-4)

@@ -4,9 +4,6 @@ use Rattle.holding.specs.Pictures.{pictureOf}
 use Rattle.holding.proofs.Holding.empty.Statement.{statement}
 use Rattle.holding.proofs.Holding.empty.Tie as tie
 
-returns : tie.Need-returns
-unfolding pictureOf
-returns c = refl
-
 pub empty-spec : {M : Type 1} → statement M
-empty-spec = tie.close (tie.spec returns)
+unfolding pictureOf
+empty-spec = tie.close (tie.spec (λ c. refl))

@@ -1,19 +1,11 @@
 -- `holding::Holding::is_sound` meets its contract: the test slot by slot is the test of the definitions. Assumes nothing.
-use mathlib.Core.Path.{sym, _∙_}
-use borrow.Author.Needs.{needs}
+use Rattle.bits.proofs.Words.{sym, _∙_, needs}
 use borrow.Author.Tests.{le-leb, lt-leb, not-true, not-false}
 use Rattle.holding.specs.Testing.{tested}
 use Rattle.holding.proofs.Shapes.{as-long, narrow-typed, tested-is-sound, not-tested}
 use Rattle.holding.proofs.Sounds.{Shaped}
 use Rattle.holding.proofs.Holding.is_sound.Statement.{statement}
 use Rattle.holding.proofs.Holding.is_sound.Tie as tie
-
-returns : tie.Need-returns
-unfolding tested
-returns c =
-    let h = c .before .before .args .self in
-    let issue = sym (c .before .issue-fits .ensures) ∙ not-true _ (c .if1 .taken) in
-    sym (not-tested h (rw issue))
 
 returns-2 : tie.Need-returns-2
 unfolding tested
@@ -45,7 +37,9 @@ returns-3 c =
     c .slots-fit .ensures ∙ (rw (issue, le-leb (h .count) 5 (after .if2 .left)) at (tested-is-sound h shaped))
 
 pub is-sound-spec : {M : Type 1} → statement M
+unfolding tested
 is-sound-spec =
     tie.close
-    (tie.spec (λ c κs. search needs) returns returns-2 (λ c. search needs) (λ c. search needs) (λ c. search needs) (λ c. search needs)
-    (λ c. search needs) (λ c κs. search needs) returns-3)
+    (tie.spec (λ c κs. search needs)
+    (λ c. let h = c .before .before .args .self in let issue = sym (c .before .issue-fits .ensures) ∙ not-true _ (c .if1 .taken) in sym (not-tested h (rw issue)))
+    returns-2 (λ c. search needs) (λ c. search needs) (λ c. search needs) (λ c. search needs) (λ c. search needs) (λ c κs. search needs) returns-3)

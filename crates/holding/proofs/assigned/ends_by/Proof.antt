@@ -1,9 +1,5 @@
 -- `holding::assigned::ends_by` meets its contract. Assumes nothing.
-use mathlib.Core.Path.{_≡_, sym, ap, _∙_}
-use Prim.Native.Nat.{ℕ, suc, _-_, _*_, _%_, _^_}
-use native.Mathlib.Omega.{arith}
-use borrow.Author.Needs.{needs}
-use lib.Dec.{eqb}
+use Rattle.bits.proofs.Words.{_≡_, sym, ap, _∙_, ℕ, suc, _-_, _*_, _%_, _^_, arith, needs, eqb}
 use lib.Pow.{pow-pos}
 use Rattle.bits.proofs.Windows.{one-shifted}
 use Rattle.holding.proofs.Places.{assigned-number}

@@ -1,8 +1,5 @@
 -- `holding::assigned::highest` meets its contract. Assumes nothing.
-use mathlib.Core.Path.{_≡_, sym, ap}
-use Prim.Native.Nat.{ℕ}
-use native.Mathlib.Omega.{arith}
-use lib.ListN.{getD}
+use Rattle.bits.proofs.Words.{_≡_, sym, ap, ℕ, arith, getD}
 use Rattle.holding.specs.declared.assigned.Places.{Places}
 use Rattle.holding.specs.Assigning.{placesOf}
 use Rattle.holding.proofs.assigned.highest.Statement.{statement}
@@ -12,20 +9,8 @@ use Rattle.holding.proofs.assigned.highest.Tie as tie
 row : (p : Places) {id : ℕ} (k : ℕ) → id ≡ k → getD (placesOf p) k 0 ≡ getD (placesOf p) id 0
 row p k e = ap (λ (n : ℕ). getD (placesOf p) n 0) (sym e)
 
-returns : tie.Need-returns
-returns c = row _ 0 (c .match .keys1)
-
-returns-2 : tie.Need-returns-2
-returns-2 c = row _ 1 (c .match .keys2)
-
-returns-3 : tie.Need-returns-3
-returns-3 c = row _ 2 (c .match .keys3)
-
-returns-4 : tie.Need-returns-4
-returns-4 c = row _ 3 (c .match .keys4)
-
-returns-5 : tie.Need-returns-5
-returns-5 c = row _ {id = c .before .args .id} 4 (omega (arith, c .match .rest, c .before .pre))
-
 pub highest-spec : {M : Type 1} → statement M
-highest-spec = tie.close (tie.spec returns returns-2 returns-3 returns-4 returns-5)
+highest-spec =
+    tie.close
+    (tie.spec (λ c. row _ 0 (c .match .keys1)) (λ c. row _ 1 (c .match .keys2)) (λ c. row _ 2 (c .match .keys3)) (λ c. row _ 3 (c .match .keys4))
+    (λ c. row _ {id = c .before .args .id} 4 (omega (arith, c .match .rest, c .before .pre))))

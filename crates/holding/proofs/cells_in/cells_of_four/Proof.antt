@@ -1,10 +1,6 @@
 -- `holding::cells_in::cells_of_four` meets its contract. Assumes nothing.
-use mathlib.Core.Path.{ap, _∙_}
-use Prim.Native.Nat.{ℕ, _^_, _<_}
-use native.Mathlib.Omega.{arith}
-use borrow.Author.Needs.{needs}
+use Rattle.bits.proofs.Words.{ap, _∙_, ℕ, _^_, _<_, arith, needs, getD}
 use lib.Count.{ones, ones-le}
-use lib.ListN.{getD}
 use Rattle.holding.proofs.Counts.{ones-four}
 use Rattle.holding.proofs.cells_in.cells_of_four.Statement.{statement}
 use Rattle.holding.proofs.cells_in.cells_of_four.Tie as tie

@@ -1,10 +1,5 @@
 -- `holding::named::named_in` meets its contract. The loop's invariant: none of those passed is the ID. Assumes nothing.
-use mathlib.Core.Path.{_≡_, refl, sym, ap, _∙_}
-use mathlib.Core.Bool.{false}
-use Prim.Native.Nat.{ℕ, _-_, _≤_}
-use native.Mathlib.Numerals.{add-one}
-use native.Mathlib.Omega.{arith}
-use lib.ListN.{take}
+use Rattle.bits.proofs.Words.{_≡_, refl, sym, ap, _∙_, false, ℕ, _-_, _≤_, add-one, arith, take}
 use Rattle.format.specs.Messages.{named}
 use Rattle.holding.proofs.Names.{named-at, named-more}
 use Rattle.holding.proofs.named.named_in.Statement.{statement}
@@ -16,26 +11,17 @@ Inv-loop ids count id i₀ i = (i ≤ count) × (named id (take i ids) ≡ false
 abbrev μ-loop : tie.MeasureT-loop
 μ-loop ids count id i₀ i = count - i
 
-loop-holds : tie.Need-loop-holds Inv-loop μ-loop
-unfolding named
-loop-holds c = (omega arith, refl)
-
-returns : tie.Need-returns Inv-loop μ-loop
-returns c =
-    let x = c .before .before .before .before .args in
-    sym (named-at (x .id) (x .ids .now) (c .before .before .before .loop .i) (x .count) (omega arith) (omega arith) (c .if1 .taken))
-
 loop-again : tie.Need-loop-again Inv-loop μ-loop
 loop-again c =
     let x = c .before .before .before .before .args in
     let i : ℕ = c .before .before .before .loop .i in
     (omega arith, rw (add-one i) (named-more (x .id) (x .ids .now) i (omega arith) (c .before .before .before .loop .inv .1) (c .if1 .left)))
 
-returns-2 : tie.Need-returns-2 Inv-loop μ-loop
-returns-2 c =
-    let x = c .before .before .args in
-    let all : c .before .loop .i ≡ x .count = omega arith in
-    sym (ap (λ (k : ℕ). named (x .id) (take k (x .ids .now))) (sym all) ∙ c .before .loop .inv .1)
-
 pub named-in-spec : {M : Type 1} → statement M
-named-in-spec = tie.close (tie.spec Inv-loop μ-loop loop-holds (λ c. omega arith) returns (λ c. omega arith) (λ c. omega arith) loop-again returns-2)
+unfolding named
+named-in-spec =
+    tie.close
+    (tie.spec Inv-loop μ-loop (λ c. (omega arith, refl)) (λ c. omega arith)
+    (λ c. let x = c .before .before .before .before .args in sym (named-at (x .id) (x .ids .now) (c .before .before .before .loop .i) (x .count) (omega arith) (omega arith) (c .if1 .taken)))
+    (λ c. omega arith) (λ c. omega arith) loop-again
+    (λ c. let x = c .before .before .args in let all : c .before .loop .i ≡ x .count = omega arith in sym (ap (λ (k : ℕ). named (x .id) (take k (x .ids .now))) (sym all) ∙ c .before .loop .inv .1)))

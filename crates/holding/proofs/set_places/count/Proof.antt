@@ -1,6 +1,5 @@
 -- `holding::set_places::count` meets its contract. Assumes nothing.
-use native.Mathlib.Omega.{arith}
-use borrow.Author.Needs.{needs}
+use Rattle.bits.proofs.Words.{arith, needs}
 use lib.Count.{ones-le}
 use Rattle.holding.proofs.set_places.count.Statement.{statement}
 use Rattle.holding.proofs.set_places.count.Tie as tie

@@ -1,6 +1,5 @@
 -- `holding::set_places::first` meets its contract. Assumes nothing.
-use native.Mathlib.Omega.{arith}
-use borrow.Author.Needs.{needs}
+use Rattle.bits.proofs.Words.{arith, needs}
 use lib.Count.{leading-le}
 use Rattle.holding.proofs.set_places.first.Statement.{statement}
 use Rattle.holding.proofs.set_places.first.Tie as tie

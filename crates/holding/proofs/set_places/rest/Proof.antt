@@ -1,8 +1,5 @@
 -- `holding::set_places::rest` meets its contract. Assumes nothing.
-use mathlib.Core.Path.{_≡_, sym, ap, _∙_}
-use Prim.Native.Nat.{ℕ, _+_, _-_, _/_, _^_, _<_}
-use native.Mathlib.Omega.{arith}
-use borrow.Author.Needs.{needs}
+use Rattle.bits.proofs.Words.{_≡_, sym, ap, _∙_, ℕ, _+_, _-_, _/_, _^_, _<_, arith, needs}
 use lib.Count.{leadingZeros}
 use lib.Pow.{pow-add, shl-shr}
 use Rattle.holding.proofs.Places.{next-place}

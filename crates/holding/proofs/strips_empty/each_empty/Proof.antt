@@ -1,13 +1,8 @@
 -- `holding::strips_empty::each_empty` meets its contract. The loop's invariant: the strips are empty from the first on just if nothing is gathered and they
 -- are from the i-th on. Assumes nothing.
-use mathlib.Core.Path.{_≡_, refl, sym, ap, _∙_}
-use mathlib.Core.Bool.{Bool, _&&_, and-true}
-use Prim.Native.Nat.{_+_, _-_, _≤_}
-use native.Mathlib.Omega.{arith}
-use native.Mathlib.Numerals.{add-one}
-use borrow.Author.Needs.{needs}
-use lib.Dec.{eqb}
-use lib.ListN.{length, getD, drop, drop-of-length-le}
+use Rattle.bits.proofs.Words.{_≡_, refl, sym, ap, _∙_, Bool, _&&_, _+_, _-_, _≤_, add-one, arith, needs, eqb, length, getD, drop}
+use mathlib.Core.Bool.{and-true}
+use lib.ListN.{drop-of-length-le}
 use Rattle.holding.specs.Bounds.{every}
 use Rattle.holding.specs.Testing.{emptyStrips}
 use Rattle.holding.proofs.Fitting.{empty-strip}

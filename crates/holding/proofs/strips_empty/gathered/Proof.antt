@@ -1,11 +1,5 @@
 -- `holding::strips_empty::gathered` meets its contract. Assumes nothing.
-use mathlib.Core.Path.{ap, _∙_}
-use mathlib.Core.Bool.{Bool, _&&_}
-use Prim.Native.Nat.{ℕ, _^_, _<_}
-use native.Mathlib.Omega.{arith}
-use borrow.Author.Needs.{needs}
-use lib.Dec.{eqb}
-use lib.ListN.{getD}
+use Rattle.bits.proofs.Words.{ap, _∙_, Bool, _&&_, ℕ, _^_, _<_, arith, needs, eqb, getD}
 use Rattle.holding.proofs.Fours.{empty-four}
 use Rattle.holding.proofs.Noughts.{or-nought}
 use Rattle.holding.proofs.strips_empty.gathered.Statement.{statement}

@@ -1,11 +1,5 @@
 -- `holding::strips_empty::sixteen` meets its contract. Assumes nothing.
-use mathlib.Core.Path.{_≡_}
-use mathlib.Core.Bool.{Bool, _&&_}
-use Prim.Native.Nat.{ℕ, _+_}
-use native.Mathlib.Omega.{arith}
-use borrow.Author.Needs.{needs}
-use lib.Dec.{eqb}
-use lib.ListN.{take, drop}
+use Rattle.bits.proofs.Words.{_≡_, Bool, _&&_, ℕ, _+_, arith, needs, eqb, take, drop}
 use Rattle.holding.specs.Testing.{emptyStrips}
 use Rattle.holding.proofs.Tests.{and-fours, every-next}
 use Rattle.holding.proofs.strips_empty.sixteen.Statement.{statement}

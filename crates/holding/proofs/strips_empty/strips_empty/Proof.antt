@@ -1,14 +1,9 @@
 -- `holding::strips_empty::strips_empty` meets its contract. The loop's invariant: nothing is gathered just if none of the strips passed is used, nor one of
 -- the last sixteen. Assumes nothing.
-use mathlib.Core.Path.{_≡_, sym, ap, _∙_}
-use mathlib.Core.Bool.{Bool, _&&_}
-use Prim.Native.Nat.{_+_, _-_, _≤_}
+use Rattle.bits.proofs.Words.{_≡_, sym, ap, _∙_, Bool, _&&_, _+_, _-_, _≤_, arith, needs, eqb, take, drop}
 use native.Mathlib.Nat.{sub-self}
-use native.Mathlib.Omega.{arith}
-use borrow.Author.Needs.{needs}
 use lib.Bits.{bitOr}
-use lib.Dec.{eqb}
-use lib.ListN.{take, drop, length-drop}
+use lib.ListN.{length-drop}
 use lib.Seq.{take-all}
 use Rattle.holding.specs.Bounds.{every}
 use Rattle.holding.specs.Gathering.{nought}

@@ -1,13 +1,8 @@
 -- `holding::strips_fit::each_fits` meets its contract. The loop's invariant: the strips fit from the first on just if they do from the i-th on.
 -- Assumes nothing.
-use mathlib.Core.Path.{_≡_, refl, sym, _∙_}
-use Prim.Native.Nat.{ℕ, _-_, _≤_}
+use Rattle.bits.proofs.Words.{_≡_, refl, sym, _∙_, ℕ, _-_, _≤_, add-one, arith, needs, take, drop}
 use native.Mathlib.Nat.{sub-self}
-use native.Mathlib.Numerals.{add-one}
-use native.Mathlib.Omega.{arith}
-use borrow.Author.Needs.{needs}
 use borrow.Author.Tests.{not-true, not-false}
-use lib.ListN.{take, drop}
 use Rattle.holding.specs.Bounds.{every}
 use Rattle.holding.specs.Testing.{stripsFit}
 use Rattle.holding.proofs.Fitting.{strip-fit}
@@ -37,16 +32,10 @@ loop-again c =
     let fits-here = sym (c .before .strip-fits .ensures) ∙ not-false _ (c .if1 .left) in
     (omega arith, c .before .before .before .before .loop .inv .1 ∙ here ∙ rw (fits-here, add-one i))
 
-returns-2 : tie.Need-returns-2 Inv-loop μ-loop
-unfolding every
-returns-2 c =
-    let x = c .before .before .before .args in
-    let all : c .before .loop .i ≡ x .to = omega arith in
-    sym (c .before .loop .inv .1 ∙ rw (all, sub-self))
-
 pub each-fits-spec : {M : Type 1} → statement M
+unfolding every
 each-fits-spec =
     tie.close
     (tie.spec Inv-loop μ-loop (λ c. (omega arith, refl)) (λ c. search needs) (λ c. search needs)
-    (λ c. omega (arith, c .shared-slice-known2 .given (c .before .before .loop .i))) (λ c κs. search needs) returns (λ c. omega arith)
-    (λ c. omega arith) loop-again returns-2)
+    (λ c. omega (arith, c .shared-slice-known2 .given (c .before .before .loop .i))) (λ c κs. search needs) returns (λ c. omega arith) (λ c. omega arith) loop-again
+    (λ c. let x = c .before .before .before .args in let all : c .before .loop .i ≡ x .to = omega arith in sym (c .before .loop .inv .1 ∙ rw (all, sub-self))))

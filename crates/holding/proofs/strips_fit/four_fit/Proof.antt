@@ -1,9 +1,5 @@
 -- `holding::strips_fit::four_fit` meets its contract. Assumes nothing.
-use mathlib.Core.Path.{ap₂, _∙_}
-use Prim.Native.Nat.{ℕ, _^_, _<_}
-use native.Mathlib.Omega.{arith}
-use borrow.Author.Needs.{needs}
-use lib.ListN.{getD}
+use Rattle.bits.proofs.Words.{ap₂, _∙_, ℕ, _^_, _<_, arith, needs, getD}
 use Rattle.holding.specs.Testing.{stripFits}
 use Rattle.holding.proofs.Fours.{fit-joined}
 use Rattle.holding.proofs.strips_fit.four_fit.Statement.{statement}

@@ -1,12 +1,7 @@
 -- `holding::strips_fit::strips_fit` meets its contract. The loop's invariant: the strips passed fit. Assumes nothing.
-use mathlib.Core.Path.{_≡_, sym, _∙_}
-use mathlib.Core.Bool.{true}
-use Prim.Native.Nat.{ℕ, _+_, _-_, _≤_}
+use Rattle.bits.proofs.Words.{_≡_, sym, _∙_, true, ℕ, _+_, _-_, _≤_, arith, needs, take, drop}
 use native.Mathlib.Nat.{sub-self}
-use native.Mathlib.Omega.{arith}
-use borrow.Author.Needs.{needs}
 use borrow.Author.Tests.{not-true, not-false}
-use lib.ListN.{take, drop}
 use Rattle.holding.specs.Bounds.{every}
 use Rattle.holding.specs.Testing.{stripFits, stripsFit}
 use Rattle.holding.proofs.Tests.{every-parts, every-fewer}
@@ -18,10 +13,6 @@ Inv-loop strips from to signals flag last i₀ i = (from ≤ i) × (i ≤ to) ×
 
 abbrev μ-loop : tie.MeasureT-loop
 μ-loop strips from to signals flag last i₀ i = to - i
-
-loop-holds : tie.Need-loop-holds Inv-loop μ-loop
-unfolding every
-loop-holds c = (omega arith, omega arith, rw sub-self)
 
 returns-2 : tie.Need-returns-2 Inv-loop μ-loop
 returns-2 c =
@@ -53,7 +44,8 @@ returns-3 c =
     c .four-fit2 .ensures ∙ sym (whole ∙ rw (passed, four))
 
 pub strips-fit-spec : {M : Type 1} → statement M
+unfolding every
 strips-fit-spec =
     tie.close
-    (tie.spec Inv-loop μ-loop (λ c. omega arith) (λ c κs. search needs) (λ c. c .each-fits .ensures) (λ c. omega arith) loop-holds
-    (λ c κs. omega arith) returns-2 (λ c. omega arith) (λ c. omega arith) loop-again (λ c κs. omega arith) returns-3)
+    (tie.spec Inv-loop μ-loop (λ c. omega arith) (λ c κs. search needs) (λ c. c .each-fits .ensures) (λ c. omega arith)
+    (λ c. (omega arith, omega arith, rw sub-self)) (λ c κs. omega arith) returns-2 (λ c. omega arith) (λ c. omega arith) loop-again (λ c κs. omega arith) returns-3)

@@ -1,21 +1,11 @@
 -- `holding::testing::slot_fits` meets its contract: the tests of slotFits one after the other. Assumes nothing.
-use mathlib.Core.Path.{_≡_, sym, ap, _∙_}
-use Prim.Native.Nat.{ℕ, _+_, _-_}
-use native.Mathlib.Omega.{arith}
-use borrow.Author.Needs.{needs}
+use Rattle.bits.proofs.Words.{_≡_, sym, ap, _∙_, ℕ, _+_, _-_, arith, needs, getD, take, drop}
 use borrow.Author.Tests.{lt-ltb, le-ltb, not-true, not-false}
 use lib.Count.{ones, ones-le}
-use lib.ListN.{getD, take, drop}
 use Rattle.holding.specs.Testing.{stripsFit, slotFits}
 use Rattle.holding.proofs.Fitting.{few-with}
 use Rattle.holding.proofs.testing.slot_fits.Statement.{statement}
 use Rattle.holding.proofs.testing.slot_fits.Tie as tie
-
-returns : tie.Need-returns
-unfolding slotFits
-returns c =
-    let x = c .before .before .before .before .args in
-    rw (le-ltb (getD (x .ids .now) (x .i) 0) 5 (omega arith))
 
 returns-2 : tie.Need-returns-2
 unfolding slotFits
@@ -31,11 +21,6 @@ returns-3 c =
     let new = sym (c .before .before .before .named-in .ensures) ∙ c .before .before .if2 .left in
     let over = sym (c .before .masks-fit .ensures) ∙ not-true _ (c .if3 .taken) in
     rw (lt-ltb (getD (x .ids .now) (x .i) 0) 5 (omega arith), new, over)
-
-add-to : tie.Need-add-to
-add-to c =
-    let s = c .before .before .before .before .before .before .before .before .before in
-    omega (arith, c .count .ensures, ones-le 64 (s .args .satellites) (s .fits .satellites .fits))
 
 strips-fit-requires : tie.Need-strips-fit-requires
 strips-fit-requires c κs =
@@ -54,7 +39,11 @@ returns-4 c =
     (c .strips-fit .ensures ∙ ap (λ (k : ℕ). stripsFit (x .flag) (x .signals) (take k (drop (x .n) (x .strips .now)))) width)
 
 pub slot-fits-spec : {M : Type 1} → statement M
+unfolding slotFits
 slot-fits-spec =
     tie.close
-    (tie.spec (λ c. search needs) (λ c. omega (arith, c .shared-slice-known3 .given (c .before .before .before .args .i))) returns
-    (λ c κs. search needs) returns-2 (λ c. search needs) (λ c κs. search needs) returns-3 (λ c κs. search needs) add-to strips-fit-requires returns-4)
+    (tie.spec (λ c. search needs) (λ c. omega (arith, c .shared-slice-known3 .given (c .before .before .before .args .i)))
+    (λ c. let x = c .before .before .before .before .args in rw (le-ltb (getD (x .ids .now) (x .i) 0) 5 (omega arith))) (λ c κs. search needs) returns-2
+    (λ c. search needs) (λ c κs. search needs) returns-3 (λ c κs. search needs)
+    (λ c. let s = c .before .before .before .before .before .before .before .before .before in omega (arith, c .count .ensures, ones-le 64 (s .args .satellites) (s .fits .satellites .fits)))
+    strips-fit-requires returns-4)

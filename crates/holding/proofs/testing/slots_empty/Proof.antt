@@ -1,14 +1,8 @@
 -- `holding::testing::slots_empty` meets its contract. The loop's invariant: nothing is gathered just if the slots are empty from the i-th on.
 -- Assumes nothing.
-use mathlib.Core.Path.{_≡_, sym, _∙_}
-use mathlib.Core.Bool.{false}
-use Prim.Native.Nat.{suc, _-_, _^_, _≤_, _<_}
+use Rattle.bits.proofs.Words.{_≡_, sym, _∙_, false, suc, _-_, _^_, _≤_, _<_, arith, needs, eqb, length, getD, drop}
 use native.Mathlib.Nat.{sub-self}
-use native.Mathlib.Omega.{arith}
-use borrow.Author.Needs.{needs}
 use lib.Bits.{bitOr, or-lt}
-use lib.Dec.{eqb}
-use lib.ListN.{length, getD, drop}
 use Rattle.holding.specs.Testing.{emptySlots}
 use Rattle.holding.proofs.Fitting.{empty-slot}
 use Rattle.holding.proofs.Noughts.{gather-slot, flag-small}
@@ -22,10 +16,6 @@ Inv-loop ids satellites signals flags from wide₀ half₀ thin₀ i₀ wide hal
 
 abbrev μ-loop : tie.MeasureT-loop
 μ-loop ids satellites signals flags from wide₀ half₀ thin₀ i₀ wide half thin i = i
-
-loop-holds : tie.Need-loop-holds Inv-loop μ-loop
-unfolding emptySlots
-loop-holds c = (omega arith, omega arith, omega arith, omega arith, rw sub-self)
 
 loop-again : tie.Need-loop-again Inv-loop μ-loop
 loop-again c =
@@ -43,13 +33,11 @@ loop-again c =
     let thin = or-lt 64 (s .thin) _ (s .inv .3) name in
     (omega arith, omega arith, half, thin, here ∙ rw (s .inv .4) more)
 
-returns : tie.Need-returns Inv-loop μ-loop
-returns c =
-    let all : c .before .loop .i ≡ c .before .before .args .from = omega arith in
-    sym (rw all at (c .before .loop .inv .4))
-
 pub slots-empty-spec : {M : Type 1} → statement M
+unfolding emptySlots
 slots-empty-spec =
     tie.close
-    (tie.spec Inv-loop μ-loop loop-holds (λ c. omega arith) (λ c. search needs) (λ c. search needs) (λ c. search needs) (λ c. search needs) (λ c. search needs)
-    (λ c. search needs) (λ c. search needs) (λ c. omega arith) loop-again (λ c. record { fits = c .before .loop .inv .2 }) (λ c. record { fits = c .before .loop .inv .3 }) returns)
+    (tie.spec Inv-loop μ-loop (λ c. (omega arith, omega arith, omega arith, omega arith, rw sub-self)) (λ c. omega arith) (λ c. search needs) (λ c. search needs)
+    (λ c. search needs) (λ c. search needs) (λ c. search needs) (λ c. search needs) (λ c. search needs) (λ c. omega arith) loop-again
+    (λ c. record { fits = c .before .loop .inv .2 }) (λ c. record { fits = c .before .loop .inv .3 })
+    (λ c. let all : c .before .loop .i ≡ c .before .before .args .from = omega arith in sym (rw all at (c .before .loop .inv .4))))

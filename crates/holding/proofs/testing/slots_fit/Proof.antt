@@ -1,17 +1,9 @@
 -- `holding::testing::slots_fit` meets its contract. The loop's invariant: the whole test is that of what is left, after the n satellites of the slots
 -- passed and the cells of their strips. Assumes nothing.
-use mathlib.Core.Path.{_≡_, sym, _∙_}
-use mathlib.Core.Bool.{false, _&&_}
-use mathlib.Core.List.{[]}
-use Prim.Native.Nat.{_+_, _-_, _≤_}
+use Rattle.bits.proofs.Words.{_≡_, sym, _∙_, false, _&&_, [], _+_, _-_, _≤_, add-one, arith, needs, eqb, leb, length, getD, take, drop}
 use native.Mathlib.Nat.{sub-zero}
-use native.Mathlib.Numerals.{add-one}
-use native.Mathlib.Omega.{arith}
-use borrow.Author.Needs.{needs}
 use borrow.Author.Tests.{eq-eqb, ne-eqb, not-true, not-false}
 use lib.Count.{ones}
-use lib.Dec.{eqb, leb}
-use lib.ListN.{length, getD, take, drop}
 use Rattle.format.specs.Lengths.{total}
 use Rattle.holding.specs.Building.{onesIn}
 use Rattle.holding.specs.Testing.{emptyStrips, emptySlots, slotsFit}
@@ -27,10 +19,6 @@ Inv-loop ids satellites signals flags strips count nsat ncell i₀ n₀ i n =
 
 abbrev μ-loop : tie.MeasureT-loop
 μ-loop ids satellites signals flags strips count nsat ncell i₀ n₀ i n = count - i
-
-loop-holds : tie.Need-loop-holds Inv-loop μ-loop
-unfolding total
-loop-holds c = (omega arith, omega arith, rw sub-zero)
 
 returns : tie.Need-returns Inv-loop μ-loop
 returns c =
@@ -84,27 +72,21 @@ ends-in c =
     let unused = sym (c .before .slots-empty .ensures) ∙ not-false _ (c .if3 .left) in
     ends l ∙ rw (eq-eqb (l .before .loop .n) (x .nsat) (c .before .before .if2 .left), unused)
 
-returns-2 : tie.Need-returns-2 Inv-loop μ-loop
-returns-2 c =
-    let a = c .before .before in
-    sym (ends (c .before) ∙ rw (ne-eqb (a .loop .n) (a .before .before .before .before .before .before .args .nsat) (c .if2 .taken)))
-
 returns-3 : tie.Need-returns-3 Inv-loop μ-loop
 returns-3 c =
     let a = c .before .before .before .before in
     let used = sym (c .before .slots-empty .ensures) ∙ not-true _ (c .if3 .taken) in
     sym (ends (c .before .before .before) ∙ rw (eq-eqb (a .loop .n) (a .before .before .before .before .before .before .args .nsat) (c .before .before .if2 .left), used))
 
-returns-5 : tie.Need-returns-5 Inv-loop μ-loop
-returns-5 c =
-    sym (ends-in (c .before .before .before) ∙ rw (sym (c .before .before .strips-empty .ensures) ∙ not-false _ (c .before .if4 .left)) (sym (c .cells-fit .ensures)))
-
 pub slots-fit-spec : {M : Type 1} → statement M
+unfolding total
 slots-fit-spec =
     tie.close
-    (tie.spec Inv-loop μ-loop loop-holds (λ c. search needs) (λ c. search needs) (λ c. search needs) (λ c. search needs) (λ c. search needs)
-    (λ c κs. search needs) returns (λ c. search needs) (λ c. search needs) (λ c κs. search needs)
-    (λ c. omega (arith, few (c .before .before), c .count .ensures)) (λ c. omega arith) (λ c. omega arith) loop-again returns-2 (λ c κs. search needs)
-    returns-3 (λ c κs. search needs)
+    (tie.spec Inv-loop μ-loop (λ c. (omega arith, omega arith, rw sub-zero)) (λ c. search needs) (λ c. search needs) (λ c. search needs) (λ c. search needs)
+    (λ c. search needs) (λ c κs. search needs) returns (λ c. search needs) (λ c. search needs) (λ c κs. search needs)
+    (λ c. omega (arith, few (c .before .before), c .count .ensures)) (λ c. omega arith) (λ c. omega arith) loop-again
+    (λ c. let a = c .before .before in sym (ends (c .before) ∙ rw (ne-eqb (a .loop .n) (a .before .before .before .before .before .before .args .nsat) (c .if2 .taken))))
+    (λ c κs. search needs) returns-3 (λ c κs. search needs)
     (λ c. sym (ends-in (c .before .before) ∙ rw (sym (c .before .strips-empty .ensures) ∙ not-true _ (c .if4 .taken))))
-    (λ c κs. (omega arith, omega arith, sym (c .before .strips-empty .ensures) ∙ not-false _ (c .if4 .left))) returns-5)
+    (λ c κs. (omega arith, omega arith, sym (c .before .strips-empty .ensures) ∙ not-false _ (c .if4 .left)))
+    (λ c. sym (ends-in (c .before .before .before) ∙ rw (sym (c .before .before .strips-empty .ensures) ∙ not-false _ (c .before .if4 .left)) (sym (c .cells-fit .ensures)))))

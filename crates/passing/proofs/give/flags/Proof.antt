@@ -1,10 +1,6 @@
 -- `passing::give::flags` meets its contract. Assumes nothing.
-use mathlib.Core.Path.{_∙_, ap}
-use mathlib.Core.Bool.{Bool, false}
-use mathlib.Core.List.{List, map, [], _∷_}
-use native.Mathlib.Omega.{arith}
-use borrow.Author.Needs.{needs}
-use lib.ListN.{length-set, getD}
+use Rattle.bits.proofs.Words.{ap, _∙_, Bool, false, List, [], _∷_, map, arith, needs, getD}
+use lib.ListN.{length-set}
 use Rattle.bits.specs.BitLists.{digit}
 use Rattle.bits.proofs.Lists.{stored-all}
 use Rattle.passing.proofs.Littles.{all-five}

@@ -1,9 +1,5 @@
 -- `passing::give::holding_over` meets its contract. Assumes nothing.
-use mathlib.Core.Path.{_∙_, sym, ap}
-use native.Mathlib.Omega.{arith}
-use borrow.Author.Needs.{needs}
-use mathlib.Core.List.{List}
-use Prim.Native.Nat.{ℕ}
+use Rattle.bits.proofs.Words.{sym, ap, _∙_, List, ℕ, arith, needs}
 use lib.Seq.{length-take-le}
 use Rattle.format.specs.Reading.{over}
 use Rattle.passing.proofs.Placing.{put-three, put-room}

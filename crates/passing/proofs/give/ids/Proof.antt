@@ -1,9 +1,6 @@
 -- `passing::give::ids` meets its contract. Assumes nothing.
-use mathlib.Core.Path.{_∙_}
-use mathlib.Core.List.{[], _∷_}
-use native.Mathlib.Omega.{arith}
-use borrow.Author.Needs.{needs}
-use lib.ListN.{length-set, getD}
+use Rattle.bits.proofs.Words.{_∙_, [], _∷_, arith, needs, getD}
+use lib.ListN.{length-set}
 use Rattle.bits.proofs.Lists.{stored-all}
 use Rattle.passing.proofs.Littles.{all-five}
 use Rattle.passing.proofs.give.ids.Statement.{statement}

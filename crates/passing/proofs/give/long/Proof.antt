@@ -1,9 +1,5 @@
 -- `passing::give::long` meets its contract. Assumes nothing.
-use mathlib.Core.Path.{_∙_}
-use mathlib.Core.List.{[], _∷_}
-use Prim.Native.Nat.{_/_, _%_}
-use native.Mathlib.Omega.{arith}
-use borrow.Author.Needs.{needs}
+use Rattle.bits.proofs.Words.{_∙_, [], _∷_, _/_, _%_, arith, needs}
 use lib.ListN.{length-set}
 use Rattle.bits.proofs.Lists.{stored-all}
 use Rattle.passing.proofs.Parts.{eight-parts}

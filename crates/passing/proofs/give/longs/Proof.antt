@@ -1,8 +1,5 @@
 -- `passing::give::longs` meets its contract. The loop's invariant: so many numbers are written. Assumes nothing.
-use Prim.Native.Nat.{_-_}
-use native.Mathlib.Omega.{arith}
-use borrow.Author.Needs.{needs}
-use lib.ListN.{length}
+use Rattle.bits.proofs.Words.{_-_, arith, needs, length}
 use Rattle.passing.proofs.Parts.{Written, written-none, written-one, written-all}
 use Rattle.passing.proofs.give.longs.Statement.{statement}
 use Rattle.passing.proofs.give.longs.Tie as tie
@@ -13,12 +10,10 @@ Inv-loop part₀ ns i₀ part i = Written 8 ns part₀ part i
 abbrev μ-loop : tie.MeasureT-loop
 μ-loop part₀ ns i₀ part i = length ns - i
 
-loop-again : tie.Need-loop-again Inv-loop μ-loop
-loop-again c = written-one (omega arith) (c .before .before .before .before .before .before .loop .inv) (c .before .before .long .ensures)
-
 pub longs-spec : {M : Type 1} → statement M
 longs-spec =
     tie.close
-    (tie.spec Inv-loop μ-loop (λ c. written-none (c .before .before .pre .0)) (λ c. search needs) (λ c. search needs) (λ c. search needs)
-    (λ c. search needs) (λ c. search needs) (λ c. search needs) (λ c. search needs) (λ c. search needs) (λ c κs. search needs) (λ c. search needs)
-    (λ c. search needs) loop-again (λ c. c .before .loop .inv .same) (λ c. written-all (omega arith) (c .before .loop .inv)))
+    (tie.spec Inv-loop μ-loop (λ c. written-none (c .before .before .pre .0)) (λ c. search needs) (λ c. search needs) (λ c. search needs) (λ c. search needs)
+    (λ c. search needs) (λ c. search needs) (λ c. search needs) (λ c. search needs) (λ c κs. search needs) (λ c. search needs) (λ c. search needs)
+    (λ c. written-one (omega arith) (c .before .before .before .before .before .before .loop .inv) (c .before .before .long .ensures))
+    (λ c. c .before .loop .inv .same) (λ c. written-all (omega arith) (c .before .loop .inv)))

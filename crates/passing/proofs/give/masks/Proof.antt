@@ -1,6 +1,5 @@
 -- `passing::give::masks` meets its contract. Assumes nothing.
-use native.Mathlib.Omega.{arith}
-use borrow.Author.Needs.{needs}
+use Rattle.bits.proofs.Words.{arith, needs}
 use Rattle.passing.specs.Bytes.{partsOf}
 use Rattle.passing.proofs.Parts.{length-partsOf}
 use Rattle.passing.proofs.Placing.{put-two}

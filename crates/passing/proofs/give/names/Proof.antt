@@ -1,7 +1,5 @@
 -- `passing::give::names` meets its contract. Assumes nothing.
-use mathlib.Core.List.{map}
-use native.Mathlib.Omega.{arith}
-use borrow.Author.Needs.{needs}
+use Rattle.bits.proofs.Words.{map, arith, needs}
 use Rattle.bits.specs.BitLists.{digit}
 use Rattle.passing.proofs.Placing.{put-two}
 use Rattle.passing.proofs.give.names.Statement.{statement}

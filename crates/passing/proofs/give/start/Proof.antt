@@ -1,8 +1,5 @@
 -- `passing::give::start` meets its contract. Assumes nothing.
-use mathlib.Core.List.{[], _∷_}
-use Prim.Native.Nat.{_/_, _%_}
-use native.Mathlib.Omega.{arith}
-use borrow.Author.Needs.{needs}
+use Rattle.bits.proofs.Words.{[], _∷_, _/_, _%_, arith, needs}
 use lib.ListN.{length-set}
 use Rattle.bits.specs.BitLists.{digit}
 use Rattle.bits.proofs.Lists.{stored-all}

@@ -1,9 +1,7 @@
 -- `passing::give::systems` meets its contract. Assumes nothing.
-use mathlib.Core.Path.{_∙_, _≡_}
-use mathlib.Core.List.{map, _++_, append-assoc}
-use native.Mathlib.Omega.{arith}
-use borrow.Author.Needs.{needs}
-use lib.ListN.{length, length-append, length-map}
+use Rattle.bits.proofs.Words.{_≡_, _∙_, _++_, map, arith, needs, length}
+use mathlib.Core.List.{append-assoc}
+use lib.ListN.{length-append, length-map}
 use Rattle.bits.specs.BitLists.{digit}
 use Rattle.passing.specs.Bytes.{partsOf}
 use Rattle.passing.proofs.Placing.{put-two}

@@ -1,20 +1,14 @@
 -- `passing::take::flags` meets its contract. Assumes nothing.
-use mathlib.Core.Path.{sym, ap}
-use mathlib.Core.List.{List, map}
-use Prim.Native.Nat.{ℕ}
-use borrow.Author.Needs.{needs}
-use native.Mathlib.Omega.{arith}
+use Rattle.bits.proofs.Words.{sym, ap, List, map, ℕ, arith, needs}
 use Rattle.passing.specs.Passing.{truth}
 use Rattle.passing.proofs.Littles.{five}
 use Rattle.passing.proofs.take.flags.Statement.{statement}
 use Rattle.passing.proofs.take.flags.Tie as tie
 
-returns : tie.Need-returns
-unfolding truth
-returns c = ap (λ (l : List ℕ). map truth l) (sym (five 0 (c .before .before .before .before .before .args .bytes .now) 11 (omega arith)))
-
 pub flags-spec : {M : Type 1} → statement M
+unfolding truth
 flags-spec =
     tie.close
-    (tie.spec (λ c. search needs) (λ c. search needs) (λ c. search needs) (λ c. search needs) (λ c. search needs) (λ c. search needs)
-    (λ c. search needs) (λ c. search needs) (λ c. search needs) returns)
+    (tie.spec (λ c. search needs) (λ c. search needs) (λ c. search needs) (λ c. search needs) (λ c. search needs) (λ c. search needs) (λ c. search needs)
+    (λ c. search needs) (λ c. search needs)
+    (λ c. ap (λ (l : List ℕ). map truth l) (sym (five 0 (c .before .before .before .before .before .args .bytes .now) 11 (omega arith)))))

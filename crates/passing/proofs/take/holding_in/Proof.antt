@@ -1,10 +1,7 @@
 -- `passing::take::holding_in` meets its contract. Assumes nothing.
-use mathlib.Core.Path.{_≡_, _∙_, sym}
-use mathlib.Core.Bool.{true, and-eq-true-iff}
-use borrow.Author.Needs.{needs}
+use Rattle.bits.proofs.Words.{_≡_, sym, _∙_, true, needs, leb, length}
+use mathlib.Core.Bool.{and-eq-true-iff}
 use borrow.Author.Tests.{leb-true}
-use lib.Dec.{leb}
-use lib.ListN.{length}
 use Rattle.passing.specs.Passing.{size, passes, holdingIn}
 use Rattle.passing.proofs.take.holding_in.Statement.{statement}
 use Rattle.passing.proofs.take.holding_in.Tie as tie
@@ -16,13 +13,9 @@ said-requires c κs =
     let fine : passes bs ≡ true = sym (c .before .passes .ensures) ∙ c .if1 .taken in
     leb-true size (length bs) (and-eq-true-iff (leb size (length bs)) _ .0 fine .0)
 
-returns : tie.Need-returns
-unfolding holdingIn
-returns c = rw (sym (c .before .before .passes .ensures) ∙ c .before .if1 .taken) (c .said .ensures)
-
-returns-2 : tie.Need-returns-2
-unfolding holdingIn
-returns-2 c = rw (sym (c .before .before .passes .ensures) ∙ c .before .if1 .left) (c .stray .ensures)
-
 pub holding-in-spec : {M : Type 1} → statement M
-holding-in-spec = tie.close (tie.spec (λ c κs. search needs) said-requires returns (λ c κs. search needs) returns-2)
+unfolding holdingIn
+holding-in-spec =
+    tie.close
+    (tie.spec (λ c κs. search needs) said-requires (λ c. rw (sym (c .before .before .passes .ensures) ∙ c .before .if1 .taken) (c .said .ensures))
+    (λ c κs. search needs) (λ c. rw (sym (c .before .before .passes .ensures) ∙ c .before .if1 .left) (c .stray .ensures)))

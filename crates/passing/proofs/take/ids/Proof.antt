@@ -1,7 +1,5 @@
 -- `passing::take::ids` meets its contract. Assumes nothing.
-use mathlib.Core.Path.{sym}
-use borrow.Author.Needs.{needs}
-use native.Mathlib.Omega.{arith}
+use Rattle.bits.proofs.Words.{sym, arith, needs}
 use Rattle.passing.proofs.Littles.{five}
 use Rattle.passing.proofs.take.ids.Statement.{statement}
 use Rattle.passing.proofs.take.ids.Tie as tie

@@ -1,6 +1,5 @@
 -- `passing::take::said` meets its contract. Assumes nothing.
-use native.Mathlib.Omega.{arith}
-use borrow.Author.Needs.{needs}
+use Rattle.bits.proofs.Words.{arith, needs}
 use Rattle.passing.specs.Passing.{truth, said}
 use Rattle.passing.proofs.take.said.Statement.{statement}
 use Rattle.passing.proofs.take.said.Tie as tie

@@ -1,6 +1,5 @@
 -- `passing::take::signals` meets its contract. Assumes nothing.
-use mathlib.Core.Path.{sym}
-use borrow.Author.Needs.{needs}
+use Rattle.bits.proofs.Words.{sym, needs}
 use Rattle.passing.proofs.Littles.{five-littles}
 use Rattle.passing.proofs.take.signals.Statement.{statement}
 use Rattle.passing.proofs.take.signals.Tie as tie

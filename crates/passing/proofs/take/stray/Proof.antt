@@ -1,8 +1,5 @@
 -- `passing::take::stray` meets its contract. Assumes nothing.
-use mathlib.Core.Path.{_∙_, ap}
-use borrow.Author.Needs.{needs}
-use mathlib.Core.Bool.{false}
-use native.Mathlib.Omega.{arith}
+use Rattle.bits.proofs.Words.{ap, _∙_, false, arith, needs}
 use Rattle.holding.specs.declared.Holding.{Holding}
 use Rattle.holding.specs.Building.{withSystem}
 use Rattle.holding.specs.Pictures.{pictureOf}
@@ -10,13 +7,9 @@ use Rattle.passing.specs.Passing.{stray}
 use Rattle.passing.proofs.take.stray.Statement.{statement}
 use Rattle.passing.proofs.take.stray.Tie as tie
 
-with-system-requires : tie.Need-with-system-requires
-unfolding pictureOf
-with-system-requires c κs = rw (c .empty .ensures) (omega arith)
-
-returns : tie.Need-returns
-unfolding stray
-returns c = c .with-system .ensures ∙ ap (λ (h : Holding). withSystem h 0 0 0 false) (c .before .empty .ensures)
-
 pub stray-spec : {M : Type 1} → statement M
-stray-spec = tie.close (tie.spec (λ c κs. search needs) with-system-requires returns)
+unfolding pictureOf stray
+stray-spec =
+    tie.close
+    (tie.spec (λ c κs. search needs) (λ c κs. rw (c .empty .ensures) (omega arith))
+    (λ c. c .with-system .ensures ∙ ap (λ (h : Holding). withSystem h 0 0 0 false) (c .before .empty .ensures)))

@@ -1,11 +1,6 @@
 -- `passing::take::strips` meets its contract. The loop's invariant: the strips passed are the numbers in their bytes. Assumes nothing.
-use mathlib.Core.Path.{_≡_, refl, sym, ap, _∙_}
-use mathlib.Core.List.{List}
-use Prim.Native.Nat.{ℕ, _-_, _*_, _≤_}
-use native.Mathlib.Numerals.{add-one}
-use native.Mathlib.Omega.{arith}
-use borrow.Author.Needs.{needs}
-use lib.ListN.{length, take, drop, length-set}
+use Rattle.bits.proofs.Words.{_≡_, refl, sym, ap, _∙_, List, ℕ, _-_, _*_, _≤_, add-one, arith, needs, length, take, drop}
+use lib.ListN.{length-set}
 use lib.Seq.{take-suc-set, take-all, drop-drop}
 use Rattle.passing.specs.Bytes.{little, littles}
 use Rattle.passing.proofs.Littles.{littles-more}
@@ -17,10 +12,6 @@ Inv-loop bytes strips₀ i₀ strips i = (i ≤ 64) × (length strips ≡ 64) ×
 
 abbrev μ-loop : tie.MeasureT-loop
 μ-loop bytes strips₀ i₀ strips i = 64 - i
-
-loop-holds : tie.Need-loop-holds Inv-loop μ-loop
-unfolding littles
-loop-holds c = (omega arith, refl, refl)
 
 loop-again : tie.Need-loop-again Inv-loop μ-loop
 loop-again c =
@@ -44,7 +35,8 @@ returns c =
     sym (take-all 64 strips (omega arith)) ∙ ap (λ (k : ℕ). take k strips) (sym whole) ∙ inv .2 ∙ ap (λ (k : ℕ). littles 2 k (drop 66 bs)) whole
 
 pub strips-spec : {M : Type 1} → statement M
+unfolding littles
 strips-spec =
     tie.close
-    (tie.spec Inv-loop μ-loop loop-holds (λ c. search needs) (λ c. search needs) (λ c κs. search needs) (λ c. search needs) (λ c. omega arith)
+    (tie.spec Inv-loop μ-loop (λ c. (omega arith, refl, refl)) (λ c. search needs) (λ c. search needs) (λ c κs. search needs) (λ c. search needs) (λ c. omega arith)
     (λ c. search needs) (λ c. search needs) loop-again returns)

@@ -1,9 +1,6 @@
 -- `passing::take::truths` meets its contract. Assumes nothing.
 use mathlib.Core.Bool.{and-true}
-use native.Mathlib.Omega.{arith}
-use borrow.Author.Needs.{needs}
-use lib.Dec.{leb}
-use lib.ListN.{getD}
+use Rattle.bits.proofs.Words.{arith, needs, leb, getD}
 use Rattle.holding.specs.Bounds.{every}
 use Rattle.passing.proofs.Littles.{five, or-truth}
 use Rattle.passing.proofs.take.truths.Statement.{statement}

@@ -1,7 +1,5 @@
 -- `reader::message::adopted` meets its contract. Assumes nothing.
-use mathlib.Core.Path.{_∙_, ap}
-use native.Mathlib.Omega.{arith}
-use borrow.Author.Needs.{needs}
+use Rattle.bits.proofs.Words.{ap, _∙_, arith, needs}
 use Rattle.format.specs.Ends.{endFrom}
 use Rattle.holding.specs.declared.Holding.{Holding}
 use Rattle.reader.proofs.Adopted.{adopted-new, adopted-not}
@@ -15,14 +13,10 @@ returns c =
     let s = a .before .before in
     ap (λ (g : Holding). record { answer = a .adopt .result .answer; holding = g }) (c .adopt2 .ensures) ∙ adopted-new (s .args .holding) (s .pre .3) (s .args .place) _ (a .adopt .ensures) (c .before .before .match .keys1)
 
-returns-2 : tie.Need-returns-2
-unfolding endFrom
-returns-2 c =
-    let a = c .before .before in
-    let s = a .before .before in
-    adopted-not (s .args .holding) (s .pre .3) (s .args .place) _ (a .adopt .ensures) (c .match .keys2)
-
 pub adopted-spec : {M : Type 1} → statement M
+unfolding endFrom
 adopted-spec =
     tie.close
-    (tie.spec (λ c κs. let p = c .before .pre in record { inside = p .0; short = omega (arith, p .1); room = p .2 }) (λ c. search needs) (λ c κs. search needs) returns returns-2)
+    (tie.spec (λ c κs. let p = c .before .pre in record { inside = p .0; short = omega (arith, p .1); room = p .2 }) (λ c. search needs) (λ c κs. search needs)
+    returns
+    (λ c. let a = c .before .before in let s = a .before .before in adopted-not (s .args .holding) (s .pre .3) (s .args .place) _ (a .adopt .ensures) (c .match .keys2)))

@@ -1,10 +1,6 @@
 -- `reader::message::body_of` meets its contract. Assumes nothing.
-use mathlib.Core.Path.{_≡_, _∙_, sym, ap, subst, refl}
-use mathlib.Core.List.{List, flatten}
-use Prim.Native.Nat.{ℕ, _+_, _-_, _≤_}
-use native.Mathlib.Omega.{arith}
-use borrow.Author.Needs.{needs}
-use lib.ListN.{length}
+use Rattle.bits.proofs.Words.{_≡_, refl, sym, ap, _∙_, subst, List, ℕ, _+_, _-_, _≤_, arith, needs, length}
+use mathlib.Core.List.{flatten}
 use Rattle.body.proofs.Bodies.{lent-view, lent-well}
 use Rattle.format.specs.declared.Answer.the-variants as Answers
 use Rattle.format.specs.Masks.{Held}
@@ -52,14 +48,6 @@ module _ (c : tie.After-heading2) where
   abbrev whole : Outcome
   whole = headedAt held (s .args .bytes .now) (s .args .end) (saidBy (viewOf (s .args .holding)) (s .args .heading))
 
-size-requires : tie.Need-size-requires
-size-requires c κs =
-    let p = s (c .before) .pre in
-    (p .0 .held, p .1, fits (c .before))
-
-sub-left : tie.Need-sub-left
-sub-left c = begins (c .before .before)
-
 returns : tie.Need-returns
 unfolding saidBy answerOf rowsAfter
 returns c =
@@ -89,16 +77,6 @@ module _ (c : tie.Else1) where
   said : (rows : ℕ) → rows ≡ length (lines t) → Answers.Message (t .heading2 .given .0 .0) (at t + z .size .result .bits) rows ≡ answerOf (whole t)
   said rows e = body-said (held t) (s t .args .bytes .now) (s t .args .end) _ (lines t) (at t) _ rows (z .size .ensures .bits) e ∙ ap answerOf (sym there)
 
-add-none : tie.Need-add-t21
-add-none c =
-    let e = c .before .before .before in
-    omega (arith, begins (t e), s (t e) .pre .0 .limit, e .if1 .left)
-
-add-rows : tie.Need-add-t25
-add-rows c =
-    let e = c .before .before .before .before .before .before in
-    omega (arith, begins (t e), s (t e) .pre .0 .limit, e .if1 .left)
-
 returns-2 : tie.Need-returns-2
 unfolding rowsAfter over flatten
 returns-2 c =
@@ -114,10 +92,6 @@ fill-requires c κs =
     let bits = z e .size .ensures .bits ∙ ap (λ (v : View). bodyWidth (linesIn v (body (t e)))) (sym (lent-view (p .1))) in
     record { lent = lent-well (p .1) (p .0 .held); fits = fits (t e); bits = bits; near = omega (arith, begins (t e), p .0 .limit, e .if1 .left); room = p .0 .room }
 
-returns-3 : tie.Need-returns-3
-unfolding saidBy answerOf rowsAfter headedAt
-returns-3 c = rw (c .before .heading .given .1) (refl, refl)
-
 returns-4 : tie.Need-returns-4
 unfolding rowsAfter
 returns-4 c =
@@ -127,7 +101,10 @@ returns-4 c =
     (said e _ (z e .size .ensures .rows), rw (there e) (c .before .before .fill .ensures ∙ same))
 
 pub body-of-spec : {M : Type 1} → statement M
+unfolding saidBy answerOf rowsAfter headedAt
 body-of-spec =
     tie.close
-    (tie.spec (λ c. search needs) (λ c. search needs) size-requires sub-left (λ c. search needs) returns add-none returns-2 fill-requires
-    add-rows returns-3 (λ c. search needs) returns-4)
+    (tie.spec (λ c. search needs) (λ c. search needs) (λ c κs. let p = s (c .before) .pre in (p .0 .held, p .1, fits (c .before))) (λ c. begins (c .before .before))
+    (λ c. search needs) returns (λ c. let e = c .before .before .before in omega (arith, begins (t e), s (t e) .pre .0 .limit, e .if1 .left)) returns-2 fill-requires
+    (λ c. let e = c .before .before .before .before .before .before in omega (arith, begins (t e), s (t e) .pre .0 .limit, e .if1 .left))
+    (λ c. rw (c .before .heading .given .1) (refl, refl)) (λ c. search needs) returns-4)

@@ -1,10 +1,6 @@
 -- `reader::message::find` meets its contract. Assumes nothing.
-use mathlib.Core.Path.{_≡_, _∙_, sym, ap, subst, refl}
-use mathlib.Core.List.{List}
+use Rattle.bits.proofs.Words.{_≡_, refl, sym, ap, _∙_, subst, List, ℕ, _+_, arith, needs}
 use mathlib.Core.Logic.{_⊎_, inl, inr}
-use Prim.Native.Nat.{ℕ, _+_}
-use native.Mathlib.Omega.{arith}
-use borrow.Author.Needs.{needs}
 use denote.Enum.Declared.{tagOf}
 use Rattle.format.specs.Ends.{Within, endFrom}
 use Rattle.format.specs.Messages as Messages
@@ -132,12 +128,6 @@ module _ (c : tie.After-of) where
       ap (headedAt (maskOf h) (bs (t k)) (start .args .end)) said
       ∙ sym (read-sorted h (start .pre .0 .held) (within start) (ran k .1) ∙ sorted-headed h (start .pre .0 .held) (told k .after) (n k) other)
 
-body-of-requires : tie.Need-body-of-requires
-body-of-requires c κs =
-    let q = c .before in
-    let p = start q .pre in
-    (p .0, p .1, q .of .ensures .1, rw (said q) (begins (told (k q) .after) _))
-
 -- refused before that: a stop
 returns-2 : tie.Need-returns-2
 unfolding openingBy foundBy
@@ -163,5 +153,7 @@ returns-3 c =
 pub find-spec : {M : Type 1} → statement M
 find-spec =
     tie.close
-    (tie.spec (λ c κs. search needs) (λ c κs. opens c .within .room) (λ c. search needs) (λ c κs. opens (c .before .before .before .before)) (λ c. search needs) (λ c κs. search needs) (λ c. search needs) returns
-    of-requires body-of-requires returns-2 (λ c. search needs) returns-3)
+    (tie.spec (λ c κs. search needs) (λ c κs. (record { bytes = _; opens = opens c }, opens c .within .room)) (λ c. search needs)
+    (λ c κs. opens (c .before .before .before .before)) (λ c. search needs) (λ c κs. search needs) (λ c. search needs) returns of-requires
+    (λ c κs. let q = c .before in let p = start q .pre in (p .0, p .1, q .of .ensures .1, rw (said q) (begins (told (k q) .after) _))) returns-2 (λ c. search needs)
+    returns-3)

@@ -1,9 +1,6 @@
 -- `reader::message::unopened` meets its contract. Assumes nothing.
-use mathlib.Core.Path.{sym, _∙_, refl}
-use Prim.Native.Nat.{_-_}
+use Rattle.bits.proofs.Words.{refl, sym, _∙_, _-_, arith, needs}
 use native.Mathlib.Nat.{le-refl}
-use native.Mathlib.Omega.{arith}
-use borrow.Author.Needs.{needs}
 use borrow.Author.Tests.{ne-eqb, leb-true}
 use Rattle.bits.proofs.Fields.{zero-part}
 use Rattle.reader.specs.Readings.{unopenedAt}
@@ -20,17 +17,9 @@ returns c =
     let bs = s .args .bytes .now in
     rw (ne-eqb _ 0 (λ none. set .if1 .taken (s .pre .bits ∙ zero-part bs (f .start) (f .end) (f .start) 56 (le-refl (f .start)) (omega (arith, leb-true 56 (f .end - f .start) (c .if2 .taken), s .pre .within)) none)))
 
-returns-2 : tie.Need-returns-2
-unfolding unopenedAt
-returns-2 c =
-    let none = sym (c .before .zero-from .ensures) ∙ c .if3 .taken in
-    rw none refl
-
-returns-3 : tie.Need-returns-3
-unfolding unopenedAt
-returns-3 c =
-    let some = sym (c .before .zero-from .ensures) ∙ c .if3 .left in
-    rw some refl
-
 pub unopened-spec : {M : Type 1} → statement M
-unopened-spec = tie.close (tie.spec (λ c. search needs) returns (λ c κs. search needs) returns-2 returns-3)
+unfolding unopenedAt
+unopened-spec =
+    tie.close
+    (tie.spec (λ c. search needs) returns (λ c κs. search needs) (λ c. let none = sym (c .before .zero-from .ensures) ∙ c .if3 .taken in rw none refl)
+    (λ c. let some = sym (c .before .zero-from .ensures) ∙ c .if3 .left in rw some refl))

@@ -1,6 +1,5 @@
 -- `reader::raw::raw` meets its contract. Assumes nothing.
-use mathlib.Core.Path.{_∙_, sym}
-use borrow.Author.Needs.{needs}
+use Rattle.bits.proofs.Words.{sym, _∙_, needs}
 use borrow.Author.Tests.{not-true, not-false}
 use Rattle.format.proofs.Placed.{inside}
 use Rattle.reader.specs.Readings.{rawTo}

@@ -1,8 +1,5 @@
 -- `rows::row::alone` meets its contract. Assumes nothing.
-use mathlib.Core.Path.{ap, _∙_}
-use Prim.Native.Nat.{_-_, _%_}
-use native.Mathlib.Omega.{arith}
-use borrow.Author.Needs.{needs}
+use Rattle.bits.proofs.Words.{ap, _∙_, _-_, _%_, arith, needs}
 use mir.Facts.{toZ-ofZ}
 use Rattle.rows.proofs.Cuts.{cutBy, half-lt, front-cut, column-cut}
 use Rattle.rows.proofs.row.alone.Statement.{statement}

@@ -1,13 +1,7 @@
 -- `rows::row::cell` meets its contract. Assumes nothing.
-use mathlib.Core.Path.{_≡_, sym, ap, _∙_}
+use Rattle.bits.proofs.Words.{_≡_, sym, ap, _∙_, List, _∷_, _≤_, arith, needs, eqb, ltb, ℤ}
 use mathlib.Core.Bool.{and-eq-true-iff}
-use mathlib.Core.List.{List, _∷_}
-use Prim.Native.Nat.{_≤_}
-use native.Mathlib.Omega.{arith}
-use borrow.Author.Needs.{needs}
 use borrow.Author.Tests.{eqb-true, ltb-true}
-use lib.Dec.{eqb, ltb}
-use lib.IntN.{ℤ}
 use mir.Facts.{toZ-ofZ}
 use mir.Syntax.{w32}
 use Rattle.rows.proofs.Cuts.{up-lt, values-pair}
@@ -23,18 +17,6 @@ two w =
     let s = start w .args .s in
     let both = and-eq-true-iff (eqb (s .v3 .width) 0) (ltb 0 (s .v1 .width)) .0 (sym (w .before .before .paired .ensures) ∙ w .before .if1 .taken) in
     (ltb-true 0 (s .v1 .width) (both .1), eqb-true (s .v3 .width) 0 (both .0))
-
-value-requires : tie.Need-value-requires
-value-requires c κs =
-    let w = c .before .before in
-    let s = start w in
-    (up-lt (s .args .bytes .now) (s .args .at) (w .eight .ensures) _ (omega (arith, s .pre .2 .first .narrow)), s .pre .2 .first)
-
-value-requires-2 : tie.Need-value-requires-2
-value-requires-2 c κs =
-    let w = c .before .before .before in
-    let s = start w in
-    (up-lt (s .args .bytes .now) (s .args .at) (w .eight .ensures) _ (omega (arith, s .pre .2 .window)), s .pre .2 .second)
 
 returns : tie.Need-returns
 returns c =
@@ -52,5 +34,8 @@ pub cell-spec : {M : Type 1} → statement M
 cell-spec =
     tie.close
     (tie.spec (λ c κs. search needs) (λ c κs. search needs) (λ c. search needs) (λ c. search needs) (λ c. search needs)
-    (λ c. omega (arith, two (c .before .before) .0)) value-requires (λ c. omega (arith, two (c .before .before .before) .0)) value-requires-2
+    (λ c. omega (arith, two (c .before .before) .0))
+    (λ c κs. let w = c .before .before in let s = start w in (up-lt (s .args .bytes .now) (s .args .at) (w .eight .ensures) _ (omega (arith, s .pre .2 .first .narrow)), s .pre .2 .first))
+    (λ c. omega (arith, two (c .before .before .before) .0))
+    (λ c κs. let w = c .before .before .before in let s = start w in (up-lt (s .args .bytes .now) (s .args .at) (w .eight .ensures) _ (omega (arith, s .pre .2 .window)), s .pre .2 .second))
     (λ c κs. search needs) (λ c κs. search needs) (λ c. search needs) returns (λ c. search needs) (λ c. search needs))

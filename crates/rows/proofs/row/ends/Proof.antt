@@ -1,8 +1,5 @@
 -- `rows::row::ends` meets its contract. Assumes nothing.
-use mathlib.Core.Path.{ap, _∙_}
-use mathlib.Core.List.{List, _∷_}
-use borrow.Author.Needs.{needs}
-use lib.IntN.{ℤ}
+use Rattle.bits.proofs.Words.{ap, _∙_, List, _∷_, needs, ℤ}
 use mir.Facts.{toZ-ofZ}
 use mir.Syntax.{w32}
 use Rattle.rows.proofs.Cuts.{values-ends}

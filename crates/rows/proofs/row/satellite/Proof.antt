@@ -1,7 +1,5 @@
 -- `rows::row::satellite` meets its contract. Assumes nothing.
-use mathlib.Core.Path.{_∙_}
-use native.Mathlib.Omega.{arith}
-use borrow.Author.Needs.{needs}
+use Rattle.bits.proofs.Words.{_∙_, arith, needs}
 use mir.Facts.{toZ-ofZ, toZ-pos}
 use mir.Syntax.{w32}
 use Rattle.rows.proofs.Laid.{iode-some, orbit-formed, orbit-columns, bare-columns}

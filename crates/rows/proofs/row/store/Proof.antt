@@ -1,7 +1,5 @@
 -- `rows::row::store` meets its contract. Assumes nothing.
-use mathlib.Core.List.{[], _∷_}
-use native.Mathlib.Omega.{arith}
-use borrow.Author.Needs.{needs}
+use Rattle.bits.proofs.Words.{[], _∷_, arith, needs}
 use lib.ListN.{length-set}
 use mir.Facts.{toZ-ofZ}
 use mir.Syntax.{w32}

@@ -1,9 +1,5 @@
 -- `rows::row::wide` meets its contract. Assumes nothing.
-use mathlib.Core.Path.{refl, ap, _∙_}
-use mathlib.Core.List.{List, _∷_}
-use Prim.Native.Nat.{ℕ, _+_, _-_, _%_}
-use borrow.Author.Needs.{needs}
-use lib.IntN.{ℤ}
+use Rattle.bits.proofs.Words.{refl, ap, _∙_, List, _∷_, ℕ, _+_, _-_, _%_, needs, ℤ}
 use mir.Facts.{toZ-ofZ}
 use mir.Syntax.{w32}
 use Rattle.rows.proofs.Cuts.{half-lt, moved-lt, values-wide}
@@ -16,29 +12,6 @@ start w = w .before .before .before .before .before
 -- how many bits lie below the fourth column in the half window
 abbrev below : tie.Start → ℕ
 below s = let h = s .args .s in 63 - s .args .at % 8 - (h .v1 .width + (h .v2 .width + (h .v3 .width + h .v4 .width)))
-
-value-requires : tie.Need-value-requires
-value-requires c κs =
-    let s = start c in
-    (moved-lt (s .args .bytes .now) (s .args .at) (c .eight .ensures) (below s) _, s .pre .2 .first)
-
-value-requires-2 : tie.Need-value-requires-2
-value-requires-2 c κs =
-    let w = c .before in
-    let s = start w in
-    (moved-lt (s .args .bytes .now) (s .args .at) (w .eight .ensures) (below s) _, s .pre .2 .second)
-
-value-requires-3 : tie.Need-value-requires-3
-value-requires-3 c κs =
-    let w = c .before .before in
-    let s = start w in
-    (moved-lt (s .args .bytes .now) (s .args .at) (w .eight .ensures) (below s) _, s .pre .2 .third)
-
-value-requires-4 : tie.Need-value-requires-4
-value-requires-4 c κs =
-    let w = c .before .before .before in
-    let s = start w in
-    (half-lt (s .args .bytes .now) (s .args .at) (w .eight .ensures) _, s .pre .2 .fourth)
 
 returns : tie.Need-returns
 returns c =
@@ -59,5 +32,10 @@ pub wide-spec : {M : Type 1} → statement M
 wide-spec =
     tie.close
     (tie.spec (λ c. search needs) (λ c. search needs) (λ c. search needs) (λ c κs. search needs) (λ c. search needs) (λ c. search needs) (λ c. search needs)
-    (λ c. search needs) value-requires (λ c. search needs) value-requires-2 (λ c. search needs) value-requires-3 value-requires-4
+    (λ c. search needs) (λ c κs. let s = start c in (moved-lt (s .args .bytes .now) (s .args .at) (c .eight .ensures) (below s) _, s .pre .2 .first))
+    (λ c. search needs)
+    (λ c κs. let w = c .before in let s = start w in (moved-lt (s .args .bytes .now) (s .args .at) (w .eight .ensures) (below s) _, s .pre .2 .second))
+    (λ c. search needs)
+    (λ c κs. let w = c .before .before in let s = start w in (moved-lt (s .args .bytes .now) (s .args .at) (w .eight .ensures) (below s) _, s .pre .2 .third))
+    (λ c κs. let w = c .before .before .before in let s = start w in (half-lt (s .args .bytes .now) (s .args .at) (w .eight .ensures) _, s .pre .2 .fourth))
     (λ c. search needs) (λ c κs. search needs) (λ c κs. search needs) (λ c. search needs) returns)

@@ -1,8 +1,5 @@
 -- `rows::shape::value` meets its contract. Assumes nothing.
-use mathlib.Core.Path.{_≡_}
-use Prim.Native.Nat.{_+_, _^_, _<_}
-use native.Mathlib.Omega.{arith}
-use borrow.Author.Needs.{needs}
+use Rattle.bits.proofs.Words.{_≡_, _+_, _^_, _<_, arith, needs}
 use lib.Bits.{bitAnd}
 use lib.IntN.{_-ℤ_}
 use mir.Facts.{toZ-ofZ, toZ-pos}
@@ -29,22 +26,10 @@ difference c = rw (toZ-pos w32 (masked-small c), toZ-pos w32 (half-small c))
 small : (c : tie.Start) → SFits w32 (computed (c .args .c) (c .args .x))
 small c = record { sfits = omega (arith, value-small (c .args .c) (c .args .x) (c .pre .1)) }
 
-add-y : tie.Need-add-y
-add-y c = let l = limits (c .before) in record { fits = omega arith }
-
-cast-result : tie.Need-cast-result
-cast-result c = record { sfits = masked-small (c .before .before) }
-
-cast-result-2 : tie.Need-cast-result-2
-cast-result-2 c = let l = limits (c .before .before .before) in record { sfits = omega arith }
-
-sub-result : tie.Need-sub-result
-sub-result c = let s = c .before .before .before in rw (difference s) (small s)
-
-returns : tie.Need-returns
-returns c =
-    let s = c .before .before .before in
-    rw (difference s, toZ-ofZ (small s)) (value-computed (s .args .c) (s .args .x) (s .pre .1))
-
 pub value-spec : {M : Type 1} → statement M
-value-spec = tie.close (tie.spec (λ c. search needs) add-y (λ c. search needs) cast-result cast-result-2 sub-result returns)
+value-spec =
+    tie.close
+    (tie.spec (λ c. search needs) (λ c. let l = limits (c .before) in record { fits = omega arith }) (λ c. search needs)
+    (λ c. record { sfits = masked-small (c .before .before) }) (λ c. let l = limits (c .before .before .before) in record { sfits = omega arith })
+    (λ c. let s = c .before .before .before in rw (difference s) (small s))
+    (λ c. let s = c .before .before .before in rw (difference s, toZ-ofZ (small s)) (value-computed (s .args .c) (s .args .x) (s .pre .1))))

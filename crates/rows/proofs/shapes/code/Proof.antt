@@ -1,15 +1,14 @@
 -- `rows::shapes::code` meets its contract. Assumes nothing.
-use mathlib.Core.Path.{_∙_}
-use borrow.Author.Needs.{needs}
+use Rattle.bits.proofs.Words.{_∙_, needs}
 use Rattle.format.specs.Messages.{codeShape}
 use Rattle.rows.specs.Shapes.{shapeWith}
 use Rattle.rows.specs.Table.{shapes, listed, shapeAt, shapeIn}
 use Rattle.rows.proofs.shapes.code.Statement.{statement}
 use Rattle.rows.proofs.shapes.code.Tie as tie
 
-returns : tie.Need-returns
-unfolding codeShape shapeWith shapes listed shapeAt shapeIn
-returns c = c .three .ensures ∙ rw (c .before .gap2 .ensures, c .before .before .gap .ensures, c .before .before .before .counts .ensures)
-
 pub code-spec : {M : Type 1} → statement M
-code-spec = tie.close (tie.spec (λ c κs. search needs) (λ c κs. search needs) (λ c κs. search needs) (λ c κs. search needs) returns)
+unfolding codeShape shapeWith shapes listed shapeAt shapeIn
+code-spec =
+    tie.close
+    (tie.spec (λ c κs. search needs) (λ c κs. search needs) (λ c κs. search needs) (λ c κs. search needs)
+    (λ c. c .three .ensures ∙ rw (c .before .gap2 .ensures, c .before .before .gap .ensures, c .before .before .before .counts .ensures)))

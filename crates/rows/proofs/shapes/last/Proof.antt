@@ -4,9 +4,6 @@ use Rattle.rows.specs.Shapes.{lastOf}
 use Rattle.rows.proofs.shapes.last.Statement.{statement}
 use Rattle.rows.proofs.shapes.last.Tie as tie
 
-returns : tie.Need-returns
-unfolding lastOf
-returns c = rw (c .gap .ensures)
-
 pub last-spec : {M : Type 1} → statement M
-last-spec = tie.close (tie.spec (λ c κs. search needs) returns)
+unfolding lastOf
+last-spec = tie.close (tie.spec (λ c κs. search needs) (λ c. rw (c .gap .ensures)))

@@ -4,9 +4,9 @@ use Rattle.rows.specs.Shapes.{orbitOf}
 use Rattle.rows.proofs.shapes.orbit.Statement.{statement}
 use Rattle.rows.proofs.shapes.orbit.Tie as tie
 
-returns : tie.Need-returns
-unfolding orbitOf
-returns c = rw (c .before .plain .ensures, c .counts2 .ensures, c .before .before .counts .ensures)
-
 pub orbit-spec : {M : Type 1} → statement M
-orbit-spec = tie.close (tie.spec (λ c κs. search needs) (λ c κs. search needs) (λ c κs. search needs) returns)
+unfolding orbitOf
+orbit-spec =
+    tie.close
+    (tie.spec (λ c κs. search needs) (λ c κs. search needs) (λ c κs. search needs)
+    (λ c. rw (c .before .plain .ensures, c .counts2 .ensures, c .before .before .counts .ensures)))

@@ -1,15 +1,14 @@
 -- `rows::shapes::phase` meets its contract. Assumes nothing.
-use mathlib.Core.Path.{_∙_}
-use borrow.Author.Needs.{needs}
+use Rattle.bits.proofs.Words.{_∙_, needs}
 use Rattle.format.specs.Messages.{phaseShape}
 use Rattle.rows.specs.Shapes.{shapeWith}
 use Rattle.rows.specs.Table.{shapes, listed, shapeAt, shapeIn}
 use Rattle.rows.proofs.shapes.phase.Statement.{statement}
 use Rattle.rows.proofs.shapes.phase.Tie as tie
 
-returns : tie.Need-returns
-unfolding phaseShape shapeWith shapes listed shapeAt shapeIn
-returns c = c .three .ensures ∙ rw (c .before .gap .ensures, c .before .before .plain .ensures, c .before .before .before .counts .ensures)
-
 pub phase-spec : {M : Type 1} → statement M
-phase-spec = tie.close (tie.spec (λ c κs. search needs) (λ c κs. search needs) (λ c κs. search needs) (λ c κs. search needs) returns)
+unfolding phaseShape shapeWith shapes listed shapeAt shapeIn
+phase-spec =
+    tie.close
+    (tie.spec (λ c κs. search needs) (λ c κs. search needs) (λ c κs. search needs) (λ c κs. search needs)
+    (λ c. c .three .ensures ∙ rw (c .before .gap .ensures, c .before .before .plain .ensures, c .before .before .before .counts .ensures)))

@@ -1,40 +1,21 @@
 -- `rows::shapes::shape_of` meets its contract. Assumes nothing.
-use mathlib.Core.Path.{_∙_}
-use mathlib.Core.Bool.{true, false}
-use borrow.Author.Needs.{needs}
+use Rattle.bits.proofs.Words.{_∙_, true, false, needs}
 use Rattle.format.proofs.Tables.{NoneOf}
 use Rattle.rows.proofs.Laid.{iode-some}
 use Rattle.rows.proofs.Table.{last-made, orbit-made, gaps-made}
 use Rattle.rows.proofs.shapes.shape_of.Statement.{statement}
 use Rattle.rows.proofs.shapes.shape_of.Tie as tie
 
-returns : tie.Need-returns
-returns c = c .last .ensures ∙ rw (c .before .counts .ensures, c .before .before .match .keys1) (last-made true 0)
-
-returns-2 : tie.Need-returns-2
-returns-2 c = c .orbit .ensures ∙ rw (c .before .gap .ensures, c .before .before .iode .ensures, c .before .before .before .match .keys2) (orbit-made false 0)
-
-returns-3 : tie.Need-returns-3
-returns-3 c = c .orbit2 .ensures ∙ rw (c .before .counts2 .ensures, c .before .before .iode2 .ensures, c .before .before .before .match .keys3) (orbit-made true 0)
-
-returns-4 : tie.Need-returns-4
-returns-4 c = c .clock .ensures ∙ rw (c .before .match .keys4)
-
-returns-5 : tie.Need-returns-5
-returns-5 c = c .code .ensures ∙ rw (c .before .match .keys5)
-
-returns-6 : tie.Need-returns-6
-returns-6 c = c .phase .ensures ∙ rw (c .before .match .keys6)
-
-returns-7 : tie.Need-returns-7
-returns-7 c = c .packet .ensures ∙ rw (c .before .match .keys7)
-
-returns-8 : tie.Need-returns-8
-unfolding NoneOf
-returns-8 c = c .last2 .ensures ∙ rw (c .before .gap2 .ensures) (gaps-made _ 0 (c .before .before .match .rest))
-
 pub shape-of-spec : {M : Type 1} → statement M
+unfolding NoneOf
 shape-of-spec =
     tie.close
-    (tie.spec (λ c κs. search needs) (λ c κs. search needs) (λ c κs. search needs) (λ c κs. search needs) (λ c κs. iode-some 0 (c .before .iode .ensures)) (λ c κs. search needs) (λ c κs. search needs) (λ c κs. iode-some 0 (c .before .iode2 .ensures)) (λ c κs. search needs) (λ c κs. search needs) (λ c κs. search needs) (λ c κs. search needs) (λ c κs. search needs) (λ c κs. search needs)
-    returns returns-2 returns-3 returns-4 returns-5 returns-6 returns-7 returns-8)
+    (tie.spec (λ c κs. search needs) (λ c κs. search needs) (λ c κs. search needs) (λ c κs. search needs) (λ c κs. iode-some 0 (c .before .iode .ensures))
+    (λ c κs. search needs) (λ c κs. search needs) (λ c κs. iode-some 0 (c .before .iode2 .ensures)) (λ c κs. search needs) (λ c κs. search needs)
+    (λ c κs. search needs) (λ c κs. search needs) (λ c κs. search needs) (λ c κs. search needs)
+    (λ c. c .last .ensures ∙ rw (c .before .counts .ensures, c .before .before .match .keys1) (last-made true 0))
+    (λ c. c .orbit .ensures ∙ rw (c .before .gap .ensures, c .before .before .iode .ensures, c .before .before .before .match .keys2) (orbit-made false 0))
+    (λ c. c .orbit2 .ensures ∙ rw (c .before .counts2 .ensures, c .before .before .iode2 .ensures, c .before .before .before .match .keys3) (orbit-made true 0))
+    (λ c. c .clock .ensures ∙ rw (c .before .match .keys4)) (λ c. c .code .ensures ∙ rw (c .before .match .keys5))
+    (λ c. c .phase .ensures ∙ rw (c .before .match .keys6)) (λ c. c .packet .ensures ∙ rw (c .before .match .keys7))
+    (λ c. c .last2 .ensures ∙ rw (c .before .gap2 .ensures) (gaps-made _ 0 (c .before .before .match .rest))))

@@ -3,8 +3,5 @@ use borrow.Author.Needs.{needs}
 use Rattle.rows.proofs.shapes.three.Statement.{statement}
 use Rattle.rows.proofs.shapes.three.Tie as tie
 
-returns : tie.Need-returns
-returns c = rw (c .gap .ensures)
-
 pub three-spec : {M : Type 1} → statement M
-three-spec = tie.close (tie.spec (λ c κs. search needs) returns)
+three-spec = tie.close (tie.spec (λ c κs. search needs) (λ c. rw (c .gap .ensures)))

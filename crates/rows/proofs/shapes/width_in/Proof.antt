@@ -1,7 +1,5 @@
 -- `rows::shapes::width_in` meets its contract: which shape an arm makes, and so that it is formed and how wide it is. Assumes nothing.
-use mathlib.Core.Path.{_≡_, _∙_}
-use mathlib.Core.Bool.{true, false}
-use borrow.Author.Needs.{needs}
+use Rattle.bits.proofs.Words.{_≡_, _∙_, true, false, needs}
 use Rattle.format.specs.Messages.{clockShape, codeShape, phaseShape, packetShape}
 use Rattle.rows.specs.Table.{shapes, listed, shapeAt, shapeIn}
 use Rattle.format.proofs.Tables.{NoneOf}
@@ -13,49 +11,31 @@ use Rattle.rows.proofs.shapes.width_in.Tie as tie
 last-is : (c : tie.After-last) → c .last .result ≡ shapeIn 1 (c .before .before .before .args .system)
 last-is c = c .last .ensures ∙ rw (c .before .counts .ensures) (last-made true _)
 
-returns : tie.Need-returns
-returns c = rw (c .before .before .before .match .keys1) (made-width _ 1 (last-is (c .before)) (c .width .ensures))
-
 orbit-is : (c : tie.After-orbit) → c .orbit .result ≡ shapeIn 2 (c .before .before .before .before .args .system)
 orbit-is c = c .orbit .ensures ∙ rw (c .before .gap .ensures, c .before .before .iode .ensures) (orbit-made false _)
 
-returns-2 : tie.Need-returns-2
-returns-2 c = rw (c .before .before .before .before .match .keys2) (made-width _ 2 (orbit-is (c .before)) (c .width2 .ensures))
-
 orbit2-is : (c : tie.After-orbit2) → c .orbit2 .result ≡ shapeIn 3 (c .before .before .before .before .args .system)
 orbit2-is c = c .orbit2 .ensures ∙ rw (c .before .counts2 .ensures, c .before .before .iode2 .ensures) (orbit-made true _)
-
-returns-3 : tie.Need-returns-3
-returns-3 c = rw (c .before .before .before .before .match .keys3) (made-width _ 3 (orbit2-is (c .before)) (c .width3 .ensures))
-
-returns-4 : tie.Need-returns-4
-unfolding shapes listed shapeAt clockShape
-returns-4 c = rw (c .before .before .match .keys4) (made-width 0 4 (c .before .clock .ensures) (c .width4 .ensures))
-
-returns-5 : tie.Need-returns-5
-unfolding shapes listed shapeAt codeShape
-returns-5 c = rw (c .before .before .match .keys5) (made-width 0 5 (c .before .code .ensures) (c .width5 .ensures))
-
-returns-6 : tie.Need-returns-6
-unfolding shapes listed shapeAt phaseShape
-returns-6 c = rw (c .before .before .match .keys6) (made-width 0 6 (c .before .phase .ensures) (c .width6 .ensures))
-
-returns-7 : tie.Need-returns-7
-unfolding shapes listed shapeAt packetShape
-returns-7 c = rw (c .before .before .match .keys7) (made-width 0 7 (c .before .packet .ensures) (c .width7 .ensures))
 
 -- past the table
 last2-is : (c : tie.After-last2) → c .last2 .result ≡ shapeIn (c .before .before .before .args .i) (c .before .before .before .args .system)
 unfolding NoneOf
 last2-is c = c .last2 .ensures ∙ rw (c .before .gap2 .ensures) (gaps-made _ _ (c .before .before .match .rest))
 
-returns-8 : tie.Need-returns-8
-returns-8 c = made-width _ _ (last2-is (c .before)) (c .width8 .ensures)
-
 pub width-in-spec : {M : Type 1} → statement M
+unfolding shapes listed shapeAt clockShape codeShape phaseShape packetShape
 width-in-spec =
     tie.close
-    (tie.spec (λ c κs. search needs) (λ c κs. search needs) (λ c κs. made-formed _ 1 (last-is c)) (λ c κs. search needs) (λ c κs. search needs) (λ c κs. iode-some _ (c .before .iode .ensures)) (λ c κs. made-formed _ 2 (orbit-is c))
-    (λ c κs. search needs) (λ c κs. search needs) (λ c κs. iode-some _ (c .before .iode2 .ensures)) (λ c κs. made-formed _ 3 (orbit2-is c)) (λ c κs. search needs) (λ c κs. made-formed 0 4 (c .clock .ensures)) (λ c κs. search needs) (λ c κs. made-formed 0 5 (c .code .ensures))
-    (λ c κs. search needs) (λ c κs. made-formed 0 6 (c .phase .ensures)) (λ c κs. search needs) (λ c κs. made-formed 0 7 (c .packet .ensures)) (λ c κs. search needs) (λ c κs. search needs) (λ c κs. made-formed _ _ (last2-is c))
-    returns returns-2 returns-3 returns-4 returns-5 returns-6 returns-7 returns-8)
+    (tie.spec (λ c κs. search needs) (λ c κs. search needs) (λ c κs. made-formed _ 1 (last-is c)) (λ c κs. search needs) (λ c κs. search needs)
+    (λ c κs. iode-some _ (c .before .iode .ensures)) (λ c κs. made-formed _ 2 (orbit-is c)) (λ c κs. search needs) (λ c κs. search needs)
+    (λ c κs. iode-some _ (c .before .iode2 .ensures)) (λ c κs. made-formed _ 3 (orbit2-is c)) (λ c κs. search needs) (λ c κs. made-formed 0 4 (c .clock .ensures))
+    (λ c κs. search needs) (λ c κs. made-formed 0 5 (c .code .ensures)) (λ c κs. search needs) (λ c κs. made-formed 0 6 (c .phase .ensures)) (λ c κs. search needs)
+    (λ c κs. made-formed 0 7 (c .packet .ensures)) (λ c κs. search needs) (λ c κs. search needs) (λ c κs. made-formed _ _ (last2-is c))
+    (λ c. rw (c .before .before .before .match .keys1) (made-width _ 1 (last-is (c .before)) (c .width .ensures)))
+    (λ c. rw (c .before .before .before .before .match .keys2) (made-width _ 2 (orbit-is (c .before)) (c .width2 .ensures)))
+    (λ c. rw (c .before .before .before .before .match .keys3) (made-width _ 3 (orbit2-is (c .before)) (c .width3 .ensures)))
+    (λ c. rw (c .before .before .match .keys4) (made-width 0 4 (c .before .clock .ensures) (c .width4 .ensures)))
+    (λ c. rw (c .before .before .match .keys5) (made-width 0 5 (c .before .code .ensures) (c .width5 .ensures)))
+    (λ c. rw (c .before .before .match .keys6) (made-width 0 6 (c .before .phase .ensures) (c .width6 .ensures)))
+    (λ c. rw (c .before .before .match .keys7) (made-width 0 7 (c .before .packet .ensures) (c .width7 .ensures)))
+    (λ c. made-width _ _ (last2-is (c .before)) (c .width8 .ensures)))
