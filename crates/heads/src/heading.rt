@@ -193,7 +193,7 @@ fn gated(under: Under, f: Front, bytes: &[u8], h: CommonHead) -> Heading
 }
 
 // A sub type that is read under the mask, behind its number and sub type.
-pub fn masked(under: Under, f: Front, bytes: &[u8]) -> Heading
+fn masked(under: Under, f: Front, bytes: &[u8]) -> Heading
     requires { ⌜ (under .subtype < 16) × (under .n ≤ 64) × LaidOut (under .layout) × Within (now bytes) (f .end) (f .start + 16) × Opens (now bytes) f ⌝ }
     ensures { λ r. ⌜ ((v : View) → Shows v (under .n) → saidBy v r ≡ endFrom (underBy under (skyIn v)) (now (bytes .entry)) (f .end) (f .start + 16)) ⌝ }
     ensures { λ r. ⌜ FitsHeading r ⌝ }

@@ -25,7 +25,7 @@ use Rattle.format.proofs.Makes.{makes-good, mask-spelled}
 use Rattle.format.proofs.Stops.{Stopped, stop-holds}
 use Rattle.bits.proofs.Windows.{Bytes}
 use Rattle.holding.specs.declared.Holding.{Holding}
-use Rattle.holding.specs.Pictures.{maskOf, sound}
+use Rattle.holding.specs.Pictures.{maskOf, sound, lentBy}
 use Rattle.holding.proofs.Pictured.{sound-picture}
 use Rattle.holding.proofs.Sounds.{sounds}
 use Rattle.host.specs.Handing.{handedBy, handed, bytesAfter, holdingBytes, hostOutcome}
@@ -33,7 +33,7 @@ use Rattle.passing.specs.Passing.{size, bytesOf, holdingIn}
 use Rattle.passing.proofs.Returns.{passed, sound-passes, bytes-return}
 use Rattle.reader.specs.declared.message.Found.{Found}
 use Rattle.reader.specs.declared.message.Found.the-variants.{Mask, Answered}
-use Rattle.reader.specs.Readings.{lentBy, structOf, outcomeAt, soughtAt, rawTo}
+use Rattle.reader.specs.Readings.{structOf, outcomeAt, soughtAt, rawTo}
 use Rattle.reader.proofs.message.Found as Found
 use Rattle.reader.proofs.Rawed.{none-starts, none-counts, raw-read}
 use Rattle.reader.proofs.Sought.{SoughtAnswer, sought-mask, sought-answer}

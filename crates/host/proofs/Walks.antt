@@ -19,11 +19,11 @@ use Rattle.format.specs.Walking.{Walk, messages}
 use Rattle.format.proofs.Answer.{the-type}
 use Rattle.format.proofs.Walks.{none-kept, walk-good, walk-stray}
 use Rattle.holding.specs.declared.Holding.{Holding}
-use Rattle.holding.specs.Pictures.{sound}
+use Rattle.holding.specs.Pictures.{sound, lentBy}
 use Rattle.host.specs.Handing.{messageNumber, numberSaid, walkedTo, bytesAfter, leftBytes, walkBytes}
 use Rattle.host.proofs.Outcomes.{bytes-pass, bytes-stay, after-sound, after-bytes}
 use Rattle.passing.specs.Passing.{size, holdingIn}
-use Rattle.reader.specs.Readings.{lentBy, structOf}
+use Rattle.reader.specs.Readings.{structOf}
 use Rattle.reader.proofs.Lents.{is-holding}
 use Rattle.walk.specs.declared.Halt.{Halt}
 use Rattle.walk.specs.Walks.{walkAt, walkedOf}

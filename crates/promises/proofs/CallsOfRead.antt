@@ -18,7 +18,7 @@ use Rattle.format.specs.Reading.{Outcome, over, answerOf}
 use Rattle.format.specs.Table.{table}
 use Rattle.format.specs.Walking.{Walk, messages, rowCount}
 use Rattle.holding.specs.declared.Holding.{Holding}
-use Rattle.holding.specs.Pictures.{pictureOf}
+use Rattle.holding.specs.Pictures.{pictureOf, lentBy}
 use Rattle.holding.proofs.Pictured.{sound-picture}
 use Rattle.holding.proofs.Sounds.{sounds}
 use Rattle.host.specs.declared.Walked.{Walked}
@@ -30,7 +30,7 @@ use Rattle.promises.specs.LateJoiners.{heldAfter, received}
 use Rattle.promises.proofs.Calls.{calls-so, Passes, Read, reads-end, reads-walk}
 use Rattle.promises.proofs.Determined.{alike}
 use Rattle.promises.proofs.Receivers.{bytes-say, lent-picture, code-receives, code-holds, host-receives, host-holds}
-use Rattle.reader.specs.Readings.{lentBy, structOf, outcomeAt, readingOf}
+use Rattle.reader.specs.Readings.{structOf, outcomeAt, readingOf}
 use Rattle.walk.specs.Walks.{walkAt, walkedOf}
 
 -- a slice that lies anywhere

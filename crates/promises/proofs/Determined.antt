@@ -8,8 +8,10 @@ use contract.Lifetimes.{Lfts}
 use borrow.Fn.Kinds.{PK, RK, Out, Dens}
 use Rattle.holding.proofs.Holding as holding
 use Rattle.host.proofs as host
+use Rattle.lines.proofs as lines
 use Rattle.probe.proofs as probe
 use Rattle.reader.proofs as reader
+use Rattle.saved.proofs as saved
 use Rattle.walk.proofs as walk
 use Rattle.promises.specs.Determination.{Result, Content, Allows, DeterminedBy, Determined, SamePart}
 
@@ -64,6 +66,18 @@ raw-determined κs args x y v w p q = ((alike (p .bytes) (q .bytes), λ i. (alik
 -- reading a stretch: the stop with the counts and the holding, and the row buffer
 pub walk-determined : Determined walk.walk.Kinds.ps walk.walk.Kinds.r walk.walk.Reads.Learnt
 walk-determined = says _ _ _ λ κs args x v p. (p .0, λ i. (tt, (tt, (tt, (p .1 i, tt)))))
+
+-- ---- saved
+
+-- saving into lent bytes: the line's length or the refusal, and the bytes
+pub save-determined : Determined saved.save.Kinds.ps saved.save.Kinds.r saved.save.Reads.Learnt
+save-determined = says _ _ _ λ κs args x v p. (p .0, λ i. (tt, (p .1 i, tt)))
+
+-- ---- lines
+
+-- what a line of input says
+pub said-by-determined : Determined lines.said_by.Kinds.ps lines.said_by.Kinds.r lines.said_by.Reads.Learnt
+said-by-determined = says _ _ _ λ κs args x v p. (p, refl)
 
 -- ---- host: "numbers and byte slices"
 

@@ -15,13 +15,13 @@ use Rattle.format.specs.Walking.{walkOn}
 use Rattle.format.proofs.HeldGood.{held-good}
 use Rattle.format.proofs.Walks.{walk-good}
 use Rattle.holding.specs.declared.Holding.{Holding}
-use Rattle.holding.specs.Pictures.{pictureOf}
+use Rattle.holding.specs.Pictures.{pictureOf, lentBy}
 use Rattle.holding.proofs.Pictured.{mask-picture, sound-picture}
 use Rattle.host.specs.Handing.{hostWalk, bytesAfter, walkBytes, emptied}
 use Rattle.passing.specs.Passing.{size, holdingIn}
 use Rattle.passing.proofs.Returns.{holding-returns}
 use Rattle.promises.specs.LateJoiners.{heldAfter, received}
-use Rattle.reader.specs.Readings.{lentBy, structOf}
+use Rattle.reader.specs.Readings.{structOf}
 use Rattle.reader.proofs.Lents.{sound-lent}
 use Rattle.walk.specs.Walks.{walkAt, walkedOf}
 

@@ -126,7 +126,7 @@ numberAt k rows = unsigned 32 (getD rows k absent)
 
 -- what they compute with
 promising : Unit {0}
-unfolding lending listed neighbour clock otherClock short long whole torn readHere walkHere numberAt Calls.FixedAnswer Calls.Fixed Calls.OneType Calls.SaysTheSame Calls.OpenAlike Calls.ShutsOut Calls.reads Calls.walks Calls.hostReads Calls.hostWalks Same.sameList Spread.spread Pictures.filled Pictures.stripsFrom Pictures.stripsOf Pictures.pictureOf Pictures.systemOf Pictures.systemsOf Pictures.maskOf Pictures.sameHolding Pictures.sound Bytes.little Bytes.littles Bytes.parts Bytes.partsOf Passing.truth Passing.passes Passing.said Passing.holdingIn Passing.bytesOf Readings.lentBy Readings.structOf Readings.outcomeAt Handing.bytesAfter Handing.hostOutcome Readings.readingOf Walks.walkAt Walks.walkedOf Handing.numberSaid Handing.handedBy Handing.hostWalk Handing.walkedTo Walking.messages Walking.rowCount rawEnd unsigned
+unfolding lending listed neighbour clock otherClock short long whole torn readHere walkHere numberAt Calls.FixedAnswer Calls.Fixed Calls.OneType Calls.SaysTheSame Calls.OpenAlike Calls.ShutsOut Calls.reads Calls.walks Calls.hostReads Calls.hostWalks Same.sameList Spread.spread Pictures.filled Pictures.stripsFrom Pictures.stripsOf Pictures.pictureOf Pictures.systemOf Pictures.systemsOf Pictures.maskOf Pictures.sameHolding Pictures.sound Bytes.little Bytes.littles Bytes.parts Bytes.partsOf Passing.truth Passing.passes Passing.said Passing.holdingIn Passing.bytesOf Pictures.lentBy Readings.structOf Readings.outcomeAt Handing.bytesAfter Handing.hostOutcome Readings.readingOf Walks.walkAt Walks.walkedOf Handing.numberSaid Handing.handedBy Handing.hostWalk Handing.walkedTo Walking.messages Walking.rowCount rawEnd unsigned
 promising = tt
 
 -- ---- what is the same at two calls though it must differ

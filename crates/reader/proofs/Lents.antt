@@ -4,9 +4,9 @@ use Rattle.format.proofs.Stops.{Stopped, stop-holds}
 use Rattle.format.specs.Good.{isHolding}
 use Rattle.format.specs.Masks.{stray, lent}
 use Rattle.holding.specs.declared.Holding.{Holding}
-use Rattle.holding.specs.Pictures.{maskOf, sound}
+use Rattle.holding.specs.Pictures.{maskOf, sound, lentBy}
 use Rattle.holding.proofs.Sounds.{sounds}
-use Rattle.reader.specs.Readings.{lentBy, structOf, holdingAfter, outcomeAt}
+use Rattle.reader.specs.Readings.{structOf, holdingAfter, outcomeAt}
 
 module _ (h : Holding) where
   pub sound-lent : sound h ≡ true → lentBy h ≡ lent (maskOf h)

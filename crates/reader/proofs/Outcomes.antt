@@ -10,10 +10,10 @@ use Rattle.format.specs.Table.{table}
 use Rattle.format.specs.Tests.{Test, verdict}
 use Rattle.format.proofs.Placed.{Inside, inside}
 use Rattle.holding.specs.declared.Holding.{Holding}
-use Rattle.holding.specs.Pictures.{sound}
+use Rattle.holding.specs.Pictures.{sound, lentBy}
 use Rattle.reader.specs.declared.Verdict.{Verdict}
 use Rattle.reader.specs.declared.Verdict.the-variants.{Good, Refused}
-use Rattle.reader.specs.Readings.{lentBy, outcomeAt, testsOf, testedBy, readAt}
+use Rattle.reader.specs.Readings.{outcomeAt, testsOf, testedBy, readAt}
 use Rattle.reader.proofs.Verdict.{the-type}
 use Rattle.reader.proofs.Lents.{is-holding, sound-lent}
 

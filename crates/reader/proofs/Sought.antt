@@ -10,7 +10,8 @@ use Rattle.holding.specs.declared.Holding.{Holding}
 use Rattle.reader.specs.declared.message.Found.the-variants.{Answered}
 use Rattle.reader.specs.declared.Verdict.{Verdict}
 use Rattle.reader.specs.declared.Verdict.the-variants.{Good, Refused}
-use Rattle.reader.specs.Readings.{lentBy, outcomeAt, testsOf, testedBy, readAt, foundAt, soughtBy, soughtAt}
+use Rattle.holding.specs.Pictures.{lentBy}
+use Rattle.reader.specs.Readings.{outcomeAt, testsOf, testedBy, readAt, foundAt, soughtBy, soughtAt}
 use Rattle.reader.proofs.Findings.{FoundMask, found-mask, found-answer}
 use Rattle.reader.proofs.Lents.{sound-lent}
 use Rattle.reader.proofs.Outcomes.{Fine, tested-outcome, outcome-tested, all-good, begun}

@@ -23,7 +23,7 @@ use Rattle.heads.specs.declared.Opening.the-variants.{SubType}
 use Rattle.heads.specs.declared.Opening.the-variants as Openings
 use Rattle.heads.specs.Heads.{openingBy}
 use Rattle.holding.specs.declared.Holding.{Holding}
-use Rattle.holding.specs.Pictures.{pictureOf, maskOf, sound}
+use Rattle.holding.specs.Pictures.{pictureOf, maskOf, sound, lentBy}
 use Rattle.reader.specs.declared.Verdict.{Verdict}
 use Rattle.reader.specs.declared.Verdict.the-variants.{Good}
 use Rattle.reader.specs.declared.Verdict.the-variants as Tests
@@ -34,10 +34,7 @@ use Rattle.table.specs.declared.Kind.{Kind}
 use Rattle.table.specs.declared.Kind.the-variants as Kinds
 use Rattle.table.specs.Kinds.{kindFor, kindBy}
 
--- ---- a lent struct is a holding, or it is none; and what is lent after a reading or a walk as a struct again
-
-unfoldable pub lentBy : Holding → Lent
-lentBy h = cond (sound h) (lent (maskOf h)) stray
+-- ---- what is lent after a reading or a walk as a struct again
 
 unfoldable pub structOf : Holding → Lent → Holding
 structOf h stray = h

@@ -16,9 +16,9 @@ use Rattle.format.specs.Table.{table}
 use Rattle.format.specs.Walking.{Walk, walkOn, messages, rowCount}
 use Rattle.format.proofs.Walks.{refusal-ends, walk-good}
 use Rattle.holding.specs.declared.Holding.{Holding}
-use Rattle.holding.specs.Pictures.{pictureOf}
+use Rattle.holding.specs.Pictures.{pictureOf, lentBy}
 use Rattle.reader.specs.declared.Verdict.the-variants.{Refused}
-use Rattle.reader.specs.Readings.{lentBy, structOf, outcomeAt, testsOf, testedBy}
+use Rattle.reader.specs.Readings.{structOf, outcomeAt, testsOf, testedBy}
 use Rattle.reader.proofs.Lents.{sound-lent, is-holding, lent-back}
 use Rattle.reader.proofs.Outcomes.{Fine, tested-outcome, outcome-tested}
 use Rattle.walk.specs.declared.Halt.{Halt}

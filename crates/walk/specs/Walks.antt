@@ -5,7 +5,8 @@ use lib.IntN.{ℤ}
 use Rattle.format.specs.Reading.{answerOf}
 use Rattle.format.specs.Walking.{Walk, walk, messages, rowCount}
 use Rattle.holding.specs.declared.Holding.{Holding}
-use Rattle.reader.specs.Readings.{lentBy, holdingAfter}
+use Rattle.holding.specs.Pictures.{lentBy}
+use Rattle.reader.specs.Readings.{holdingAfter}
 use Rattle.walk.specs.declared.Tally.{Tally}
 use Rattle.walk.specs.declared.Halt.{Halt}
 
