@@ -2,7 +2,7 @@
 use mathlib.Core.Path.{_≡_}
 use mathlib.Core.Bool.{Bool, cond}
 use mathlib.Core.List.{List}
-use Prim.Native.Nat.{ℕ, _-_, _*_, _/_, _%_, _^_, _≤_}
+use Prim.Native.Nat.{ℕ, _+_, _-_, _*_, _/_, _%_, _^_, _≤_}
 use lib.Dec.{eqb}
 use lib.IntN.{ℤ, pos}
 use lib.ListN.{length}
@@ -20,8 +20,13 @@ use Rattle.heads.specs.declared.heading.Heading.{Heading}
 use Rattle.heads.specs.declared.heading.Heading.the-variants.{Rows, Refused}
 use Rattle.heads.specs.declared.heading.Under.{Under}
 use Rattle.heads.specs.Heads.{commonOf}
+use Rattle.table.specs.declared.Body.{Body}
+use Rattle.table.specs.declared.Keys.the-variants.{Satellites, Parts}
+use Rattle.table.specs.declared.Kind.{Kind}
+use Rattle.table.specs.declared.Kind.the-variants.{Other, Mask, Packet, Masked}
+use Rattle.table.specs.declared.Layout.{Layout}
 use Rattle.table.specs.Bodies.{linesIn, Fits}
-use Rattle.table.specs.Kinds.{programBy}
+use Rattle.table.specs.Kinds.{keysFor, programBy}
 use Rattle.table.specs.Shapes.{shapesFrom}
 
 -- the eight numbers, from the common head
@@ -46,6 +51,43 @@ saidBy v (Refused r missing) = badly r missing
 unfoldable pub FitsHeading : Heading → Type 0
 FitsHeading (Rows head body at) = Fits body
 FitsHeading (Refused r missing) = Unit {0}
+
+-- the body is this one, where there is one
+unfoldable pub HasBody : Body → Heading → Type 0
+HasBody b (Rows head body at) = body ≡ b
+HasBody b (Refused r missing) = Unit {0}
+
+-- what holds of an answer: its body fits its keys, and is this one
+pub record Bodied (b : Body) (r : Heading) : Type 0 where
+  pub fits : FitsHeading r
+  pub this : HasBody b r
+
+-- ---- bodies: their keys and the number of their shape
+
+-- the satellites that n bits at a place choose
+unfoldable pub chosenBody : List ℕ → ℕ → ℕ → ℕ → Body
+chosenBody bs place n shape = record { keys = Satellites (chosenAt bs place n); shape = shape }
+
+-- by three flags of a message from a start on: the last says whether there is a selection
+unfoldable pub flaggedBody : List ℕ → ℕ → ℕ → ℕ → ℕ → Body
+flaggedBody bs start n shape flags =
+    cond (eqb (flags % 2) 0) (record { keys = Satellites (2 ^ 64 - 1); shape = shape + flags / 2 }) (chosenBody bs (start + 40 + 5) n (shape + flags / 2))
+
+-- of a sub type that is read under the mask
+unfoldable pub maskedBody : List ℕ → ℕ → ℕ → Layout → Body
+maskedBody bs start n l =
+    cond (l .flagged) (flaggedBody bs start n (l .shape) (field bs (start + 37) 3)) (record { keys = keysFor (l .cells) (2 ^ 64 - 1); shape = l .shape })
+
+-- of a packet's part
+unfoldable pub packetBody : List ℕ → ℕ → Body
+packetBody bs start = record { keys = Parts (field bs (start + 16) 6 % 4 + 1); shape = 7 }
+
+-- by the kind; a mask, and what is none of ours, have none
+unfoldable pub bodyFor : Kind → List ℕ → ℕ → ℕ → Body
+bodyFor Other bs start n = packetBody bs start
+bodyFor Mask bs start n = packetBody bs start
+bodyFor Packet bs start n = packetBody bs start
+bodyFor (Masked l) bs start n = maskedBody bs start n l
 
 -- ---- programs
 

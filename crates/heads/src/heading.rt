@@ -3,12 +3,13 @@
 ghost use mathlib.Core.Path.{_≡_};
 ghost use mathlib.Core.List.{List};
 ghost use Prim.Native.Nat.{ℕ, _+_, _^_, _≤_, _<_};
+ghost use Rattle.bits.specs.Places.{field};
 ghost use Rattle.format.specs.Ends.{Within, endFrom};
 ghost use Rattle.format.specs.Messages as Messages;
 ghost use Rattle.holding.specs.Held.{View, skyIn};
 ghost use Rattle.heads.specs.Fronts.{Opens, Opened};
 ghost use Rattle.heads.specs.Heads.{commonOf, Small};
-ghost use Rattle.heads.specs.Headings.{headWith, chosenAt, Shows, saidBy, FitsHeading, networked, networkBy, afterFlags, gatedBy, underBy};
+ghost use Rattle.heads.specs.Headings.{headWith, chosenAt, Shows, saidBy, Bodied, chosenBody, flaggedBody, maskedBody, packetBody, bodyFor, networked, networkBy, afterFlags, gatedBy, underBy};
 ghost use Rattle.heads.specs.Sorting.{headingFor};
 ghost use Rattle.table.specs.Kinds.{LaidOut, OfTable};
 ghost use Rattle.rows.specs.Shapes.{Laid};
@@ -114,7 +115,7 @@ const NETWORK: usize = 5;
 fn selection(n: usize, f: Front, bytes: &[u8], numbers: Head, shape: usize) -> Heading
     requires { ⌜ (n ≤ 64) × Laid (shapeFor shape) × Within (now bytes) (f .end) (f .start + 40) × Opens (now bytes) f ⌝ }
     ensures { λ r. ⌜ ((v : View) → Shows v n → saidBy v r ≡ endFrom (networkBy (v .satellites) numbers (shapeAt shape)) (now (bytes .entry)) (f .end) (f .start + 40)) ⌝ }
-    ensures { λ r. ⌜ FitsHeading r ⌝ }
+    ensures { λ r. ⌜ Bodied (chosenBody (now (bytes .entry)) (f .start + 40 + 5) n shape) r ⌝ }
 {
     let taken = taken(f, FLAGGED, NETWORK);
     match taken {
@@ -138,7 +139,7 @@ fn selection(n: usize, f: Front, bytes: &[u8], numbers: Head, shape: usize) -> H
 fn by_flags(under: Under, f: Front, bytes: &[u8], h: CommonHead, flags: u64) -> Heading
     requires { ⌜ (under .subtype < 16) × (under .n ≤ 64) × (under .layout .shape ≡ 0) × (flags < 8) × Small h × Within (now bytes) (f .end) (f .start + 40) × Opens (now bytes) f ⌝ }
     ensures { λ r. ⌜ ((v : View) → Shows v (under .n) → saidBy v r ≡ endFrom (afterFlags under h flags (skyIn v)) (now (bytes .entry)) (f .end) (f .start + 40)) ⌝ }
-    ensures { λ r. ⌜ FitsHeading r ⌝ }
+    ensures { λ r. ⌜ Bodied (flaggedBody (now (bytes .entry)) (f .start) (under .n) (under .layout .shape) flags) r ⌝ }
 {
     let shape = under.layout.shape + (flags / 2) as usize;
     let numbers = head(
@@ -159,7 +160,7 @@ fn by_flags(under: Under, f: Front, bytes: &[u8], h: CommonHead, flags: u64) -> 
 fn flagged(under: Under, f: Front, bytes: &[u8], h: CommonHead) -> Heading
     requires { ⌜ (under .subtype < 16) × (under .n ≤ 64) × (under .layout .shape ≡ 0) × Small h × Within (now bytes) (f .end) (f .start + 37) × Opens (now bytes) f ⌝ }
     ensures { λ r. ⌜ ((v : View) → Shows v (under .n) → saidBy v r ≡ endFrom (Messages.flagged (under .subtype) (shapesFrom (under .layout .shape)) (skyIn v) (commonOf h)) (now (bytes .entry)) (f .end) (f .start + 37)) ⌝ }
-    ensures { λ r. ⌜ FitsHeading r ⌝ }
+    ensures { λ r. ⌜ Bodied (flaggedBody (now (bytes .entry)) (f .start) (under .n) (under .layout .shape) (field (now (bytes .entry)) (f .start + 37) 3)) r ⌝ }
 {
     let taken = taken(f, HEADED, FLAG_BITS);
     match taken {
@@ -175,7 +176,7 @@ fn flagged(under: Under, f: Front, bytes: &[u8], h: CommonHead) -> Heading
 fn gated(under: Under, f: Front, bytes: &[u8], h: CommonHead) -> Heading
     requires { ⌜ (under .subtype < 16) × (under .n ≤ 64) × LaidOut (under .layout) × Small h × Within (now bytes) (f .end) (f .start + 37) × Opens (now bytes) f ⌝ }
     ensures { λ r. ⌜ ((v : View) → Shows v (under .n) → saidBy v r ≡ endFrom (gatedBy under (skyIn v) (commonOf h)) (now (bytes .entry)) (f .end) (f .start + 37)) ⌝ }
-    ensures { λ r. ⌜ FitsHeading r ⌝ }
+    ensures { λ r. ⌜ Bodied (maskedBody (now (bytes .entry)) (f .start) (under .n) (under .layout)) r ⌝ }
 {
     if !under.held {
         return Heading::Refused(Refusal::NoMask, 0);
@@ -196,7 +197,7 @@ fn gated(under: Under, f: Front, bytes: &[u8], h: CommonHead) -> Heading
 fn masked(under: Under, f: Front, bytes: &[u8]) -> Heading
     requires { ⌜ (under .subtype < 16) × (under .n ≤ 64) × LaidOut (under .layout) × Within (now bytes) (f .end) (f .start + 16) × Opens (now bytes) f ⌝ }
     ensures { λ r. ⌜ ((v : View) → Shows v (under .n) → saidBy v r ≡ endFrom (underBy under (skyIn v)) (now (bytes .entry)) (f .end) (f .start + 16)) ⌝ }
-    ensures { λ r. ⌜ FitsHeading r ⌝ }
+    ensures { λ r. ⌜ Bodied (maskedBody (now (bytes .entry)) (f .start) (under .n) (under .layout)) r ⌝ }
 {
     let common = crate::common(f);
     match common {
@@ -222,7 +223,7 @@ const PACKET_TYPE: i32 = table::PACKET as i32;
 pub fn packet(f: Front) -> Heading
     requires { ⌜ Opened f × (f .start + 16 ≤ f .end) ⌝ }
     ensures { λ r. ⌜ ((bs : List ℕ) → Opens bs f → (v : View) → saidBy v r ≡ endFrom Messages.packet bs (f .end) (f .start + 16)) ⌝ }
-    ensures { λ r. ⌜ FitsHeading r ⌝ }
+    ensures { λ r. ⌜ ((bs : List ℕ) → Opens bs f → Bodied (packetBody bs (f .start)) r) ⌝ }
 {
     let place = f.start + OPENING;
     let taken = taken(f, OPENING, PACKET_BITS);
@@ -259,7 +260,7 @@ pub struct Seen {
 pub fn of(kind: Kind, seen: Seen, f: Front, bytes: &[u8]) -> Heading
     requires { ⌜ (seen .subtype < 16) × (seen .n ≤ 64) × OfTable kind × Within (now bytes) (f .end) (f .start + 16) × Opens (now bytes) f ⌝ }
     ensures { λ r. ⌜ ((v : View) → Shows v (seen .n) → saidBy v r ≡ endFrom (headingFor kind seen (skyIn v)) (now (bytes .entry)) (f .end) (f .start + 16)) ⌝ }
-    ensures { λ r. ⌜ FitsHeading r ⌝ }
+    ensures { λ r. ⌜ Bodied (bodyFor kind (now (bytes .entry)) (f .start) (seen .n)) r ⌝ }
 {
     match kind {
         Kind::Other => Heading::Refused(Refusal::SubType, 0),

@@ -1,5 +1,5 @@
 -- `heads::heading::by_flags` meets its contract. Assumes nothing.
-use Rattle.bits.proofs.Words.{_≡_, ap, ℕ, _+_, _/_, _%_, _<_, arith, needs, eqb, pos}
+use Rattle.bits.proofs.Words.{_≡_, sym, ap, subst, ℕ, _+_, _/_, _%_, _<_, arith, needs, eqb, pos}
 use mir.Facts.{toZ-pos}
 use mir.Syntax.{w32}
 use Rattle.bits.proofs.BitLists.{digit-eqb}
@@ -8,13 +8,15 @@ use Rattle.format.specs.Programs.{_>>=_}
 use Rattle.format.proofs.Ends.{done-end}
 use Rattle.holding.specs.Held.{skyIn}
 use Rattle.format.specs.Rows.{absent}
-use Rattle.heads.specs.Headings.{headWith, saidBy, FitsHeading, rowed, networked, networkBy, afterFlags}
+use Rattle.heads.specs.Headings.{headWith, saidBy, FitsHeading, HasBody, Bodied, flaggedBody, rowed, networked, networkBy, afterFlags}
 use Rattle.format.proofs.Picks.{pick-all}
 use Rattle.heads.proofs.heading.by_flags.Statement.{statement}
 use Rattle.heads.proofs.heading.by_flags.Tie as tie
 use Rattle.rows.proofs.Table.{laid}
 use Rattle.rows.specs.Shapes.{Laid}
 use Rattle.rows.specs.Table.{shapeAt, shapeFor}
+use borrow.Author.Tests.{eq-eqb, ne-eqb}
+use Rattle.table.specs.declared.Body.{Body}
 use Rattle.table.specs.Bodies.{linesIn, linesOver, FitsKeys}
 use Rattle.table.specs.Shapes.{shapesFrom}
 
@@ -41,7 +43,7 @@ module _ (c : tie.After-head) where
   fits = laid _ (omega (arith, start .pre .2, start .pre .3))
 
 returns : tie.Need-returns
-unfolding skyIn afterFlags networkBy rowed networked headWith headOf
+unfolding skyIn afterFlags networkBy rowed networked headWith headOf flaggedBody
 returns c =
     let p = c .before .before in
     let s = start p in
@@ -49,18 +51,18 @@ returns c =
     let one : x .flags % 2 ≡ 1 = omega (arith, c .before .if1 .taken) in
     let said = rw (made p) at (c .selection .ensures .0) in (
       λ v shows. rw (one, by-half (x .under .layout .shape) (x .flags) (s .pre .3)) (said v shows),
-      c .selection .ensures .1,
+      subst (λ (b : Body). Bodied b (c .selection .result)) (sym (rw (ne-eqb (x .flags % 2) 0 (c .before .if1 .taken)))) (c .selection .ensures .1),
     )
 
 returns-2 : tie.Need-returns-2
-unfolding saidBy FitsHeading FitsKeys linesIn linesOver skyIn afterFlags selection _>>=_ headWith
+unfolding saidBy FitsHeading HasBody flaggedBody FitsKeys linesIn linesOver skyIn afterFlags selection _>>=_ headWith
 returns-2 c =
     let p = c .before .before in
     let s = start p in
     let x = s .args in (
       λ v shows.
           rw (made p, c .before .if1 .left, by-half (x .under .layout .shape) (x .flags) (s .pre .3), done-end, pick-all (v .satellites) (omega (arith, shows .count, shows .few))),
-      fits p,
+      record { fits = fits p; this = rw (eq-eqb (x .flags % 2) 0 (omega arith)) },
     )
 
 pub by-flags-spec : {M : Type 1} → statement M

@@ -1,5 +1,5 @@
 -- `heads::heading::gated` meets its contract. Assumes nothing.
-use Rattle.bits.proofs.Words.{_≡_, Bool, true, false, cond, ℕ, _-_, _^_, arith, needs}
+use Rattle.bits.proofs.Words.{_≡_, sym, subst, Bool, true, false, cond, ℕ, _-_, _^_, arith, needs}
 use borrow.Author.Tests.{eq-eqb, ne-eqb, not-true, not-false}
 use Rattle.format.specs.Masks.{Sky}
 use Rattle.format.specs.Messages as Messages
@@ -10,13 +10,14 @@ use Rattle.format.specs.Programs.{_>>=_, _>>_, require, later, run}
 use Rattle.heads.specs.declared.CommonHead.{CommonHead}
 use Rattle.heads.specs.declared.heading.Under.{Under}
 use Rattle.heads.specs.Heads.{commonOf}
-use Rattle.heads.specs.Headings.{headWith, Shows, saidBy, FitsHeading, gateBy, gatedBy}
+use Rattle.heads.specs.Headings.{headWith, Shows, saidBy, FitsHeading, HasBody, Bodied, maskedBody, gateBy, gatedBy}
 use Rattle.format.proofs.Picks.{pick-all}
 use Rattle.heads.proofs.heading.gated.Statement.{statement}
 use Rattle.heads.proofs.heading.gated.Tie as tie
 use Rattle.holding.specs.Held.{View, skyIn}
 use Rattle.rows.specs.Table.{shapeAt}
 use Rattle.table.specs.declared.Keys.the-variants.{Satellites, Cells}
+use Rattle.table.specs.declared.Body.{Body}
 use Rattle.table.specs.declared.Layout.{Layout}
 use Rattle.table.specs.Bodies.{linesIn, linesOver}
 use Rattle.table.specs.Kinds.{keysFor, overBy, programBy}
@@ -42,23 +43,23 @@ alone-lines l v n shows = go (l .cells)
     go false = rw (pick-all (v .satellites) (omega (arith, shows .count, shows .few)))
 
 returns-2 : tie.Need-returns-2
-unfolding gatedBy gateBy commonOf require _>>_ _>>=_ saidBy FitsHeading endFrom run later
+unfolding gatedBy gateBy commonOf require _>>_ _>>=_ saidBy FitsHeading HasBody endFrom run later
 returns-2 c =
     let x = c .before .before .before .before .before .before .args in
-    (λ v shows. rw (not-false (x .under .held) (c .before .before .before .if1 .left), ne-eqb (x .h .iod) (x .under .iod) (c .if2 .taken)), tt)
+    (λ v shows. rw (not-false (x .under .held) (c .before .before .before .if1 .left), ne-eqb (x .h .iod) (x .under .iod) (c .if2 .taken)), record { fits = tt; this = tt })
 
 returns-3 : tie.Need-returns-3
-unfolding programBy
+unfolding programBy maskedBody
 returns-3 c =
     let x = c .before .before .before .before .before .before .before .before .args in (
       λ v shows.
           rw (passed (x .under) (x .h) (skyIn v) (not-false (x .under .held) (c .before .before .before .before .before .if1 .left)) (c .before .before .if2 .left), c .before .if3 .taken)
           (c .flagged .ensures .0 v shows),
-      c .flagged .ensures .1,
+      subst (λ (b : Body). Bodied b (c .flagged .result)) (sym (rw (c .before .if3 .taken))) (c .flagged .ensures .1),
     )
 
 returns-4 : tie.Need-returns-4
-unfolding saidBy FitsHeading linesIn rowsAlone headWith
+unfolding saidBy FitsHeading HasBody maskedBody linesIn rowsAlone headWith
 returns-4 c =
     let o = c .before in
     let s = o .before .before .before .before .before .before .before .before .before in
@@ -72,13 +73,13 @@ returns-4 c =
             alone-lines (x .under .layout) v (x .under .n) shows,
             done-end,
           ),
-      rw (o .over .ensures) (s .pre .2 .fits _),
+      record { fits = rw (o .over .ensures) (s .pre .2 .fits _); this = rw (o .before .before .if3 .left) (λ i. record { keys = o .over .ensures i; shape = x .under .layout .shape }) },
     )
 
 pub gated-spec : {M : Type 1} → statement M
-unfolding gatedBy gateBy _>>_ _>>=_ saidBy FitsHeading endFrom run later
+unfolding gatedBy gateBy _>>_ _>>=_ saidBy FitsHeading HasBody endFrom run later
 gated-spec =
     tie.close
-    (tie.spec (λ c. let x = c .before .before .before .args in (λ v shows. rw (not-true (x .under .held) (c .if1 .taken)), tt)) (λ c. search needs) returns-2
+    (tie.spec (λ c. let x = c .before .before .before .args in (λ v shows. rw (not-true (x .under .held) (c .if1 .taken)), record { fits = tt; this = tt })) (λ c. search needs) returns-2
     (λ c κs. let s = c .before .before .before .before .before .before .before in (s .pre .0, s .pre .1, s .pre .2 .with-flags (c .if3 .taken) .1, s .pre .3, s .pre .4, s .pre .5))
     returns-3 (λ c κs. search needs) (λ c κs. search needs) (λ c. search needs) returns-4)

@@ -2,7 +2,7 @@
 use Rattle.bits.proofs.Words.{_≡_, sym, _∙_, _+_, arith, needs}
 use Rattle.format.proofs.Ends.{onward, then-well, then-badly}
 use Rattle.format.specs.Messages.{common}
-use Rattle.heads.specs.Headings.{saidBy, FitsHeading, gatedBy, underBy}
+use Rattle.heads.specs.Headings.{saidBy, FitsHeading, HasBody, gatedBy, underBy}
 use Rattle.heads.proofs.Commons.{Read, common-whole, common-short}
 use Rattle.heads.proofs.heading.masked.Statement.{statement}
 use Rattle.heads.proofs.heading.masked.Tie as tie
@@ -26,12 +26,12 @@ returns c =
     (λ v shows. said v shows ∙ sym (then-well (s p .pre .3) (common 12) (gatedBy (x .under) (skyIn v)) (whole p .ran)), c .gated .ensures .1)
 
 returns-2 : tie.Need-returns-2
-unfolding underBy saidBy FitsHeading
+unfolding underBy saidBy FitsHeading HasBody
 returns-2 c =
     let took = c .before .before .before in
     let s = took .before .before in
     let cut = common-short (s .pre .3) 12 (sym (took .common .ensures _ (s .pre .4)) ∙ c .before .common3 .given .1) in
-    (λ v shows. sym (then-badly (s .pre .3) (common 12) (gatedBy (s .args .under) (skyIn v)) cut), tt)
+    (λ v shows. sym (then-badly (s .pre .3) (common 12) (gatedBy (s .args .under) (skyIn v)) cut), record { fits = tt; this = tt })
 
 pub masked-spec : {M : Type 1} → statement M
 masked-spec =

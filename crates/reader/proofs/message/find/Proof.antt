@@ -155,5 +155,5 @@ find-spec =
     tie.close
     (tie.spec (λ c κs. search needs) (λ c κs. (record { bytes = _; opens = opens c }, opens c .within .room)) (λ c. search needs)
     (λ c κs. opens (c .before .before .before .before)) (λ c. search needs) (λ c κs. search needs) (λ c. search needs) returns of-requires
-    (λ c κs. let q = c .before in let p = start q .pre in (p .0, p .1, q .of .ensures .1, rw (said q) (begins (told (k q) .after) _))) returns-2 (λ c. search needs)
+    (λ c κs. let q = c .before in let p = start q .pre in (p .0, p .1, q .of .ensures .1 .fits, rw (said q) (begins (told (k q) .after) _))) returns-2 (λ c. search needs)
     returns-3)
