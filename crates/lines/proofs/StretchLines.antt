@@ -3,7 +3,6 @@ use mathlib.Core.Path.{_≡_, refl, sym, ap, _∙_}
 use mathlib.Core.Bool.{Bool, true, false}
 use mathlib.Core.List.{List, [], _∷_, _++_, append-assoc}
 use Prim.Native.Nat.{ℕ, zero, suc, _+_, _-_, _*_, _/_, _%_, _≤_, _<_}
-use native.Mathlib.Decide.{decLt}
 use native.Mathlib.Nat.{add-zero}
 use native.Mathlib.Numerals.{add-one}
 use native.Mathlib.Omega.{arith}
@@ -22,20 +21,9 @@ use Rattle.format.proofs.Texts.{decimalValue-decimal, hexBits-hex, Plain, plain
 use Rattle.lines.specs.Counting.{tabWithin, opensWith}
 use Rattle.lines.specs.Digits.{hexSays}
 use Rattle.lines.proofs.HexDigits.{digits-say}
-use Rattle.text.proofs.LastDigits.{short, longer}
+use Rattle.text.proofs.Values.{decimal-long}
 
--- ---- what a count is like
-
--- up to five digits: a number ten times as large has one more
-one-more : (k m : ℕ) → ((n : ℕ) → n < m → length (decimal n) ≤ k) → (n : ℕ) → n < 10 * m → length (decimal n) ≤ suc k
-one-more k m few n small = go (decLt n 10)
-  where
-    go : Dec (n < 10) → length (decimal n) ≤ suc k
-    go (yes one) = omega (arith, short n one)
-    go (no many) = omega (arith, longer n (omega arith), few (n / 10) (omega arith))
-
-few-digits : (n : ℕ) → n < 100000 → length (decimal n) ≤ 5
-few-digits n small = one-more 4 10000 (one-more 3 1000 (one-more 2 100 (one-more 1 10 (λ k one. omega (arith, short k one))))) n (omega arith)
+-- ---- a count, and the tab behind it
 
 -- the first tab stands behind text without one
 tab-behind : (room : ℕ) (l rest : List ℕ) → Plain l → length l ≤ room → tabWithin room (l ++ (tab ∷ rest)) ≡ length l
@@ -56,7 +44,7 @@ module _ (l : List Bool) (few : length l ≤ stretchLimit) where
 
   pub its-tab : tabWithin 5 (stretchLine l) ≡ length digits
   unfolding stretchLine
-  its-tab = tab-behind 5 digits (hex l ++ (lineFeed ∷ [])) (plain-decimal n) (few-digits n (omega arith))
+  its-tab = tab-behind 5 digits (hex l ++ (lineFeed ∷ [])) (plain-decimal n) (decimal-long 4 n (omega arith))
 
   pub its-count : take (length digits) (stretchLine l) ≡ digits
   unfolding stretchLine

@@ -13,11 +13,12 @@ use Rattle.format.specs.declared.Refusal.{Refusal}
 use Rattle.format.specs.declared.Refusal.the-variants.{Room, Value}
 use Rattle.format.specs.Good.{good, isHolding}
 use Rattle.format.specs.Masks.{heldIn}
-use Rattle.format.specs.Saved.{lineOf, loaded, load, saved, unsaved, saving, bufferAfter}
+use Rattle.format.specs.Saved.{lineOf, loaded, load, Saved, saved, unsaved, saving, doneSaving, bufferAfter}
 use Rattle.format.specs.Tests.{verdict}
 use Rattle.holding.proofs.Sounds.{sounds}
 use Rattle.holding.specs.declared.Holding.{Holding}
 use Rattle.holding.specs.Pictures.{maskOf, sound, lentBy}
+use Rattle.saved.specs.Saves.{savingBy, doneBy}
 
 module _ (h : Holding) (buffer : List ℕ) where
   abbrev line : List ℕ
@@ -67,3 +68,10 @@ saved-loads h buffer n e = go (sound h) refl (leb (length (lineOf (maskOf h))) (
     go true on true f =
         let is = finds-room h buffer on (leb-true _ _ f) in
         rw (is, same-size (length (lineOf (maskOf h))) n (sym is ∙ e)) (loads h buffer on)
+
+-- ---- what the code answers is the paper's answer
+
+pub saving-said : (s : Saved) → doneBy (savingBy s) ≡ doneSaving s
+unfolding doneBy savingBy doneSaving
+saving-said (saved n) = refl
+saving-said (unsaved r) = refl
