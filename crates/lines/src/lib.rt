@@ -1,6 +1,7 @@
 // The listing's lines (document 01, "Saved mask and listing"): what a line of input says.
 pub mod count;
 pub mod digits;
+pub mod records;
 
 ghost use mathlib.Core.Path.{_≡_};
 ghost use Rattle.format.specs.Listing.{lineSays};
