@@ -1,14 +1,23 @@
 -- Lines of output, value by value and row by row. Assumes nothing.
-use mathlib.Core.Path.{_≡_, refl, sym, ap, _∙_}
-use mathlib.Core.List.{List, [], _∷_, _++_, flatMap, append-assoc}
-use Prim.Native.Nat.{ℕ, suc, _+_, _≤_, _<_}
+use mathlib.Core.Path.{_≡_, refl, sym, ap, ap₂, _∙_}
+use mathlib.Core.List.{List, [], _∷_, _++_, map, flatMap, append-assoc}
+use Prim.Native.Nat.{ℕ, suc, _+_, _*_, _^_, _≤_, _<_}
+use native.Mathlib.Nat.{add-zero}
 use native.Mathlib.Numerals.{add-one}
 use native.Mathlib.Omega.{arith}
 use lib.IntN.{ℤ, pos}
-use lib.ListN.{length, getD, drop, drop-of-length-le}
+use lib.ListN.{length, getD, take, drop, length-append, drop-of-length-le}
 use lib.Seq.{drop-cons}
+use lib.Signed.{mag}
+use mir.Facts.{toZ-ofZ}
+use mir.Syntax.{w32}
+use mir.Val.{toZ, ofZ}
+use Rattle.bits.proofs.Lists.{elements, taken}
+use Rattle.format.proofs.Bodies.{All, none, more}
 use Rattle.format.specs.Listing.{valueText, recordText}
 use Rattle.format.specs.Text.{tab, lineFeed}
+use Rattle.text.proofs.Values.{value-long}
+use Rattle.lines.specs.Rooms.{recordLong}
 
 -- ---- the values from the i-th on, and the line's end
 
@@ -27,3 +36,32 @@ next-value vs i there =
 pub no-value : (vs : List ℤ) (i : ℕ) → length vs ≤ i → valuesFrom vs i ≡ lineFeed ∷ []
 unfolding valuesFrom flatMap
 no-value vs i past = rw (drop-of-length-le vs past)
+
+-- ---- how long a line is at most
+
+-- a value of 32 bits
+abbrev pub Small : ℤ → Type 0
+Small v = mag v < 2 ^ 31
+
+values-long : (vs : List ℤ) → All Small vs → length (flatMap (λ v. tab ∷ valueText v) vs) ≤ 12 * length vs
+unfolding flatMap
+values-long [] none = omega arith
+values-long (v ∷ vs) (more small rest) =
+    omega (arith, length-append (tab ∷ valueText v) (flatMap (λ v. tab ∷ valueText v) vs), value-long v small, values-long vs rest)
+
+pub record-long : (letter : ℕ) (vs : List ℤ) → All Small vs → length (recordText letter vs) ≤ recordLong (length vs)
+unfolding recordText
+record-long letter vs small =
+    omega (arith, length-append (flatMap (λ v. tab ∷ valueText v) vs) (lineFeed ∷ []), values-long vs small)
+
+-- ---- values as code has them
+
+pub as-read : (vs : List ℤ) → All Small vs → map (λ v. toZ w32 (ofZ w32 v)) vs ≡ vs
+as-read [] none = refl
+as-read (v ∷ vs) (more small rest) = ap₂ _∷_ (toZ-ofZ (record { sfits = small })) (as-read vs rest)
+
+-- the eight of a row
+pub row-read : (rows : List ℤ) (from : ℕ) → from + 8 ≤ length rows
+    → take 8 (drop from rows) ≡ getD rows from (pos 0) ∷ elements (pos 0) rows from 1 7
+unfolding elements
+row-read rows from room = ap (λ (k : ℕ). take 8 (drop k rows)) (sym (add-zero from)) ∙ taken (pos 0) rows from 0 8 (omega arith) ∙ rw add-zero
