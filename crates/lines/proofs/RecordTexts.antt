@@ -17,7 +17,7 @@ use Rattle.format.proofs.Bodies.{All, none, more}
 use Rattle.format.specs.Listing.{valueText, recordText}
 use Rattle.format.specs.Text.{tab, lineFeed}
 use Rattle.text.proofs.Values.{value-long}
-use Rattle.lines.specs.Rooms.{recordLong}
+use Rattle.lines.specs.Records.{recordLong}
 
 -- ---- the values from the i-th on, and the line's end
 

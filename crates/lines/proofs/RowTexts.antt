@@ -1,14 +1,16 @@
 -- The lines of the rows of a row buffer, row by row. Assumes nothing.
-use mathlib.Core.Path.{_≡_, refl, _∙_}
+use mathlib.Core.Path.{_≡_, refl, ap}
 use mathlib.Core.List.{List, [], _++_, flatMap}
-use Prim.Native.Nat.{ℕ, suc, _+_, _-_, _*_, _≤_, _<_}
+use Prim.Native.Nat.{ℕ, zero, suc, _+_, _-_, _*_, _≤_, _<_}
 use native.Mathlib.Nat.{sub-zero}
 use native.Mathlib.Omega.{arith}
 use lib.IntN.{ℤ}
-use lib.ListN.{take, drop}
+use lib.ListN.{length, take, drop}
 use lib.Seq.{drop-drop}
-use Rattle.format.specs.Listing.{recordText, letterR}
+use Rattle.format.specs.declared.Head.{Head}
+use Rattle.format.specs.Listing.{recordText, letterR, messageText}
 use Rattle.format.specs.Writing.{rowsIn}
+use Rattle.lines.specs.Records.{openingIn, messageIn}
 
 -- of n rows those from the i-th on
 unfoldable pub rowsFrom : ℕ → List ℤ → ℕ → List ℕ
@@ -30,3 +32,13 @@ unfolding rowsFrom rowsIn flatMap
 no-row n rows i past =
     let none : n - i ≡ 0 = omega arith in
     rw none
+
+pub length-rows : (n : ℕ) (rows : List ℤ) → length (rowsIn n rows) ≡ n
+unfolding rowsIn
+length-rows zero rows = refl
+length-rows (suc n) rows = ap suc (length-rows n (drop 8 rows))
+
+-- a message in two parts
+pub message-parts : (head : Head) (place next n : ℕ) (rows : List ℤ) → messageIn head place next n rows ≡ openingIn head place next n ++ flatMap (recordText letterR) (rowsIn n rows)
+unfolding messageText
+message-parts head place next n rows = rw (length-rows n rows)

@@ -7,7 +7,8 @@ ghost use lib.Seq.{sets};
 ghost use Rattle.format.specs.Listing.{valueText, recordText, letterR};
 ghost use Rattle.format.specs.Text.{tab};
 ghost use Rattle.format.specs.Writing.{rowsIn};
-ghost use Rattle.lines.specs.Rooms.{rowLong};
+ghost use Rattle.lines.specs.Records.{openingIn, messageIn, recordLong, rowLong, messageRoom};
+use format::Head;
 use text::LINE_FEED;
 use text::TAB;
 use text::number::value;
@@ -77,4 +78,50 @@ pub fn rows(out: &mut [u8], at: usize, rows: &[i32], n: usize) -> usize
         i += 1;
     }
     place
+}
+
+// The most characters of a message: a line of 11 values, each with its tab at most 12, and those of 256 rows of eight.
+pub const MESSAGE_ROOM: usize = 25222;
+
+// The letter of a message's line.
+const LETTER_M: u8 = b'M';
+
+// The line of a message without its rows, from the first byte on.
+fn opening(out: &mut [u8], head: Head, place: usize, next: usize, n: usize) -> usize
+    requires { ⌜ (place ≤ next) × (next ≤ 50850) × (n ≤ 256) × (messageRoom ≤ length (now out)) ⌝ }
+    ensures { λ r. ⌜ r ≡ length (openingIn head place next n) ⌝ }
+    ensures { λ _. ⌜ now (out .exit) ≡ sets (now (out .entry)) 0 (openingIn head place next n) ⌝ }
+    ensures { λ r. ⌜ r ≤ recordLong 11 ⌝ }
+{
+    let values = [
+        place as i32,
+        (next - place) as i32,
+        head.subtype,
+        head.epoch,
+        head.interval,
+        head.indicator,
+        head.iod,
+        head.a,
+        head.b,
+        head.c,
+        n as i32,
+    ];
+    record(out, 0, LETTER_M, &values)
+}
+
+// A message, from the first byte on: its own line and those of its rows.
+pub fn message(
+    out: &mut [u8],
+    head: Head,
+    place: usize,
+    next: usize,
+    n: usize,
+    rows: &[i32],
+) -> usize
+    requires { ⌜ (place ≤ next) × (next ≤ 50850) × (n ≤ 256) × (8 * n ≤ length (now rows)) × (messageRoom ≤ length (now out)) ⌝ }
+    ensures { λ r. ⌜ r ≡ length (messageIn head place next n (now (rows .entry))) ⌝ }
+    ensures { λ _. ⌜ now (out .exit) ≡ sets (now (out .entry)) 0 (messageIn head place next n (now (rows .entry))) ⌝ }
+{
+    let first = opening(out, head, place, next, n);
+    crate::records::rows(out, first, rows, n)
 }

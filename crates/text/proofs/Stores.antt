@@ -33,6 +33,13 @@ wrote before text e = record { place = e .0; same = e .1 }
 pub told : {before : List ℕ} {at : ℕ} {text after : List ℕ} {end : ℕ} → Wrote before at text after end → (end ≡ at + length text) × (after ≡ sets before at text)
 told w = (w .place, w .same)
 
+-- from the first place on
+pub wrote-first : (before : List ℕ) (text : List ℕ) {after : List ℕ} {end : ℕ} → (end ≡ length text) × (after ≡ sets before 0 text) → Wrote before 0 text after end
+wrote-first before text e = record { place = omega (arith, e .0); same = e .1 }
+
+pub told-first : {before : List ℕ} {text after : List ℕ} {end : ℕ} → Wrote before 0 text after end → (end ≡ length text) × (after ≡ sets before 0 text)
+told-first w = (omega (arith, w .place), w .same)
+
 -- one behind another
 pub then-wrote : {before : List ℕ} {at : ℕ} {text between : List ℕ} {middle : ℕ} {more after : List ℕ} {end : ℕ}
     → Wrote before at text between middle → Wrote between middle more after end → Wrote before at (text ++ more) after end

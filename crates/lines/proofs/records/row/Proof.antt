@@ -11,7 +11,7 @@ use mir.Val.{toZ, ofZ}
 use Rattle.bits.proofs.Lists.{elements}
 use Rattle.format.proofs.Bodies.{All, none, more}
 use Rattle.format.specs.Listing.{recordText, letterR}
-use Rattle.lines.specs.Rooms.{rowLong}
+use Rattle.lines.specs.Records.{rowLong}
 use Rattle.lines.proofs.RecordTexts.{Small, record-long, as-read, row-read}
 use Rattle.lines.proofs.records.row.Statement.{statement}
 use Rattle.lines.proofs.records.row.Tie as tie

@@ -7,7 +7,7 @@ use borrow.Author.Needs.{needs}
 use lib.ListN.{length, take, drop}
 use Rattle.format.specs.Listing.{recordText, letterR}
 use Rattle.text.proofs.Stores.{Left, all-left, wrote, told, part-wrote, none-left}
-use Rattle.lines.specs.Rooms.{rowLong}
+use Rattle.lines.specs.Records.{rowLong}
 use Rattle.lines.proofs.RowTexts.{rowsFrom, all-rows, next-row, no-row}
 use Rattle.lines.proofs.records.rows.Statement.{statement}
 use Rattle.lines.proofs.records.rows.Tie as tie

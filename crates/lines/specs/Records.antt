@@ -1,0 +1,28 @@
+-- The lines of output as code writes them, and the most characters that they have: a value of 32 bits has 11, a sign and ten digits.
+use mathlib.Core.List.{List, [], _∷_, _++_}
+use Prim.Native.Nat.{ℕ, _+_, _-_, _*_}
+use lib.IntN.{ℤ, pos}
+use Rattle.format.specs.declared.Head.{Head}
+use Rattle.format.specs.Listing.{headValues, letterM, recordText, messageText}
+use Rattle.format.specs.Writing.{rowsIn}
+
+-- the line of a message without its rows
+abbrev pub openingIn : Head → ℕ → ℕ → ℕ → List ℕ
+openingIn head place next n = recordText letterM (pos place ∷ pos (next - place) ∷ (headValues head ++ (pos n ∷ [])))
+
+-- a message from a place to the next, with its head and the first n rows of a row buffer
+abbrev pub messageIn : Head → ℕ → ℕ → ℕ → List ℤ → List ℕ
+messageIn head place next n rows =
+    messageText (record { place = place; next = next; content = record { head = head; rows = rowsIn n rows } })
+
+-- a line of so many values: the letter, a tab before each, the line feed
+abbrev pub recordLong : ℕ → ℕ
+recordLong k = 2 + 12 * k
+
+-- an R line
+abbrev pub rowLong : ℕ
+rowLong = recordLong 8
+
+-- an M line of 11 values, and the lines of 256 rows
+abbrev pub messageRoom : ℕ
+messageRoom = recordLong 11 + 256 * rowLong
