@@ -1,6 +1,6 @@
 -- Lines of output, value by value and row by row. Assumes nothing.
 use mathlib.Core.Path.{_≡_, refl, sym, ap, ap₂, _∙_}
-use mathlib.Core.List.{List, [], _∷_, _++_, map, flatMap, append-assoc}
+use mathlib.Core.List.{List, [], _∷_, _++_, map, flatMap, append-assoc, append-nil}
 use Prim.Native.Nat.{ℕ, suc, _+_, _*_, _^_, _≤_, _<_}
 use native.Mathlib.Nat.{add-zero}
 use native.Mathlib.Numerals.{add-one}
@@ -14,8 +14,8 @@ use mir.Syntax.{w32}
 use mir.Val.{toZ, ofZ}
 use Rattle.bits.proofs.Lists.{elements, taken}
 use Rattle.format.proofs.Bodies.{All, none, more}
-use Rattle.format.specs.Listing.{valueText, recordText}
-use Rattle.format.specs.Text.{tab, lineFeed}
+use Rattle.format.specs.Listing.{valueText, recordText, letterB, badText}
+use Rattle.format.specs.Text.{tab, lineFeed, decimal}
 use Rattle.text.proofs.Values.{value-long}
 use Rattle.lines.specs.Records.{recordLong}
 
@@ -65,3 +65,9 @@ pub row-read : (rows : List ℤ) (from : ℕ) → from + 8 ≤ length rows
     → take 8 (drop from rows) ≡ getD rows from (pos 0) ∷ elements (pos 0) rows from 1 7
 unfolding elements
 row-read rows from room = ap (λ (k : ℕ). take 8 (drop k rows)) (sym (add-zero from)) ∙ taken (pos 0) rows from 0 8 (omega arith) ∙ rw add-zero
+
+-- ---- the line of one number
+
+pub bad-parts : (k : ℕ) → badText k ≡ (letterB ∷ []) ++ ((tab ∷ []) ++ (decimal k ++ (lineFeed ∷ [])))
+unfolding badText recordText flatMap valueText
+bad-parts k = ap (λ (l : List ℕ). letterB ∷ tab ∷ (l ++ (lineFeed ∷ []))) (append-nil (decimal k))

@@ -1,10 +1,11 @@
 // The listing's lines of output: a letter, then values, each after a tab.
 ghost use mathlib.Core.Path.{_≡_};
-ghost use mathlib.Core.List.{_∷_, flatMap};
-ghost use Prim.Native.Nat.{_+_, _*_, _≤_};
+ghost use mathlib.Core.List.{[], _∷_, flatMap};
+ghost use Prim.Native.Nat.{_+_, _*_, _^_, _≤_, _<_};
+ghost use lib.IntN.{pos};
 ghost use lib.ListN.{length, take, drop};
 ghost use lib.Seq.{sets};
-ghost use Rattle.format.specs.Listing.{valueText, recordText, letterR};
+ghost use Rattle.format.specs.Listing.{valueText, recordText, letterR, letterE, badText};
 ghost use Rattle.format.specs.Text.{tab};
 ghost use Rattle.format.specs.Writing.{rowsIn};
 ghost use Rattle.lines.specs.Records.{openingIn, messageIn, recordLong, rowLong, messageRoom};
@@ -124,4 +125,32 @@ pub fn message(
 {
     let first = opening(out, head, place, next, n);
     crate::records::rows(out, first, rows, n)
+}
+
+// The letter of a stop's line.
+const LETTER_E: u8 = b'E';
+
+// A stop, from the first byte on: its number and place, and how many messages and rows were listed before it.
+pub fn stop(out: &mut [u8], number: u64, place: usize, messages: usize, rows: usize) -> usize
+    requires { ⌜ (number < 2 ^ 31) × (place < 2 ^ 31) × (messages < 2 ^ 31) × (rows < 2 ^ 31) × (messageRoom ≤ length (now out)) ⌝ }
+    ensures { λ r. ⌜ r ≡ length (recordText letterE (pos number ∷ pos place ∷ pos messages ∷ pos rows ∷ [])) ⌝ }
+    ensures { λ _. ⌜ now (out .exit) ≡ sets (now (out .entry)) 0 (recordText letterE (pos number ∷ pos place ∷ pos messages ∷ pos rows ∷ [])) ⌝ }
+{
+    let values = [number as i32, place as i32, messages as i32, rows as i32];
+    record(out, 0, LETTER_E, &values)
+}
+
+// The letter of a bad line's line.
+const LETTER_B: u8 = b'B';
+
+// A bad line of input, from the first byte on: its number.
+pub fn bad(out: &mut [u8], number: u64) -> usize
+    requires { ⌜ messageRoom ≤ length (now out) ⌝ }
+    ensures { λ r. ⌜ r ≡ length (badText number) ⌝ }
+    ensures { λ _. ⌜ now (out .exit) ≡ sets (now (out .entry)) 0 (badText number) ⌝ }
+{
+    let first = put(out, 0, LETTER_B);
+    let second = put(out, first, TAB);
+    let third = text::number::number(out, second, number);
+    put(out, third, LINE_FEED)
 }
