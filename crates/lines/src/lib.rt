@@ -2,6 +2,7 @@
 pub mod count;
 pub mod digits;
 pub mod records;
+pub mod stretch;
 
 ghost use mathlib.Core.Path.{_≡_};
 ghost use Rattle.format.specs.Listing.{lineSays};
