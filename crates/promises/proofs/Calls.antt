@@ -24,7 +24,7 @@ use Rattle.format.proofs.Walks.{Law, every-walk, all-good}
 use Rattle.host.specs.Handing.{numberSaid, walkedTo}
 use Rattle.promises.specs.Calls.{Got, answered, gets, Calls, stops, goes, gotBy}
 use Rattle.promises.proofs.Determined.{alike}
-use Rattle.promises.proofs.EightNumbers.{Eight, rows-back, message-eight}
+use Rattle.reader.proofs.EightNumbers.{Eight, rows-left, message-eight}
 
 -- what is equal in equal answers
 stop-parts : {m n p q : ℕ} → stop m p ≡ stop n q → (m ≡ n) × (p ≡ q)
@@ -99,9 +99,9 @@ module _ {H : Type 0} (lentIn : H → Lent) (leave : Lent → H → H) where
       -- the rows of a message are those that it leaves first in the buffer
       content-back : (m : Message) (next : ℕ) → Eight (m .content .rows)
           → answered place (m .content .head) next (length (m .content .rows)) (rowsAfter (accepted m next) rows) ≡ handedAt place m next
-      unfolding answered rowsAfter over
+      unfolding answered
       content-back m next eight =
-          let back = rows-back (m .content .rows) eight (drop (length (flatten (m .content .rows))) rows) in
+          let back = rows-left m next rows eight in
           λ i. record { place = place; next = next; content = record { head = m .content .head; rows = back i } }
 
     module _ (passes : Passes) where

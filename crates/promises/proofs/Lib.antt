@@ -7,6 +7,5 @@ pub mod LateRuns
 pub mod Determined
 pub mod Receivers
 pub mod Useless
-pub mod EightNumbers
 pub mod Calls
 pub mod CallsOfRead

@@ -6,3 +6,4 @@ pub mod Adopted
 pub mod Findings
 pub mod Sought
 pub mod FewRows
+pub mod EightNumbers

@@ -22,8 +22,9 @@ use Rattle.format.proofs.Walks.{ends-inside, walk-step, stop-ends}
 use Rattle.holding.specs.Pictures.{pictureOf, maskOf}
 use Rattle.holding.proofs.Pictured.{mask-picture, sound-picture}
 use Rattle.holding.proofs.Sounds.{sounds}
-use Rattle.reader.specs.Readings.{readAt}
+use Rattle.reader.specs.Readings.{outcomeAt, readAt}
 use Rattle.reader.proofs.FewRows.{few-rows}
+use Rattle.reader.proofs.Lents.{sound-lent}
 use Rattle.walk.specs.Standing.{Stand, Stands, restOf, walkedWith, walkedFrom, rowsFrom}
 
 -- the walk went from one stand to another, and not back: what it answers and leaves is the same from both
@@ -90,6 +91,11 @@ module _ (bytes : List ℕ) (end : ℕ) (s : Stand) (stands : Stands bytes end s
   unfolding readingBy lentTests verdict placed isHolding heldIn
   there =
       rw (le-leb rowRoom (length (s .rows)) (stands .room), le-leb end stretchLimit (stands .limit), le-leb end (8 * length bytes) (stands .lent), le-leb (s .tally .place) end (stands .there), good-held)
+
+  -- nor does that of the holding itself
+  pub outcome-there : outcomeAt (s .holding) bytes end (s .tally .place) (s .rows) ≡ found
+  unfolding outcomeAt
+  outcome-there = rw (sound-lent (s .holding) (stands .held)) there
 
   module _ (m : Message) (next : ℕ) (said : found ≡ accepted m next) where
     abbrev t : Stand

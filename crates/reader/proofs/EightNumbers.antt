@@ -1,5 +1,5 @@
 -- Every row of a message has eight numbers, so the row buffer cut eight by eight gives back its rows. Assumes nothing.
-use mathlib.Core.Path.{_≡_, refl, ap, _∙_}
+use mathlib.Core.Path.{_≡_, refl, ap, subst, _∙_}
 use mathlib.Core.Bool.{Bool, true, false}
 use mathlib.Core.List.{List, [], _∷_, _++_, append-assoc, flatten}
 use Prim.Native.Nat.{ℕ, suc}
@@ -10,14 +10,16 @@ use lib.ListN.{length, drop, length-append}
 use lib.Seq.{take-at, drop-at}
 use Rattle.body.proofs.Bodies.{lines-eights, packet-eights}
 use Rattle.format.specs.declared.Refusal.the-variants.{SubType}
-use Rattle.format.specs.Masks.{Held, nothing, mask, Satellite, Cell, Sky, skyOf}
+use Rattle.format.specs.Masks.{Held, nothing, mask, Lent, heldIn, Satellite, Cell, Sky, skyOf}
 use Rattle.format.specs.Messages.{Heading, Common, common, overSatellites, overCells, satelliteLines, cellLines, orbitShape, clockShape, codeShape, phaseShape, combinedShape, packet, packetHeading, rowsAlone, flagged, selection, maskMessage}
 use Rattle.format.specs.Programs.{Program}
+use Rattle.format.specs.Reading.{Outcome, accepted, bitsFrom, rowsAfter, over, reading}
 use Rattle.format.specs.Rows.{Column, Line, absent, widthOf, shapeWidth, valuesOf, rowsOf}
 use Rattle.format.specs.Spelling.{putRows, putFlagged, putPacket, putMask}
-use Rattle.format.specs.Table.{Kind, MaskedKind, other, free, masked, adopts, kinds, table, alone, byKind, keeping, message}
+use Rattle.format.specs.Table.{Kind, MaskedKind, Message, other, free, masked, adopts, kinds, table, alone, byKind, keeping, message}
 use Rattle.format.specs.Writing.{rowsIn}
 use Rattle.format.proofs.Bodies.{All, none, more}
+use Rattle.format.proofs.Stops.{reading-ends}
 use Rattle.format.proofs.Steps.{Gives, gives-done, gives-refuse, gives-numbered, gives-bind, gives-itself}
 use Rattle.format.proofs.Tables.{Each, end, then, in-table, gives-message, keeping-gives, under-nothing, under-gives}
 use Rattle.rows.proofs.RowsAt.{Eights}
@@ -126,3 +128,19 @@ kinds-eight =
 -- so every row of a message has
 pub message-eight : (held : Held) → Gives (message held) (λ m b. Eight (m .content .rows))
 message-eight held = gives-message table held λ n _. in-table kinds-eight other-eight n held
+
+-- whatever was read to it
+pub accepted-eight : (holding : Lent) (bytes : List ℕ) (stop start : ℕ) (rows : List ℤ) (m : Message) (next : ℕ) → reading holding bytes stop start rows ≡ accepted m next
+    → Eight (m .content .rows)
+accepted-eight holding bytes stop start rows m next =
+    reading-ends (λ o. o ≡ accepted m next → Eight (m .content .rows)) table bytes stop start rows holding
+    (λ r missing e. absurd (let z : _≡_ {A = ℕ} 0 1 = cc in omega arith))
+    (λ e. absurd (let z : _≡_ {A = ℕ} 0 1 = cc in omega arith))
+    (λ k taken ran e.
+    let same : k ≡ m = cc in
+    subst (λ (x : Message). Eight (x .content .rows)) same (message-eight (heldIn holding) .gives (bitsFrom bytes stop start) k taken ran))
+
+-- and they are those that it leaves first in the row buffer
+pub rows-left : (m : Message) (next : ℕ) (rows : List ℤ) → Eight (m .content .rows) → rowsIn (length (m .content .rows)) (rowsAfter (accepted m next) rows) ≡ m .content .rows
+unfolding rowsAfter over
+rows-left m next rows eight = rows-back (m .content .rows) eight (drop (length (flatten (m .content .rows))) rows)

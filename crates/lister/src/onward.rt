@@ -1,0 +1,95 @@
+// A stretch, message by message.
+ghost use mathlib.Core.Path.{_≡_};
+ghost use Prim.Native.Nat.{_^_, _≤_, _<_};
+ghost use lib.ListN.{length};
+ghost use lib.Seq.{sets};
+ghost use Rattle.format.specs.Answers.{numberOf};
+ghost use Rattle.lines.specs.Records.{messageRoom};
+ghost use Rattle.walk.specs.Standing.{standAt, Stands};
+ghost use Rattle.lister.specs.Steps.{stopText, listedAt, answered};
+use crate::State;
+use crate::Step;
+use crate::Work;
+use crate::open::next_line;
+use format::Answer;
+use format::Refusal;
+use lines::records;
+use walk::Tally;
+use walk::single;
+
+// Document 01's number of a refusal.
+fn number(r: Refusal) -> u64
+    ensures { λ n. ⌜ n ≡ numberOf r ⌝ }
+{
+    match r {
+        Refusal::Room => 1,
+        Refusal::Place => 2,
+        Refusal::Short => 3,
+        Refusal::Number => 4,
+        Refusal::SubType => 5,
+        Refusal::NoMask => 6,
+        Refusal::OtherIssue => 7,
+        Refusal::System => 8,
+        Refusal::Reserved => 9,
+        Refusal::Size => 10,
+        Refusal::Network => 11,
+        Refusal::Value => 12,
+    }
+}
+
+// Idle's number.
+const IDLE: u64 = 0;
+
+// The stop's line of text, after which the next line is gathered.
+fn stop(next: State, tally: Tally, number: u64, out: &mut [u8]) -> Step
+    requires { ⌜ (number < 2 ^ 31) × (tally .place < 2 ^ 31) × (tally .messages < 2 ^ 31) × (tally .rows < 2 ^ 31) × (messageRoom ≤ length (now out)) ⌝ }
+    ensures { λ r. ⌜ r ≡ record { state = next; taken = 0; given = length (stopText number tally) } ⌝ }
+    ensures { λ _. ⌜ now (out .exit) ≡ sets (now (out .entry)) 0 (stopText number tally) ⌝ }
+{
+    let given = records::stop(out, number, tally.place, tally.messages, tally.rows);
+    Step {
+        state: next,
+        taken: 0,
+        given,
+    }
+}
+
+// The next message of a stretch, or its stop.
+pub fn onward(
+    state: State,
+    bits: usize,
+    tally: Tally,
+    line: &[u8],
+    rows: &mut [i32],
+    out: &mut [u8],
+) -> Step
+    requires { ⌜ Stands (now line) bits (standAt (state .holding) tally (now rows)) × (messageRoom ≤ length (now out)) ⌝ }
+    ensures { λ r. ⌜ r ≡ answered (listedAt state bits tally (now (line .entry)) (now (rows .entry))) ⌝ }
+    ensures { λ _. ⌜ now (rows .exit) ≡ listedAt state bits tally (now (line .entry)) (now (rows .entry)) .rows ⌝ }
+    ensures { λ _. ⌜ now (out .exit) ≡ sets (now (out .entry)) 0 (listedAt state bits tally (now (line .entry)) (now (rows .entry)) .text) ⌝ }
+{
+    let reading = single::read(state.holding, line, bits, tally.place, rows);
+    let answer = reading.answer;
+    let holding = reading.holding;
+    match answer {
+        Answer::Message(head, next, n) => {
+            let given = records::message(out, head, tally.place, next, n, rows);
+            let behind = Tally {
+                place: next,
+                messages: tally.messages + 1,
+                rows: tally.rows + n,
+            };
+            Step {
+                state: State {
+                    number: state.number,
+                    work: Work::Walking(bits, behind),
+                    holding,
+                },
+                taken: 0,
+                given,
+            }
+        }
+        Answer::Idle => stop(next_line(state, holding), tally, IDLE, out),
+        Answer::Refused(r, _) => stop(next_line(state, holding), tally, number(r), out),
+    }
+}
