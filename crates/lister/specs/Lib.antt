@@ -1,0 +1,3 @@
+pub mod Gathering
+pub mod Steps
+pub mod Owed
