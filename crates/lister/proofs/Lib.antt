@@ -1,1 +1,3 @@
 pub mod LongLines
+pub mod Gathers
+pub mod Opens
