@@ -1,3 +1,4 @@
 pub mod LongLines
 pub mod Gathers
+pub mod Lefts
 pub mod Opens
