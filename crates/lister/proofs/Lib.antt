@@ -2,3 +2,4 @@ pub mod LongLines
 pub mod Gathers
 pub mod Lefts
 pub mod Opens
+pub mod Lists
