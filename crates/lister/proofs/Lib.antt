@@ -3,3 +3,5 @@ pub mod Gathers
 pub mod Lefts
 pub mod Opens
 pub mod Lists
+pub mod KeepsGood
+pub mod Owes
