@@ -63,7 +63,7 @@ module _ (room : ℕ) (large : lineRoom ≤ room) where
 -- ---- a piece of input
 
 -- a line's bytes are no more than there are
-up-to-le : (piece : List ℕ) → upTo piece ≤ length piece
+pub up-to-le : (piece : List ℕ) → upTo piece ≤ length piece
 unfolding upTo
 up-to-le [] = le-refl 0
 up-to-le (c ∷ cs) = go (eqb c lineFeed) (up-to-le cs)
@@ -71,6 +71,15 @@ up-to-le (c ∷ cs) = go (eqb c lineFeed) (up-to-le cs)
     go : (b : Bool) → upTo cs ≤ length cs → cond b 1 (suc (upTo cs)) ≤ suc (length cs)
     go true few = omega arith
     go false few = omega arith
+
+-- and some where there are any
+pub up-to-some : (c : ℕ) (cs : List ℕ) → 1 ≤ upTo (c ∷ cs)
+unfolding upTo
+up-to-some c cs = go (eqb c lineFeed)
+  where
+    go : (b : Bool) → 1 ≤ cond b 1 (suc (upTo cs))
+    go true = omega arith
+    go false = omega arith
 
 -- what comes of a piece to the line under way, and what is left
 lines-piece : (before piece rest : List ℕ)

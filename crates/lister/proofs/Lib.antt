@@ -5,3 +5,5 @@ pub mod Opens
 pub mod Lists
 pub mod KeepsGood
 pub mod Owes
+pub mod Bounds
+pub mod RunsList

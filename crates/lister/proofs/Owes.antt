@@ -38,12 +38,12 @@ under-way-le (Walking bits tally) = omega arith
 -- ---- what is owed
 
 -- only gathering takes bytes
-opens-takes : (s : State) (x : Line) (line : List ℕ) (rows : List ℤ) → opensAs s x line rows .taken ≡ 0
+pub opens-takes : (s : State) (x : Line) (line : List ℕ) (rows : List ℤ) → opensAs s x line rows .taken ≡ 0
 unfolding opensAs
 opens-takes s (says l) line rows = refl
 opens-takes s bad line rows = refl
 
-lists-takes : (s : State) (bits : ℕ) (tally : Tally) (o : Outcome) (line : List ℕ) (rows : List ℤ) → listsAs s bits tally o line rows .taken ≡ 0
+pub lists-takes : (s : State) (bits : ℕ) (tally : Tally) (o : Outcome) (line : List ℕ) (rows : List ℤ) → listsAs s bits tally o line rows .taken ≡ 0
 unfolding listsAs stopsAs
 lists-takes s bits tally (accepted m next) line rows = refl
 lists-takes s bits tally (idle holding) line rows = refl
