@@ -2,7 +2,7 @@
 use mathlib.Core.Path.{_≡_, refl, sym, ap, _∙_}
 use mathlib.Core.Bool.{Bool, true, false, cond}
 use mathlib.Core.List.{List, [], _∷_}
-use Prim.Native.Nat.{ℕ, _+_, _≤_, min}
+use Prim.Native.Nat.{ℕ, _+_, _≤_, _<_, min}
 use native.Mathlib.Nat.{min-le-left}
 use native.Mathlib.Omega.{arith}
 use lib.Dec.{eqb}
@@ -23,7 +23,7 @@ use Rattle.reader.specs.Readings.{outcomeAt, readAt}
 use Rattle.reader.proofs.Lents.{sound-lent}
 use Rattle.walk.specs.declared.Tally.{Tally}
 use Rattle.walk.specs.Standing.{standAt, Stands}
-use Rattle.walk.proofs.Going.{next-goes}
+use Rattle.walk.proofs.Going.{Goes, nextStand, next-goes}
 use Rattle.lister.specs.declared.State.{State}
 use Rattle.lister.specs.declared.Work.{Work}
 use Rattle.lister.specs.declared.Work.the-variants.{Gathering, Whole, Walking}
@@ -93,10 +93,17 @@ module _ (s : State) (line : List ℕ) (rows : List ℤ) (fine : sound (s .holdi
         ap (λ (l : Lent). reading l line bits (tally .place) rows) (sound-lent (s .holding) fine)
         ∙ reads-from table (maskOf (s .holding)) (sounds (s .holding) fine .good-held) line (tally .place) rows room bits inside
 
+    next-stand : (m : Message) (next : ℕ) → here ≡ accepted m next → Goes line bits (standAt (s .holding) tally rows) (nextStand (standAt (s .holding) tally rows) m next)
+    next-stand m next e = next-goes line bits (standAt (s .holding) tally rows) stands m next (sym read-there ∙ e)
+
+    -- a message takes some bits of the stretch
+    pub goes-forth : (m : Message) (next : ℕ) → here ≡ accepted m next → (tally .place < next) × (next ≤ bits)
+    goes-forth m next e = (next-stand m next e .past, next-stand m next e .stands .there)
+
     goes-good : (m : Message) (next : ℕ) → here ≡ accepted m next → let d = listsAs s bits tally (accepted m next) line rows in Good (d .state) (d .line) (d .rows)
     unfolding listsAs GoodWork
     goes-good m next e =
-        let after = next-goes line bits (standAt (s .holding) tally rows) stands m next (sym read-there ∙ e) .stands in
+        let after = next-stand m next e .stands in
         record {
           held = after .held;
           room = large;

@@ -7,3 +7,4 @@ pub mod KeepsGood
 pub mod Owes
 pub mod Bounds
 pub mod RunsList
+pub mod Lessens
