@@ -27,7 +27,6 @@ alike-hand d a = record { handed = ap (_∷_ d) (a .handed); stop = a .stop; pla
 
 module _ (t : ℕ → Kind) (bytes others : List ℕ) (end : ℕ) (same : take end (bits bytes) ≡ take end (bits others)) (long : end ≤ 8 * length bytes)
     (other : end ≤ 8 * length others) where
-
   pub reading-alike : (holding : Lent) (start : ℕ) (rows numbers : List ℤ) → rowRoom ≤ length rows → rowRoom ≤ length numbers
       → readingBy t holding bytes end start rows ≡ readingBy t holding others end start numbers
   unfolding readingBy lentTests placed bitsFrom

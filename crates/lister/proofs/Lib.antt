@@ -8,3 +8,4 @@ pub mod Owes
 pub mod Bounds
 pub mod RunsList
 pub mod Lessens
+pub mod RunsEnd

@@ -41,7 +41,6 @@ left-hand tally d w k input =
 
 module _ (s : State) (bits : ℕ) (tally : Tally) (line : List ℕ) (rows : List ℤ) (fine : sound (s .holding) ≡ true) (limit : bits ≤ stretchLimit)
     (large : lineRoom ≤ length line) (room : rowRoom ≤ length rows) where
-
   abbrev held : Held
   held = maskOf (s .holding)
 
@@ -64,7 +63,7 @@ module _ (s : State) (bits : ℕ) (tally : Tally) (line : List ℕ) (rows : List
       reading-alike table line line bits refl long long (lent held) (tally .place) zeros rows zeros-room room
       ∙ ap (λ (l : Lent). reading l line bits (tally .place) rows) (sym (sound-lent (s .holding) fine))
 
-  pub good-after : (m : Message) (next : ℕ) → here ≡ accepted m next → good (m .after) ≡ true
+  good-after : (m : Message) (next : ℕ) → here ≡ accepted m next → good (m .after) ≡ true
   unfolding lentAfter isHolding
   good-after m next e = rw (read-there ∙ e) at (reading-good (lent held) line bits (tally .place) zeros (sounds (s .holding) fine .good-held))
 

@@ -51,7 +51,6 @@ lists-takes s bits tally (refused r missing holding) line rows = refl
 
 module _ (s : State) (line : List ℕ) (rows : List ℤ) (fine : sound (s .holding) ≡ true) (large : lineRoom ≤ length line) (room : rowRoom ≤ length rows)
     (piece rest : List ℕ) (last : piece ≡ [] → rest ≡ []) where
-
   by-work : (work : Work) → GoodWork work (length line) → s .number + underWay work < 2 ^ 64
       → let d = stepBy work s line rows piece in
       owedBy work (maskOf (s .holding)) (s .number) line (piece ++ rest) ≡ behind (d .text) (owed (d .state) (d .line) (drop (d .taken) piece ++ rest))
