@@ -5,3 +5,14 @@ pub mod Comes
 pub mod Numbered
 pub mod Said
 pub mod Advances
+pub mod LongLines
+pub mod Gathers
+pub mod Lefts
+pub mod Opens
+pub mod Lists
+pub mod KeepsGood
+pub mod Owes
+pub mod Bounds
+pub mod RunsList
+pub mod Lessens
+pub mod RunsEnd

@@ -1,3 +1,4 @@
 pub mod Gathering
 pub mod Steps
 pub mod Owed
+pub mod Runs
