@@ -26,3 +26,4 @@ pub mod Together
 pub mod Ends
 pub mod Walks
 pub mod CutWalks
+pub mod Numbered
