@@ -27,3 +27,4 @@ pub mod Ends
 pub mod Walks
 pub mod CutWalks
 pub mod AlikeWalks
+pub mod Numbered

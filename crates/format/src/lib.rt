@@ -1,5 +1,7 @@
 // What a reader or a writer answers. The numbers of document 01, "Answer numbers", are those of
 // specs/Answers.antt.
+ghost use mathlib.Core.Path.{_≡_};
+ghost use Rattle.format.specs.Answers.{numberOf};
 
 // A head of eight numbers; -32768 is absent. It passes to C as it is.
 #[repr(C)]
@@ -28,6 +30,26 @@ pub enum Refusal {
     Size,
     Network,
     Value,
+}
+
+// Document 01's number of a refusal.
+pub fn number(r: Refusal) -> u64
+    ensures { λ n. ⌜ n ≡ numberOf r ⌝ }
+{
+    match r {
+        Refusal::Room => 1,
+        Refusal::Place => 2,
+        Refusal::Short => 3,
+        Refusal::Number => 4,
+        Refusal::SubType => 5,
+        Refusal::NoMask => 6,
+        Refusal::OtherIssue => 7,
+        Refusal::System => 8,
+        Refusal::Reserved => 9,
+        Refusal::Size => 10,
+        Refusal::Network => 11,
+        Refusal::Value => 12,
+    }
 }
 
 // What isn't there, in a head or a row.

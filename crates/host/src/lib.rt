@@ -4,7 +4,7 @@ ghost use mathlib.Core.Bool.{true};
 ghost use Prim.Native.Nat.{ℕ, _≤_};
 ghost use lib.ListN.{length};
 ghost use Rattle.format.specs.Answers as Said;
-ghost use Rattle.format.specs.Answers.{numberOf, saidAt};
+ghost use Rattle.format.specs.Answers.{saidAt};
 ghost use Rattle.format.specs.Ends.{Within};
 ghost use Rattle.format.specs.Messages.{maskMessage};
 ghost use Rattle.format.specs.Programs.{run};
@@ -18,7 +18,7 @@ use bits::part::counts;
 use format::ABSENT;
 use format::Answer;
 use format::Head;
-use format::Refusal;
+use format::number;
 use heads::OPENING;
 use holding::Holding;
 use reader::message::Found;
@@ -46,26 +46,6 @@ pub struct Walked {
 
 // The answer to a message.
 const MESSAGE: u64 = 255;
-
-// Document 01's number of a refusal.
-fn number(r: Refusal) -> u64
-    ensures { λ n. ⌜ n ≡ numberOf r ⌝ }
-{
-    match r {
-        Refusal::Room => 1,
-        Refusal::Place => 2,
-        Refusal::Short => 3,
-        Refusal::Number => 4,
-        Refusal::SubType => 5,
-        Refusal::NoMask => 6,
-        Refusal::OtherIssue => 7,
-        Refusal::System => 8,
-        Refusal::Reserved => 9,
-        Refusal::Size => 10,
-        Refusal::Network => 11,
-        Refusal::Value => 12,
-    }
-}
 
 // Document 01's number of a stop, and the one for a message.
 fn answer_number(answer: Answer) -> u64

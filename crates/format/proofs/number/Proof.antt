@@ -1,8 +1,8 @@
--- `host::number` meets its contract. Assumes nothing.
+-- `format::number` meets its contract. Assumes nothing.
 use borrow.Author.Needs.{needs}
-use Rattle.host.proofs.Numbered.{by-tag}
-use Rattle.host.proofs.number.Statement.{statement}
-use Rattle.host.proofs.number.Tie as tie
+use Rattle.format.proofs.Numbered.{by-tag}
+use Rattle.format.proofs.number.Statement.{statement}
+use Rattle.format.proofs.number.Tie as tie
 
 pub number-spec : {M : Type 1} → statement M
 number-spec =
