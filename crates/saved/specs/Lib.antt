@@ -1,3 +1,4 @@
 pub mod Gathering
 pub mod Slots
 pub mod Saves
+pub mod Saying

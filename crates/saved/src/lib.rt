@@ -1,5 +1,7 @@
 // The saved holding (document 01, "Saved mask and listing"): one line of text.
+pub mod candidate;
 pub mod cells;
+pub mod characters;
 pub mod line;
 pub mod systems;
 
