@@ -10,3 +10,5 @@ pub mod StripsSaid
 pub mod SlotsSaid
 pub mod MasksSaid
 pub mod LinesSaid
+pub mod Longest
+pub mod LoadedLines

@@ -2,3 +2,4 @@ pub mod Gathering
 pub mod Slots
 pub mod Saves
 pub mod Saying
+pub mod Loads
