@@ -12,3 +12,4 @@ pub mod MasksSaid
 pub mod LinesSaid
 pub mod Longest
 pub mod LoadedLines
+pub mod Trips

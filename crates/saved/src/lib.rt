@@ -1,7 +1,7 @@
 // The saved holding (document 01, "Saved mask and listing"): one line of text.
-pub mod candidate;
+mod candidate;
 pub mod cells;
-pub mod characters;
+mod characters;
 pub mod line;
 pub mod systems;
 

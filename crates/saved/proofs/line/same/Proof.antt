@@ -30,25 +30,25 @@ another a b other = go (sameList eqb a b) refl
     go false e = e
 
 returns : tie.Need-returns Inv-loop μ-loop
-returns c = let x = c .before .args in sym (another (x .a .now) (x .b .now) (λ e. c .if1 .taken (ap length e)))
+returns c = let x = c .before .args in sym (another (x .a .now) (x .b .now) (λ e. omega (arith, ap length e)))
 
 returns-2 : tie.Need-returns-2 Inv-loop μ-loop
 returns-2 c =
     let l = c .before .before .before .before in
     let x = l .before .before .args in
-    sym (another (x .a .now) (x .b .now) (λ e. c .if2 .taken (ap (λ (t : List ℕ). getD t (l .loop .i) 0) e)))
+    sym (another (x .a .now) (x .b .now) (λ e. omega (arith, ap (λ (t : List ℕ). getD t (l .loop .i) 0) e)))
 
 loop-again : tie.Need-loop-again Inv-loop μ-loop
 loop-again c =
     let l = c .before .before .before .before .loop in
-    (search needs, below-more _ _ (l .inv .1) (c .if2 .left))
+    (search needs, below-more _ _ (l .inv .1) (omega arith))
 
 returns-3 : tie.Need-returns-3 Inv-loop μ-loop
 returns-3 c =
     let l = c .before .loop in
     let e = c .before .before in
     let x = e .before .args in
-    let all : x .a .now ≡ x .b .now = ext-getD 0 (x .a .now) (x .b .now) (e .if1 .left) (λ k less. l .inv .1 k (omega arith)) in
+    let all : x .a .now ≡ x .b .now = ext-getD 0 (x .a .now) (x .b .now) (omega arith) (λ k less. l .inv .1 k (omega arith)) in
     sym (rw all (sameList-refl eqb eqb-refl (x .b .now)))
 
 pub same-spec : {M : Type 1} → statement M
