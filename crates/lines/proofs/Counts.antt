@@ -10,7 +10,7 @@ use lib.Seq.{drop-cons, take-suc, length-take-le}
 use borrow.Author.Tests.{eq-eqb, ne-eqb}
 use Rattle.format.specs.Same.{sameList}
 use Rattle.format.specs.Text.{tab, digitChar, charDigit, decimal, decimalValue}
-use Rattle.format.proofs.Texts.{choice, value-more}
+use Rattle.format.proofs.Texts.{value-more}
 use Rattle.lines.specs.Counting.{tabWithin, opensWith}
 use Rattle.text.specs.Digits.{lastDigits}
 use Rattle.text.proofs.LastDigits.{length-digits, own-digits}
@@ -46,11 +46,6 @@ module _ (line : List ℕ) (i : ℕ) where
 
   pub value-next : i < length line → decimalValue 0 (take (suc i) line) ≡ 10 * decimalValue 0 (take i line) + charDigit (getD line i 0)
   value-next there = rw (take-suc line i 0 there) (value-more 0 (take i line) (getD line i 0))
-
--- a character says less than 256
-pub said-small : (c : ℕ) → c < 256 → charDigit c < 256
-unfolding charDigit
-said-small c small = choice (λ (n : ℕ). n < 256) c 58 (c - 48) (c - 55) (λ h. omega arith) (λ h. omega arith)
 
 -- ---- lists that are the same, from their ends
 

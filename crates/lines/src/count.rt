@@ -2,28 +2,15 @@
 ghost use mathlib.Core.Path.{_≡_};
 ghost use Prim.Native.Nat.{_≤_, _<_, _^_};
 ghost use lib.ListN.{length, take};
-ghost use Rattle.format.specs.Text.{charDigit, decimalValue};
+ghost use Rattle.format.specs.Text.{decimalValue};
 ghost use Rattle.lines.specs.Counting.{tabWithin, opensWith};
 use text::TAB;
 use text::number::decimals;
 use text::number::digit;
+use text::number::said;
 
 // The most digits that a count has.
 pub const DIGITS: usize = 5;
-
-// What a character says as a digit, whether or not it is one.
-pub fn said(c: u8) -> u64
-    ensures { λ r. ⌜ r ≡ charDigit c ⌝ }
-{
-    if c < 48 {
-        return 0;
-    }
-    if c < 58 {
-        (c - 48) as u64
-    } else {
-        (c - 55) as u64
-    }
-}
 
 // How many characters stand before the first tab of a line, or before the sixth character.
 pub fn before_tab(line: &[u8]) -> usize

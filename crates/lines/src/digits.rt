@@ -2,8 +2,8 @@
 ghost use mathlib.Core.Path.{_≡_};
 ghost use Prim.Native.Nat.{_-_, _<_};
 ghost use Rattle.lines.specs.Digits.{kept, hexSays};
-use crate::count::said;
 use text::number::digit;
+use text::number::said;
 
 // How many bits a character says.
 const NIBBLE: usize = 4;

@@ -46,7 +46,7 @@ pub record Gathered (signals strip bits i : ℕ) : Type 0 where
 pub none-gathered : (signals strip : ℕ) → Gathered signals strip 0 16
 none-gathered signals strip = record { left = omega arith; few = omega arith; all = omega arith }
 
-bit-in : (bits d p n : ℕ) → bits * (p * 2) + (d * p + n) ≡ (bits * 2 + d) * p + n
+pub bit-in : (bits d p n : ℕ) → bits * (p * 2) + (d * p + n) ≡ (bits * 2 + d) * p + n
 bit-in bits d p n = rw (mul-comm p 2, ← (mul-assoc bits 2 p), add-mul (bits * 2) d p) (omega arith)
 
 -- a place more, set or not

@@ -5,3 +5,11 @@ pub mod SlotTexts
 pub mod SlotsLeft
 pub mod HeldTexts
 pub mod SavedLines
+pub mod SpreadBits
+pub mod StripsSaid
+pub mod SlotsSaid
+pub mod MasksSaid
+pub mod LinesSaid
+pub mod Longest
+pub mod LoadedLines
+pub mod Trips

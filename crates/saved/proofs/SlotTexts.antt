@@ -10,7 +10,9 @@ use lib.ListN.{length, take, length-append}
 use lib.Seq.{length-take-le}
 use borrow.Author.Tests.{ne-eqb}
 use mir.Val.{boolByte}
+use Rattle.bits.proofs.BitLists.{length-spell}
 use Rattle.bits.specs.BitLists.{spell}
+use Rattle.format.specs.Masks.{System}
 use Rattle.format.specs.Saved.{cellText, flagText, systemText}
 use Rattle.format.specs.Text.{tab, dash, decimal, digitsFrom, hex}
 use Rattle.holding.proofs.Places.{ones-places}
@@ -92,10 +94,14 @@ unfolding decimal digitsFrom
 flag-long true = refl
 flag-long false = refl
 
+-- five tabs, both masks and the flag stand beside its ID and its cell mask
+pub text-long : (s : System) → length (s .satellites) ≡ 40 → length (s .signals) ≡ 16 → length (systemText s) ≡ length (decimal (s .id)) + 20 + cellLong (length (s .cells))
+unfolding systemText
+text-long s whole long =
+    simp length-append (omega (arith, hex-long (s .satellites), hex-long (s .signals), flag-long (s .flag), ap length (flag-digit (s .flag)), cell-text-long (s .cells)))
+
 pub system-long : (s : Slot) (strips : List ℕ) → s .satellites < 2 ^ 40 → s .signals < 2 ^ 16 → ones (s .satellites) ≤ length strips
     → length (systemText (systemIn s strips)) ≡ systemLong s
+unfolding systemOf
 system-long s strips low small room =
-    let cells : length (cellText (systemIn s strips .cells)) ≡ cellLong (cellCount s) = cell-text-long (systemIn s strips .cells) ∙ ap (λ (n : ℕ). cellLong n) (cells-long s strips low small room) in
-    ap length (system-text s strips)
-    ∙ length-append (frontText s) (tab ∷ cellText (systemIn s strips .cells))
-    ∙ omega (arith, cells, front-long s, length-hex 10 (s .satellites), length-hex 4 (s .signals), flag-long (s .flag))
+    text-long (systemIn s strips) (length-spell 40 (s .satellites)) (length-spell 16 (s .signals)) ∙ rw (cells-long s strips low small room)

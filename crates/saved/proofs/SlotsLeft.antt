@@ -10,6 +10,7 @@ use lib.Count.{ones}
 use lib.Dec.{eqb, leb, ltb}
 use lib.ListN.{length, getD, take, drop, length-append, length-drop}
 use lib.Seq.{getD-drop, drop-drop}
+use borrow.Author.Tests.{ltb-true}
 use Rattle.format.proofs.Sames.{and-true}
 use Rattle.format.specs.Lengths.{total}
 use Rattle.format.specs.Saved.{systemText}
@@ -55,18 +56,30 @@ module _ {h : Holding} {i n : ℕ} (l : SlotsLeft h i n) where
     small = let s = sounds h (l .sounds-well) .shaped in below-at (2 ^ 16) (h .signals) (s .signals-narrow) i (omega (arith, few-slots, s .signals))
 
     -- it fits, and so do those after it
-    pub slot-passed : SlotsLeft h (i + 1) (n + ones (slotAt h i .satellites))
-    slot-passed =
+    pub slot-parts :
+        let s = slotAt h i in
+        (slotFits (take i (h .ids)) n (s .id) (s .satellites) (s .signals) (s .flag) (drop n (h .strips)) ≡ true)
+        × (slotsFit (h .nsat) (h .ncell) (h .count - suc i) (take (suc i) (h .ids)) (n + ones (s .satellites)) (onesIn (take (n + ones (s .satellites)) (h .strips))) (drop (suc i) (h .ids)) (drop (suc i) (h .satellites)) (drop (suc i) (h .signals)) (drop (suc i) (h .flags)) (drop (n + ones (s .satellites)) (h .strips)) ≡ true)
+    slot-parts =
         let s = slotAt h i in
         let inside : i < length (h .ids) = omega (arith, few-slots, sounds h (l .sounds-well) .shaped .ids) in
         let step = next-slot (h .nsat) (h .ncell) (h .count) n i (h .ids) (h .satellites) (h .signals) (h .flags) (h .strips) more inside in
-        let parts = and-true (slotFits (take i (h .ids)) n (s .id) (s .satellites) (s .signals) (s .flag) (drop n (h .strips))) _ (sym step ∙ l .fit) in
+        and-true (slotFits (take i (h .ids)) n (s .id) (s .satellites) (s .signals) (s .flag) (drop n (h .strips))) _ (sym step ∙ l .fit)
+
+    pub slot-passed : SlotsLeft h (i + 1) (n + ones (slotAt h i .satellites))
+    slot-passed =
+        let s = slotAt h i in
         record {
           sounds-well = l .sounds-well;
           upTo = omega arith;
-          few = fits-few (take i (h .ids)) n (s .id) (s .satellites) (s .signals) (s .flag) (drop n (h .strips)) (parts .0);
-          fit = rw (add-one i) (parts .1);
+          few = fits-few (take i (h .ids)) n (s .id) (s .satellites) (s .signals) (s .flag) (drop n (h .strips)) (slot-parts .0);
+          fit = rw (add-one i) (slot-parts .1);
         }
+
+    -- its ID is one of five
+    pub id-few : slotAt h i .id < 5
+    unfolding slotFits
+    id-few = ltb-true (slotAt h i .id) 5 (and-true (ltb (slotAt h i .id) 5) _ (slot-parts .0) .0)
 
     -- its strips are there
     pub strips-room : ones (slotAt h i .satellites) ≤ length (drop n (h .strips))

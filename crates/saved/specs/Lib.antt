@@ -1,3 +1,5 @@
 pub mod Gathering
 pub mod Slots
 pub mod Saves
+pub mod Saying
+pub mod Loads

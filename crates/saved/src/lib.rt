@@ -1,11 +1,15 @@
 // The saved holding (document 01, "Saved mask and listing"): one line of text.
+mod candidate;
 pub mod cells;
+mod characters;
 pub mod line;
 pub mod systems;
 
 ghost use mathlib.Core.Path.{_≡_};
-ghost use Rattle.format.specs.Saved.{saving, bufferAfter};
+ghost use Rattle.format.specs.declared.Refusal.the-variants.{Value};
+ghost use Rattle.format.specs.Saved.{unloaded, load, saving, bufferAfter};
 ghost use Rattle.holding.specs.Pictures.{maskOf, lentBy};
+ghost use Rattle.saved.specs.Loads.{loadingBy};
 ghost use Rattle.saved.specs.Saves.{savingBy};
 use format::Refusal;
 use holding::Holding;
@@ -14,6 +18,18 @@ use holding::Holding;
 pub enum Saving {
     Saved(usize),
     Refused(Refusal),
+}
+
+// How loading ends: a holding is loaded, or the line is refused.
+pub enum LoadAnswer {
+    Loaded,
+    Refused(Refusal),
+}
+
+// The answer, and the holding: the empty one beside a refusal.
+pub struct Loading {
+    pub answer: LoadAnswer,
+    pub holding: Holding,
 }
 
 // A holding as a line, from the lent buffer's first byte on; later bytes stay. A refusal changes nothing.
@@ -28,4 +44,31 @@ pub fn save(holding: Holding, line: &mut [u8]) -> Saving
         return Saving::Refused(Refusal::Room);
     }
     Saving::Saved(line::line_text(line, holding))
+}
+
+// The holding that a line says: the one that it would say, if that is one and the line is its own. Any other line is refused.
+pub fn load(line: &[u8]) -> Loading
+    ensures { λ r. ⌜ r ≡ loadingBy (load (now (line .entry))) ⌝ }
+{
+    let holding = candidate::candidate(line);
+    if !holding.is_sound() {
+        return refused();
+    }
+    if !line::is_own(holding, line) {
+        return refused();
+    }
+    Loading {
+        answer: LoadAnswer::Loaded,
+        holding,
+    }
+}
+
+// A line that the form can't produce.
+fn refused() -> Loading
+    ensures { λ r. ⌜ r ≡ loadingBy (unloaded Value) ⌝ }
+{
+    Loading {
+        answer: LoadAnswer::Refused(Refusal::Value),
+        holding: Holding::empty(),
+    }
 }

@@ -3,8 +3,10 @@ ghost use mathlib.Core.Path.{_≡_};
 ghost use mathlib.Core.Bool.{true};
 ghost use mathlib.Core.List.{flatMap};
 ghost use Prim.Native.Nat.{_+_, _≤_};
+ghost use lib.Dec.{eqb};
 ghost use lib.ListN.{length};
 ghost use lib.Seq.{sets};
+ghost use Rattle.format.specs.Same.{sameList};
 ghost use Rattle.format.specs.Saved.{systemText, heldText, lineOf};
 ghost use Rattle.holding.specs.Pictures.{maskOf, sound};
 ghost use Rattle.saved.specs.Slots.{systemsFrom};
@@ -19,6 +21,10 @@ use text::put;
 
 // The letter that a saved holding begins with.
 const LETTER: u8 = b'S';
+
+// The longest line of a sound holding: letter, tab and line feed, an issue of two digits, 22 characters for each system (its ID,
+// its masks, its flag and a dash, each after a tab), and four digits for each satellite's part of a cell mask.
+const LONGEST: usize = AROUND + 2 + 22 * Holding::SYSTEMS + 4 * Holding::SATELLITES;
 
 // How long the text of its systems is.
 fn systems_long(h: Holding) -> usize
@@ -93,4 +99,30 @@ pub fn line_text(line: &mut [u8], h: Holding) -> usize
     let second = put(line, first, TAB);
     let third = held_text(line, second, h);
     put(line, third, LINE_FEED)
+}
+
+fn same(a: &[u8], b: &[u8]) -> bool
+    ensures { λ r. ⌜ r ≡ sameList eqb (now (a .entry)) (now (b .entry)) ⌝ }
+{
+    if a.len() != b.len() {
+        return false;
+    }
+    let mut i = 0;
+    while i < a.len() {
+        if a[i] != b[i] {
+            return false;
+        }
+        i += 1;
+    }
+    true
+}
+
+// Whether a line is a sound holding's own.
+pub fn is_own(h: Holding, line: &[u8]) -> bool
+    requires { ⌜ sound h ≡ true ⌝ }
+    ensures { λ r. ⌜ r ≡ sameList eqb (lineOf (maskOf h)) (now (line .entry)) ⌝ }
+{
+    let mut own = [0u8; LONGEST];
+    let n = line_text(&mut own, h);
+    same(&own[..n], line)
 }

@@ -49,9 +49,9 @@ fn cell_count(s: Slot) -> usize
 }
 
 // How many digits a satellite mask and a signal mask have.
-const SATELLITE_DIGITS: usize = Holding::SATELLITE_MASK / cells::DIGIT;
+pub const SATELLITE_DIGITS: usize = Holding::SATELLITE_MASK / cells::DIGIT;
 
-const SIGNAL_DIGITS: usize = Holding::SIGNAL_MASK / cells::DIGIT;
+pub const SIGNAL_DIGITS: usize = Holding::SIGNAL_MASK / cells::DIGIT;
 
 // How long a system's text is without its ID and its cell mask: five tabs, both masks and the flag.
 const FIXED: usize = 5 + SATELLITE_DIGITS + SIGNAL_DIGITS + 1;

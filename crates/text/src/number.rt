@@ -5,7 +5,7 @@ ghost use lib.ListN.{length};
 ghost use lib.Seq.{sets};
 ghost use Rattle.format.specs.Listing.{valueText};
 ghost use Rattle.bits.specs.BitLists.{spell};
-ghost use Rattle.format.specs.Text.{digitChar, decimal};
+ghost use Rattle.format.specs.Text.{digitChar, charDigit, decimal};
 ghost use Rattle.format.specs.Text as Text;
 ghost use Rattle.text.specs.Digits.{lastDigits};
 use crate::DASH;
@@ -19,6 +19,20 @@ pub fn digit(n: u64) -> u8
     ensures { λ r. ⌜ r ≡ digitChar n ⌝ }
 {
     if n < 10 { 48 + n as u8 } else { 55 + n as u8 }
+}
+
+// What a character says as a digit, whether or not it is one.
+pub fn said(c: u8) -> u64
+    ensures { λ r. ⌜ r ≡ charDigit c ⌝ }
+{
+    if c < 48 {
+        return 0;
+    }
+    if c < 58 {
+        (c - 48) as u64
+    } else {
+        (c - 55) as u64
+    }
 }
 
 // The last k digits of a number in a base, from a place on; the place behind them.

@@ -7,7 +7,8 @@ use native.Mathlib.Omega.{arith}
 use borrow.Author.Needs.{needs}
 use lib.ListN.{length, getD, take}
 use Rattle.format.specs.Text.{decimalValue}
-use Rattle.lines.proofs.Counts.{value-next, said-small}
+use Rattle.text.proofs.Characters.{said-small}
+use Rattle.lines.proofs.Counts.{value-next}
 use Rattle.lines.proofs.count.number_in.Statement.{statement}
 use Rattle.lines.proofs.count.number_in.Tie as tie
 

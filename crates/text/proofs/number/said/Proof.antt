@@ -1,12 +1,12 @@
--- `lines::count::said` meets its contract. Assumes nothing.
+-- `text::number::said` meets its contract. Assumes nothing.
 use mathlib.Core.Path.{_≡_, sym}
 use Prim.Native.Nat.{_-_}
 use native.Mathlib.Omega.{arith}
 use borrow.Author.Needs.{needs}
 use borrow.Author.Tests.{lt-ltb, le-ltb}
 use Rattle.format.specs.Text.{charDigit}
-use Rattle.lines.proofs.count.said.Statement.{statement}
-use Rattle.lines.proofs.count.said.Tie as tie
+use Rattle.text.proofs.number.said.Statement.{statement}
+use Rattle.text.proofs.number.said.Tie as tie
 
 returns : tie.Need-returns
 unfolding charDigit
