@@ -16,7 +16,7 @@ use Rattle.lister.specs.declared.Work.{Work}
 use Rattle.lister.specs.declared.Work.the-variants.{Gathering, Whole, Walking}
 use Rattle.lister.specs.Gathering.{upTo, gathered}
 use Rattle.lister.specs.Steps.{counted, gathers, opensAs, stopsAs, listsAs, stepBy, stepOf}
-use Rattle.lister.proofs.Gathers.{up-to-le, up-to-some}
+use Rattle.lister.proofs.LineFeeds.{up-to-le, up-to-some}
 use Rattle.lister.proofs.Owes.{underWay, under-way-le, opens-takes, lists-takes}
 
 -- ---- bytes taken and bytes left

@@ -16,6 +16,7 @@ use Rattle.lister.specs.declared.Work.the-variants.{Gathering, Whole}
 use Rattle.lister.specs.Gathering.{upTo, endsIn, keptIn, filledTo, gathered}
 use Rattle.lister.specs.Owed.{owedBy}
 use Rattle.lister.specs.Steps.{lineRoom}
+use Rattle.lister.proofs.LineFeeds.{up-to-le}
 use Rattle.lister.proofs.LongLines.{cut-says}
 
 -- ---- lists that begin alike
@@ -61,25 +62,6 @@ module _ (room : ℕ) (large : lineRoom ≤ room) where
       go false f rest = rest f
 
 -- ---- a piece of input
-
--- a line's bytes are no more than there are
-pub up-to-le : (piece : List ℕ) → upTo piece ≤ length piece
-unfolding upTo
-up-to-le [] = le-refl 0
-up-to-le (c ∷ cs) = go (eqb c lineFeed) (up-to-le cs)
-  where
-    go : (b : Bool) → upTo cs ≤ length cs → cond b 1 (suc (upTo cs)) ≤ suc (length cs)
-    go true few = omega arith
-    go false few = omega arith
-
--- and some where there are any
-pub up-to-some : (c : ℕ) (cs : List ℕ) → 1 ≤ upTo (c ∷ cs)
-unfolding upTo
-up-to-some c cs = go (eqb c lineFeed)
-  where
-    go : (b : Bool) → 1 ≤ cond b 1 (suc (upTo cs))
-    go true = omega arith
-    go false = omega arith
 
 -- what comes of a piece to the line under way, and what is left
 lines-piece : (before piece rest : List ℕ)

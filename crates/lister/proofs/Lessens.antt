@@ -20,7 +20,7 @@ use Rattle.lister.specs.declared.Work.the-variants.{Gathering, Whole, Wa
 use Rattle.lister.specs.Gathering.{upTo, endsIn, filledTo, gathered}
 use Rattle.lister.specs.Steps.{gathers, opensAs, stopsAs, listsAs, stepBy, stepOf, lineRoom, GoodWork, Good}
 use Rattle.lister.proofs.Bounds.{left-length}
-use Rattle.lister.proofs.Gathers.{up-to-le, up-to-some}
+use Rattle.lister.proofs.LineFeeds.{up-to-le, up-to-some}
 use Rattle.lister.proofs.KeepsGood.{goes-forth}
 use Rattle.lister.proofs.Owes.{opens-takes, lists-takes}
 

@@ -27,10 +27,10 @@ module _ (piece : List ℕ) (i : ℕ) where
   unfolding upTo
   feed-never past = rw (drop-of-length-le piece past)
 
-pub up-to-near : (piece : List ℕ) → upTo piece ≤ length piece
+pub up-to-le : (piece : List ℕ) → upTo piece ≤ length piece
 unfolding upTo
-up-to-near [] = omega arith
-up-to-near (c ∷ cs) = go (eqb c lineFeed) (up-to-near cs)
+up-to-le [] = omega arith
+up-to-le (c ∷ cs) = go (eqb c lineFeed) (up-to-le cs)
   where
     go : (b : Bool) → upTo cs ≤ length cs → cond b 1 (suc (upTo cs)) ≤ suc (length cs)
     go true near = omega arith

@@ -13,7 +13,7 @@ use Rattle.lister.specs.declared.gather.Gathered.{Gathered}
 use Rattle.lister.specs.declared.Work.{Work}
 use Rattle.lister.specs.declared.Work.the-variants.{Gathering, Whole}
 use Rattle.lister.specs.Gathering.{upTo, keptIn, filledTo, gathered}
-use Rattle.lister.proofs.LineFeeds.{some-gathered, none-gathered, up-to-near}
+use Rattle.lister.proofs.LineFeeds.{some-gathered, none-gathered, up-to-le}
 
 abbrev pub Answers : Gathered → List ℕ → List ℕ → ℕ → List ℕ → Type 0
 Answers g after line filled piece =
@@ -38,7 +38,7 @@ module _ (line : List ℕ) (filled : ℕ) (piece : List ℕ) where
       → (to ≡ filledTo (length line) filled (length (take n piece))) × (after ≡ keptIn line filled (take n piece))
       → Answers (record { work = work; taken = n }) after line filled piece
   some-answers n to after e some work w kept =
-      let long : length (take (upTo piece) piece) ≡ upTo piece = length-take-le (upTo piece) piece (up-to-near piece) in
+      let long : length (take (upTo piece) piece) ≡ upTo piece = length-take-le (upTo piece) piece (up-to-le piece) in
       let filled-to : to ≡ filledTo (length line) filled (upTo piece) = rw (e, long) at (kept .0) in
       let last : cond (eqb (getD piece (upTo piece - 1) 0) lineFeed) (Whole (filledTo (length line) filled (upTo piece))) (Gathering (filledTo (length line) filled (upTo piece))) ≡ work = rw (e, filled-to) at w in
       let same : work ≡ gathered (length line) filled piece = sym last ∙ sym (some-gathered (length line) filled piece (omega (arith, e))) in

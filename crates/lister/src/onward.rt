@@ -3,7 +3,6 @@ ghost use mathlib.Core.Path.{_≡_};
 ghost use Prim.Native.Nat.{_^_, _≤_, _<_};
 ghost use lib.ListN.{length};
 ghost use lib.Seq.{sets};
-ghost use Rattle.format.specs.Answers.{numberOf};
 ghost use Rattle.lines.specs.Records.{messageRoom};
 ghost use Rattle.walk.specs.Standing.{standAt, Stands};
 ghost use Rattle.lister.specs.Steps.{stopText, listedAt, answered};
@@ -12,30 +11,10 @@ use crate::Step;
 use crate::Work;
 use crate::open::next_line;
 use format::Answer;
-use format::Refusal;
+use format::number;
 use lines::records;
 use walk::Tally;
 use walk::single;
-
-// Document 01's number of a refusal.
-fn number(r: Refusal) -> u64
-    ensures { λ n. ⌜ n ≡ numberOf r ⌝ }
-{
-    match r {
-        Refusal::Room => 1,
-        Refusal::Place => 2,
-        Refusal::Short => 3,
-        Refusal::Number => 4,
-        Refusal::SubType => 5,
-        Refusal::NoMask => 6,
-        Refusal::OtherIssue => 7,
-        Refusal::System => 8,
-        Refusal::Reserved => 9,
-        Refusal::Size => 10,
-        Refusal::Network => 11,
-        Refusal::Value => 12,
-    }
-}
 
 // Idle's number.
 const IDLE: u64 = 0;

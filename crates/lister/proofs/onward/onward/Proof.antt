@@ -20,7 +20,7 @@ use Rattle.lister.specs.declared.Work.the-variants.{Walking}
 use Rattle.lines.specs.Records.{messageRoom}
 use Rattle.lister.specs.Steps.{Done, stopText, nextLine, listedAt, answered}
 use Rattle.lister.proofs.Comes.{MessageListed, message-listed, StopListed, stop-listed}
-use Rattle.lister.proofs.Numbered.{number-small}
+use Rattle.format.proofs.Numbered.{number-small}
 use Rattle.lister.proofs.onward.onward.Statement.{statement}
 use Rattle.lister.proofs.onward.onward.Tie as tie
 use Rattle.walk.specs.declared.Tally.{Tally}
