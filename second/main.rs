@@ -8,7 +8,7 @@ mod tests;
 use std::io::{self, BufWriter, Write};
 use std::process::ExitCode;
 
-use codec::emit::texts::{emit_texts, emit_sweep, Kind};
+use codec::emit::texts::{emit_sweep, emit_texts, Kind};
 use codec::emit::{emit_bench, emit_fixed, emit_read, emit_stretch, emit_walk, Answers};
 use codec::generate::inputs::put_input;
 use codec::generate::texts::LINE_ROOM;
@@ -28,9 +28,7 @@ fn main() -> ExitCode {
         ["lines", seed, count] => print_lines(seed, count),
         ["emit", "fixed"] => emit(emit_fixed),
         ["emit", "bench"] => emit(emit_bench),
-        ["emit", "sweep", "save"] => emit(|output| emit_sweep(output, Kind::Save)),
-        ["emit", "sweep", "load"] => emit(|output| emit_sweep(output, Kind::Load)),
-        ["emit", "sweep", "line"] => emit(|output| emit_sweep(output, Kind::Line)),
+        ["emit", "sweep", kind] => emit_swept(kind),
         ["emit", kind, seed, count] => emit_random(kind, seed, count),
         _ => Err(fault(USAGE)),
     };
@@ -82,11 +80,16 @@ fn emit_random(kind: &str, seed: &str, count: &str) -> io::Result<()> {
         "read" => emit(|output| emit_read(output, seed, count)),
         "stretch" => emit(|output| emit_stretch(output, seed, count)),
         "walk" => emit(|output| emit_walk(output, seed, count)),
-        "save" => emit(|output| emit_texts(output, Kind::Save, seed, count)),
-        "load" => emit(|output| emit_texts(output, Kind::Load, seed, count)),
-        "line" => emit(|output| emit_texts(output, Kind::Line, seed, count)),
-        _ => Err(fault(USAGE)),
+        _ => {
+            let kind = Kind::named(kind).ok_or_else(|| fault(USAGE))?;
+            emit(|output| emit_texts(output, kind, seed, count))
+        }
     }
+}
+
+fn emit_swept(kind: &str) -> io::Result<()> {
+    let kind = Kind::named(kind).ok_or_else(|| fault(USAGE))?;
+    emit(|output| emit_sweep(output, kind))
 }
 
 type Output = BufWriter<io::StdoutLock<'static>>;

@@ -38,6 +38,15 @@ pub enum Kind {
 }
 
 impl Kind {
+    pub fn named(name: &str) -> Option<Kind> {
+        match name {
+            "save" => Some(Kind::Save),
+            "load" => Some(Kind::Load),
+            "line" => Some(Kind::Line),
+            _ => None,
+        }
+    }
+
     fn name(self) -> &'static [u8; 8] {
         match self {
             Kind::Save => b"save\0\0\0\0",
@@ -85,7 +94,12 @@ impl Kind {
 }
 
 /// Writes so many random records of the kind.
-pub fn emit_texts(output: &mut impl Write, kind: Kind, seed: u64, count: usize) -> io::Result<Answers> {
+pub fn emit_texts(
+    output: &mut impl Write,
+    kind: Kind,
+    seed: u64,
+    count: usize,
+) -> io::Result<Answers> {
     let mut answers = Answers::default();
     let mut random = Random::new(seed);
     put_header(output, kind.name(), count)?;
@@ -106,7 +120,12 @@ pub fn emit_sweep(output: &mut impl Write, kind: Kind) -> io::Result<Answers> {
     Ok(answers)
 }
 
-fn put_text(output: &mut impl Write, answers: &mut Answers, kind: Kind, case: &Text) -> io::Result<()> {
+fn put_text(
+    output: &mut impl Write,
+    answers: &mut Answers,
+    kind: Kind,
+    case: &Text,
+) -> io::Result<()> {
     let (done, written) = kind.done(case);
     match done.number {
         DONE => answers.accepted += 1,

@@ -35,7 +35,8 @@ pub const BAD: [Bad; 20] = [
     }),
     ("sign or space", 3, |random, bits| {
         let count = bits.len();
-        let forms = [format!("+{count}"), format!("-{count}"), format!(" {count}"), format!("{count} ")];
+        let forms =
+            [format!("+{count}"), format!("-{count}"), format!(" {count}"), format!("{count} ")];
         with_count(&bits, &forms[random.below(forms.len())])
     }),
     ("count in hex", 1, |_, bits| with_count(&bits, &format!("{:X}", bits.len()))),
@@ -65,7 +66,8 @@ pub const BAD: [Bad; 20] = [
         good(&stretch(random, STRETCH_BITS + more))
     }),
     ("count over 50850", 2, |random, bits| {
-        let counts = ["50851", "50852", "50856", "99999", "100000", "4294967295", "18446744073709551615"];
+        let counts =
+            ["50851", "50852", "50856", "99999", "100000", "4294967295", "18446744073709551615"];
         with_count(&bits, random.pick(&counts))
     }),
     ("empty line", 1, |_, _| b"\n".to_vec()),

@@ -204,10 +204,7 @@ fn with_field(
 }
 
 /// A good line with its fields edited at some place.
-fn with_fields(
-    random: &mut Random,
-    edit: fn(&mut Random, &mut Vec<String>, usize),
-) -> Vec<u8> {
+fn with_fields(random: &mut Random, edit: fn(&mut Random, &mut Vec<String>, usize)) -> Vec<u8> {
     let mut fields = fields(&with_systems(random));
     let at = random.below(fields.len());
     edit(random, &mut fields, at);
