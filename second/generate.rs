@@ -112,6 +112,16 @@ fn dirty_bytes(random: &mut Random, bits: &[bool]) -> Vec<u8> {
     pack(&all)
 }
 
+/// The bits in hex, the last digit filled up with zero bits.
+fn digits(bits: &[bool]) -> String {
+    let digit = |four: &[bool]| {
+        let weights = [8, 4, 2, 1];
+        let value: u8 = four.iter().zip(weights).map(|(&one, weight)| u8::from(one) * weight).sum();
+        format!("{value:X}")
+    };
+    bits.chunks(4).map(digit).collect()
+}
+
 /// One of the kinds, each as often as it says, with its name.
 fn weighted<T: Copy>(random: &mut Random, kinds: &[(&'static str, usize, T)]) -> (&'static str, T) {
     let total = kinds.iter().map(|kind| kind.1).sum();

@@ -100,9 +100,37 @@ expected 'no lines' <<'END'
 = S -
 END
 
-# ---- lines by the numbers, fed as they are
+# ---- small inputs, and lines around lengths that a buffer may have, fed as they are
 
 feed() { cat; }
+for text in '\n' '\n\n' '0\t\n' '0\t' '0' '\t' '\000' '\000\n' '0\t\r\n' '0\t\r' '1\t8\n1\t8' '12\tFE9\n\n12\tFE8\n'; do
+    printf "$text" >"$work/in"
+    agreed "$text"
+done
+head -c 3000000 /dev/zero | tr '\000' A >"$work/in"
+agreed 'megabytes without a line feed'
+
+# edges: a good line and a bad one of each length around some, and around 50,850 bits
+edges() {
+    awk 'function both(length_of_line, digits) {
+            digits = length_of_line - 2 - length(4 * length_of_line)
+            while (length(4 * digits) + digits + 2 < length_of_line) digits++
+            print 4 * digits "\t" substr(zeros, 1, digits)
+            print "8\t" substr(zeros, 1, length_of_line - 3)
+        }
+        BEGIN {
+            zeros = "0"
+            while (length(zeros) < 70000) zeros = zeros zeros
+            for (n = split("64 256 512 4096 8192 12288 12720 16384 32768 65536", around); n > 0; n--)
+                for (more = -4; more <= 4; more++) both(around[n] + more)
+        }'
+}
+
+edges >"$work/in"
+agreed 'lengths of lines'
+
+# ---- lines by the numbers
+
 kinds=$work/kinds
 printed=$work/printed
 
@@ -127,6 +155,9 @@ for sizes in 1 7 4096 '1 4096 2 63 3'; do
         agreed "60 lines of seed $seed in pieces of $sizes"
     done
 done
+feed() { pieces 4096 1; }
+edges >"$work/in"
+agreed 'lengths of lines in pieces'
 
 # ---- what came
 

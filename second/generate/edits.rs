@@ -48,13 +48,15 @@ pub const EDITS: [Edit; 17] = [
     ("CR LF", |_, line| ending(line, b"\r\n")),
     ("behind the line feed", behind),
     ("in front", |random, line| {
-        let front: &[u8] = random.pick(&[b" ", b"\t", b"\n", b"\0", b"0", b"\xEF\xBB\xBF"]);
-        line.splice(0..0, front.iter().copied());
+        line.splice(0..0, random.pick(&FRONTS).iter().copied());
     }),
 ];
 
 /// Those that a line can have, and those that it can't but that are near.
 pub const CHARACTERS: &[u8] = b"0123456789ABCDEFGabcdf-+S \t\n\r\0/:@`x.\x80\xFF";
+
+/// What may stand in front of a line; the last is a mark of its encoding.
+const FRONTS: [&[u8]; 6] = [b" ", b"\t", b"\n", b"\0", b"0", b"\xEF\xBB\xBF"];
 
 fn change(random: &mut Random, line: &mut [u8], to: &[u8]) {
     let at = random.below(line.len());
@@ -105,4 +107,16 @@ fn behind(random: &mut Random, line: &mut Vec<u8>) {
 fn ending(line: &mut Vec<u8>, ending: &[u8]) {
     line.pop();
     line.extend(ending);
+}
+
+/// Fewer than so many bytes, in half of all cases with a line feed after them.
+pub fn any_line(random: &mut Random, below: usize, byte: fn(&mut Random) -> u8) -> Vec<u8> {
+    let mut line = Vec::new();
+    for _ in 0..random.below(below) {
+        line.push(byte(random));
+    }
+    if random.chance(50) {
+        line.push(b'\n');
+    }
+    line
 }

@@ -3,7 +3,8 @@
 
 use super::super::random::Random;
 use super::super::STRETCH_BITS;
-use super::edits::CHARACTERS;
+use super::digits;
+use super::edits::{any_line, CHARACTERS};
 
 /// A kind of length of a stretch: its name, how often it comes, and one of it.
 pub type Length = (&'static str, usize, fn(&mut Random) -> usize);
@@ -72,8 +73,8 @@ pub const BAD: [Bad; 20] = [
     }),
     ("empty line", 1, |_, _| b"\n".to_vec()),
     ("no bytes", 1, |_, _| Vec::new()),
-    ("random bytes", 1, |random, _| any(random, |random| random.next() as u8)),
-    ("random characters", 2, |random, _| any(random, |random| random.pick(CHARACTERS))),
+    ("random bytes", 1, |random, _| any_line(random, 40, |random| random.next() as u8)),
+    ("random characters", 2, |random, _| any_line(random, 40, |random| random.pick(CHARACTERS))),
     ("long line", 1, |random, bits| {
         let length = STRETCH_BITS / 4 + random.below(20_000);
         let digits = random.pick(&["0", "A", "1\t"]).repeat(length);
@@ -97,15 +98,6 @@ pub fn good(bits: &[bool]) -> Vec<u8> {
 
 fn with_count(bits: &[bool], count: &str) -> Vec<u8> {
     format!("{count}\t{}\n", digits(bits)).into_bytes()
-}
-
-fn digits(bits: &[bool]) -> String {
-    let digit = |four: &[bool]| {
-        let weights = [8, 4, 2, 1];
-        let value: u8 = four.iter().zip(weights).map(|(&one, weight)| u8::from(one) * weight).sum();
-        char::from(b"0123456789ABCDEF"[usize::from(value)])
-    };
-    bits.chunks(4).map(digit).collect()
 }
 
 /// These bits, or one where there are none.
@@ -156,17 +148,6 @@ fn lower_case_digit(random: &mut Random, bits: Vec<bool>) -> Vec<u8> {
     } else {
         let at = bits.len().to_string().len() + 1 + letter / 4;
         line[at].make_ascii_lowercase();
-    }
-    line
-}
-
-fn any(random: &mut Random, byte: fn(&mut Random) -> u8) -> Vec<u8> {
-    let mut line = Vec::new();
-    for _ in 0..random.below(40) {
-        line.push(byte(random));
-    }
-    if random.chance(50) {
-        line.push(b'\n');
     }
     line
 }

@@ -4,8 +4,8 @@
 
 use super::super::holding::{Holding, Mask, MAX_CELLS};
 use super::super::random::Random;
-use super::edits::CHARACTERS;
-use super::masks;
+use super::edits::{any_line, CHARACTERS};
+use super::{digits, masks};
 
 /// Fields of a system: ID, satellite mask, signal mask, flag, cell mask.
 const SYSTEM: usize = 5;
@@ -60,8 +60,8 @@ pub const BAD: [Bad; 27] = [
     ("fields cut", 2, |random| with_fields(random, |_, fields, at| fields.truncate(at))),
     ("near the empty one", 3, |random| random.pick(&NEAR_EMPTY).to_vec()),
     ("no bytes", 1, |_| Vec::new()),
-    ("random bytes", 1, |random| any(random, 80, |random| random.next() as u8)),
-    ("random characters", 2, |random| any(random, 40, |random| random.pick(CHARACTERS))),
+    ("random bytes", 1, |random| any_line(random, 80, |random| random.next() as u8)),
+    ("random characters", 2, |random| any_line(random, 40, |random| random.pick(CHARACTERS))),
     ("long line", 1, long_line),
 ];
 
@@ -118,23 +118,11 @@ fn fields(mask: &Mask) -> Vec<String> {
         fields.push(format!("{:04X}", system.signals));
         fields.push(if system.cells.is_some() { "1" } else { "0" }.to_string());
         fields.push(match &system.cells {
-            Some(cells) if !cells.is_empty() => digits(cells, 0),
+            Some(cells) if !cells.is_empty() => digits(cells),
             _ => "-".to_string(),
         });
     }
     fields
-}
-
-/// The bits in hex after so many zero bits, and before as many as fill a digit.
-fn digits(bits: &[bool], before: usize) -> String {
-    let mut all = vec![false; before];
-    all.extend(bits);
-    let digit = |four: &[bool]| {
-        let weights = [8, 4, 2, 1];
-        let value: u8 = four.iter().zip(weights).map(|(&one, weight)| u8::from(one) * weight).sum();
-        format!("{value:X}")
-    };
-    all.chunks(4).map(digit).collect()
 }
 
 /// A good mask with a system, of any kind.
@@ -277,26 +265,16 @@ fn spare_bits(random: &mut Random) -> Vec<u8> {
     let set = random.below(spare);
     cells.extend((0..spare).map(|at| at == set));
     let mut fields = fields(&mask);
-    fields[FIRST + CELLS] = digits(&cells, 0);
+    fields[FIRST + CELLS] = digits(&cells);
     joined(&fields)
 }
 
 fn padded_in_front(random: &mut Random) -> Vec<u8> {
     let (mask, cells) = with_spare_bits(random);
+    let spare = vec![false; 4 - cells.len() % 4];
     let mut fields = fields(&mask);
-    fields[FIRST + CELLS] = digits(&cells, 4 - cells.len() % 4);
+    fields[FIRST + CELLS] = digits(&[spare, cells].concat());
     joined(&fields)
-}
-
-fn any(random: &mut Random, below: usize, byte: fn(&mut Random) -> u8) -> Vec<u8> {
-    let mut line = Vec::new();
-    for _ in 0..random.below(below) {
-        line.push(byte(random));
-    }
-    if random.chance(50) {
-        line.push(b'\n');
-    }
-    line
 }
 
 /// Far longer than any line of the form: a number, a cell mask, or system after

@@ -1,5 +1,6 @@
 //! Lent bytes that are no holding, one kind for each way in which docs/HOST.md
-//! says that they can be none. What some kinds leave may be a holding again.
+//! says that they can be none, at the bytes that it names. What some kinds leave
+//! may be a holding again.
 
 use super::super::host::{encode, HOLDING_BYTES};
 use super::super::random::Random;

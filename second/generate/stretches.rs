@@ -84,10 +84,10 @@ impl Run {
         let random = &mut self.random;
         let mut bits = Vec::new();
         for _ in 0..1 + random.below(5) {
-            let service = random.chance(30);
-            let drawn = match service {
-                true => messages::service(random),
-                false => messages::correction(random, &self.sender),
+            let drawn = if random.chance(30) {
+                messages::service(random)
+            } else {
+                messages::correction(random, &self.sender)
             };
             bits.extend(drawn.bits);
         }

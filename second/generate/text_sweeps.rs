@@ -51,7 +51,8 @@ fn savings_of(holding: &Holding) -> Vec<Text> {
 
 pub fn loadings() -> Vec<Text> {
     let mut lines = short_lines(b"S\t-\n01a6");
-    for line in [b"S\t-\n", WORKED, &saved_lines::good(&Holding::Held(sweeps::five_systems()))] {
+    let five_systems = saved_lines::good(&Holding::Held(sweeps::five_systems()));
+    for line in [&b"S\t-\n"[..], WORKED, &five_systems[..]] {
         lines.extend(edited(line));
     }
     lines.extend((0..300).map(|iod| format!("S\t{iod}\n").into_bytes()));
