@@ -1,7 +1,8 @@
-/* Hundurzek for C: one Compact SSR message at a time, or a whole stretch of them. docs/HOST.md fixes, byte by
-   byte, how a holding and rows pass, what each function answers for every input, and what its caller sees to. A
-   slice is a pointer and a count, never null. A result of more than one number is written where the first pointer
-   points, and that pointer is returned. Counts and places have 64 bits on every processor. */
+/* Hundurzek for C: one Compact SSR message at a time, or a whole stretch of them; a holding as a line of text, and the
+   lines that say stretches. docs/HOST.md fixes, byte by byte, how a holding and rows pass, what each function answers
+   for every input, and what its caller sees to. A slice is a pointer and a count, never null. A result of more than
+   one number is written where the first pointer points, and that pointer is returned. Counts and places have 64 bits
+   on every processor. */
 #ifndef HUNDURZEK_H
 #define HUNDURZEK_H
 
@@ -13,8 +14,13 @@
 #define HUNDURZEK_ROOM 2048
 #define HUNDURZEK_ABSENT (-32768)
 
-/* The answer to reading that is a message; 0 to 12 are document 01's numbers. */
+/* The answer to reading that is a message, and to what is done with a line; 0 to 12 are document 01's numbers. */
 #define HUNDURZEK_MESSAGE 255
+#define HUNDURZEK_DONE 255
+
+/* Bytes that are room for every saved line, and for the stretch of every line of the listing's input. */
+#define HUNDURZEK_LINE 512
+#define HUNDURZEK_STRETCH 6357
 
 typedef struct {
   int32_t subtype;
@@ -43,6 +49,16 @@ typedef struct {
   uint64_t rows;     /* and the rows of all of them */
 } hundurzek_walked;
 
+typedef struct {
+  uint64_t answer; /* HUNDURZEK_DONE; else 1 or 12 */
+  uint64_t count;  /* of a saved line's bytes, or of a stretch's bits; else 0 */
+} hundurzek_done;
+
+typedef struct {
+  uint64_t answer;                    /* HUNDURZEK_DONE; else 12 */
+  uint8_t holding[HUNDURZEK_HOLDING]; /* what the line says; else the empty holding */
+} hundurzek_loaded;
+
 /* Makes the empty holding: 0, or 1 and nothing changed where fewer than HUNDURZEK_HOLDING bytes are lent. */
 uint64_t hundurzek_empty(uint8_t *holding, uint64_t holding_count);
 
@@ -55,5 +71,16 @@ hundurzek_reading *hundurzek_read(hundurzek_reading *out, uint8_t *holding, uint
    after the last message accepted; the row buffer is left as those readings, one after another, leave it. */
 hundurzek_walked *hundurzek_walk(hundurzek_walked *out, uint8_t *holding, uint64_t holding_count, const uint8_t *bytes,
                                  uint64_t count, uint64_t end, int32_t *rows, uint64_t row_count);
+
+/* Saves a holding as a line, its line feed too, from the line buffer's first byte on. */
+hundurzek_done *hundurzek_save(hundurzek_done *out, const uint8_t *holding, uint64_t holding_count, uint8_t *line,
+                               uint64_t line_count);
+
+/* Loads the holding that a saved line says. */
+hundurzek_loaded *hundurzek_load(hundurzek_loaded *out, const uint8_t *line, uint64_t line_count);
+
+/* Takes the stretch that a line of the listing's input says, into the first of the bytes lent. */
+hundurzek_done *hundurzek_line(hundurzek_done *out, const uint8_t *line, uint64_t line_count, uint8_t *bytes,
+                               uint64_t count);
 
 #endif

@@ -48,6 +48,10 @@
 //!   bytes     holding after the walk, as many bytes as were lent
 //!   u32       number n of the row buffer's numbers, up to the last one changed
 //!   n x i32   row buffer after the walk: these first, its old numbers after them
+//!
+//! The kinds `save`, `load` and `line` have records of their own (`emit/texts.rs`).
+
+pub mod texts;
 
 use std::io::{self, Write};
 

@@ -9,16 +9,29 @@
 //! - `holdings`: lent holdings, good, damaged, cut and longer than they need be;
 //! - `sweeps`: what one message and one holding can be damaged in, all of it;
 //! - `single`: cases of one reading;
-//! - `stretches`: cases of one stretch, the mask kept from stretch to stretch.
+//! - `stretches`: cases of one stretch, the mask kept from stretch to stretch;
+//! - `strays`: lent bytes that are no holding, kind by kind;
+//! - `edits`: what can happen to a line of text;
+//! - `saved_lines`, `input_lines`: good and bad lines, saved and of the listing's
+//!   input;
+//! - `texts`, `text_sweeps`: cases of saving, loading and lines of input;
+//! - `inputs`: whole inputs of the listing program.
 
 pub mod bench;
+pub mod edits;
 pub mod hand;
 pub mod holdings;
+pub mod input_lines;
+pub mod inputs;
 pub mod masks;
 pub mod messages;
+pub mod saved_lines;
 pub mod single;
+pub mod strays;
 pub mod stretches;
 pub mod sweeps;
+pub mod text_sweeps;
+pub mod texts;
 
 use super::bits::{bytes_for, pack};
 use super::holding::Holding;
@@ -97,6 +110,29 @@ fn dirty_bytes(random: &mut Random, bits: &[bool]) -> Vec<u8> {
     let dirt = random.bits(spare + further);
     all.extend(dirt);
     pack(&all)
+}
+
+/// The bits in hex, the last digit filled up with zero bits.
+fn digits(bits: &[bool]) -> String {
+    let digit = |four: &[bool]| {
+        let weights = [8, 4, 2, 1];
+        let value: u8 = four.iter().zip(weights).map(|(&one, weight)| u8::from(one) * weight).sum();
+        format!("{value:X}")
+    };
+    bits.chunks(4).map(digit).collect()
+}
+
+/// One of the kinds, each as often as it says, with its name.
+fn weighted<T: Copy>(random: &mut Random, kinds: &[(&'static str, usize, T)]) -> (&'static str, T) {
+    let total = kinds.iter().map(|kind| kind.1).sum();
+    let mut left = random.below(total);
+    for &(name, often, kind) in kinds {
+        if left < often {
+            return (name, kind);
+        }
+        left -= often;
+    }
+    (kinds[0].0, kinds[0].2)
 }
 
 /// The other bit at this place, if it is among the bytes.

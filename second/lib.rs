@@ -13,6 +13,7 @@ pub mod emit;
 pub mod generate;
 pub mod holding;
 pub mod host;
+pub mod host_lines;
 pub mod layout;
 pub mod listing;
 pub mod mask_message;

@@ -9,8 +9,9 @@ use super::text::{decimal, hex_bits};
 use super::walk::walk;
 use super::{ABSENT, COLUMNS, ROW_ROOM, STRETCH_BITS};
 
-/// Lists every line of the input, holding the mask from line to line.
-pub fn listing(input: &mut impl BufRead, output: &mut impl Write) -> io::Result<()> {
+/// Lists every line of the input, holding the mask from line to line, and gives
+/// the holding after the last.
+pub fn listing(input: &mut impl BufRead, output: &mut impl Write) -> io::Result<Holding> {
     let mut holding = Holding::Empty;
     let mut rows = vec![0; ROW_ROOM];
     let mut line = Vec::new();
@@ -28,12 +29,12 @@ pub fn listing(input: &mut impl BufRead, output: &mut impl Write) -> io::Result<
             None => writeln!(output, "B\t{number}")?,
         }
     }
-    Ok(())
+    Ok(holding)
 }
 
 /// Bytes and bit length of a good line: bit count, tab, a quarter as many hex
 /// digits rounded up with spare bits zero, line feed.
-fn parse(line: &[u8]) -> Option<(Vec<u8>, usize)> {
+pub fn parse(line: &[u8]) -> Option<(Vec<u8>, usize)> {
     let line = line.strip_suffix(b"\n")?;
     let tab = line.iter().position(|&byte| byte == b'\t')?;
     let bit_length = decimal(&line[..tab])?;

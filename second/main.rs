@@ -8,19 +8,27 @@ mod tests;
 use std::io::{self, BufWriter, Write};
 use std::process::ExitCode;
 
+use codec::emit::texts::{emit_sweep, emit_texts, Kind};
 use codec::emit::{emit_bench, emit_fixed, emit_read, emit_stretch, emit_walk, Answers};
+use codec::generate::inputs::put_input;
+use codec::generate::texts::LINE_ROOM;
+use codec::saved;
 
-const USAGE: &str = "usage: second listing | second test | second emit fixed|bench \
-                     | second emit read|stretch|walk SEED COUNT";
+const USAGE: &str = "usage: second listing|mask | second test | second lines SEED COUNT \
+                     | second emit fixed|bench | second emit sweep save|load|line \
+                     | second emit read|stretch|walk|save|load|line SEED COUNT";
 
 fn main() -> ExitCode {
     let words: Vec<String> = std::env::args().skip(1).collect();
     let words: Vec<&str> = words.iter().map(String::as_str).collect();
     let done = match words[..] {
         ["listing"] => list(),
+        ["mask"] => print_mask(),
         ["test"] => return tests::run(),
+        ["lines", seed, count] => print_lines(seed, count),
         ["emit", "fixed"] => emit(emit_fixed),
         ["emit", "bench"] => emit(emit_bench),
+        ["emit", "sweep", kind] => emit_swept(kind),
         ["emit", kind, seed, count] => emit_random(kind, seed, count),
         _ => Err(fault(USAGE)),
     };
@@ -43,15 +51,45 @@ fn list() -> io::Result<()> {
     output.flush()
 }
 
+/// The saved mask after the listing of the standard input.
+fn print_mask() -> io::Result<()> {
+    let holding = codec::listing::listing(&mut io::stdin().lock(), &mut io::sink())?;
+    let mut line = [0; LINE_ROOM];
+    let length = saved::save(&holding, &mut line).map_err(|stop| fault(format!("{stop:?}")))?;
+    io::stdout().write_all(&line[..length])
+}
+
+/// An input of the listing program, and on stderr how often each kind of line
+/// is in it.
+fn print_lines(seed: &str, count: &str) -> io::Result<()> {
+    let (seed, count) = numbers(seed, count)?;
+    let mut output = BufWriter::new(io::stdout().lock());
+    for (kind, often) in put_input(&mut output, seed, count)? {
+        eprintln!("{often}\t{kind}");
+    }
+    output.flush()
+}
+
+fn numbers(seed: &str, count: &str) -> io::Result<(u64, usize)> {
+    Ok((seed.parse().map_err(fault)?, count.parse().map_err(fault)?))
+}
+
 fn emit_random(kind: &str, seed: &str, count: &str) -> io::Result<()> {
-    let seed: u64 = seed.parse().map_err(fault)?;
-    let count: usize = count.parse().map_err(fault)?;
+    let (seed, count) = numbers(seed, count)?;
     match kind {
         "read" => emit(|output| emit_read(output, seed, count)),
         "stretch" => emit(|output| emit_stretch(output, seed, count)),
         "walk" => emit(|output| emit_walk(output, seed, count)),
-        _ => Err(fault(USAGE)),
+        _ => {
+            let kind = Kind::named(kind).ok_or_else(|| fault(USAGE))?;
+            emit(|output| emit_texts(output, kind, seed, count))
+        }
     }
+}
+
+fn emit_swept(kind: &str) -> io::Result<()> {
+    let kind = Kind::named(kind).ok_or_else(|| fault(USAGE))?;
+    emit(|output| emit_sweep(output, kind))
 }
 
 type Output = BufWriter<io::StdoutLock<'static>>;

@@ -10,6 +10,7 @@ mod reader;
 mod rounds;
 mod saved;
 mod streams;
+mod texts;
 mod tools;
 mod walks;
 mod writer;
@@ -48,7 +49,7 @@ impl Group {
     }
 }
 
-const GROUPS: [(&str, fn(&mut Group)); 20] = [
+const GROUPS: [(&str, fn(&mut Group)); 23] = [
     ("bench 1 the worked listing", bench::worked_listing),
     ("bench 1 to 4 stretches", bench::stretches),
     ("bench 5 to 14 readings", bench::readings),
@@ -66,6 +67,9 @@ const GROUPS: [(&str, fn(&mut Group)); 20] = [
     ("walks: repeated readings", walks::generated),
     ("saved form", saved::lines),
     ("listing program", listing::lines),
+    ("host: lines", texts::by_hand),
+    ("generated lines", texts::lines),
+    ("generated inputs of the listing", texts::inputs),
     ("streams: what the readings cover", coverage::readings),
     ("streams: every answer number often", streams::answers),
     ("streams: their formats", streams::formats),

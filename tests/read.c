@@ -69,6 +69,7 @@ static void compare_reading(kind *k) {
 }
 
 static void compare_readings(kind *k) {
+  take_stretch();
   unsigned long readings = number(4);
   for (; now.call <= readings; now.call++) compare_reading(k);
 }

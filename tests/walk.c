@@ -37,6 +37,7 @@ static void count_walk(kind *k, const hundurzek_walked *want, bool kept) {
 
 static void compare_walk(kind *k) {
   static uint8_t left[HUNDURZEK_HOLDING]; /* by the walk before */
+  take_stretch();
   bool sufficient = holding.count >= sizeof left;
   bool kept = sufficient && memcmp(content(holding.got), left, sizeof left) == 0;
   hundurzek_walked want = take_expected(), got;

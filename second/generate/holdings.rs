@@ -3,7 +3,7 @@
 
 use std::ops::Range;
 
-use super::super::holding::Mask;
+use super::super::holding::{Holding, Mask};
 use super::super::host::{encode, HOLDING_BYTES};
 use super::super::random::Random;
 use super::masks;
@@ -15,6 +15,21 @@ const SATELLITES: usize = 3;
 const CELLS: usize = 4;
 const SATELLITE_MASKS: Range<usize> = 26..66;
 const COUNTING: Range<usize> = 66..HOLDING_BYTES;
+
+/// A kind of good holding: its name, how often it comes, and one of it.
+pub type Good = (&'static str, usize, fn(&mut Random) -> Holding);
+
+pub const GOOD: [Good; 6] = [
+    ("empty", 2, |_| Holding::Empty),
+    ("no systems", 2, |random| {
+        let iod = random.below(16) as u8;
+        Holding::Held(Mask { iod, systems: Vec::new() })
+    }),
+    ("any mask", 10, |random| Holding::Held(masks::named(random))),
+    ("limit met", 3, |random| Holding::Held(masks::at_limit(random, 0))),
+    ("wide cell mask", 3, |random| Holding::Held(masks::wide(random))),
+    ("cell mask of no bits", 2, |random| Holding::Held(masks::bare(random))),
+];
 
 /// Now and then lends other bytes after the 194.
 pub fn lengthen(random: &mut Random, lent: &mut Vec<u8>) {
@@ -44,7 +59,7 @@ pub fn damage(random: &mut Random, lent: &mut Vec<u8>) {
 }
 
 /// Flips one bit of any part, of the last mostly where satellites are counted.
-fn flip(random: &mut Random, lent: &mut [u8]) {
+pub fn flip(random: &mut Random, lent: &mut [u8]) {
     let mut part = PARTS[random.below(PARTS.len())].clone();
     if part == COUNTING && random.chance(80) {
         part = counted(lent);
@@ -61,13 +76,13 @@ fn flip_in(random: &mut Random, lent: &mut [u8], part: Range<usize>) -> bool {
 }
 
 /// The bytes of the satellites that an encoding counts, or of the first.
-fn counted(lent: &[u8]) -> Range<usize> {
+pub fn counted(lent: &[u8]) -> Range<usize> {
     let satellites = usize::from(lent[SATELLITES]).max(1);
     COUNTING.start..(COUNTING.start + 2 * satellites).min(COUNTING.end)
 }
 
 /// A signal more or less for a satellite, and the number of cells with it.
-fn recount_cells(random: &mut Random, lent: &mut [u8]) {
+pub fn recount_cells(random: &mut Random, lent: &mut [u8]) {
     let part = counted(lent);
     let more = flip_in(random, lent, part);
     let count = u16::from_le_bytes([lent[CELLS], lent[CELLS + 1]]);
@@ -77,7 +92,7 @@ fn recount_cells(random: &mut Random, lent: &mut [u8]) {
 
 /// A satellite more or less, and the number of satellites with it; the signals
 /// that count for the others stay where they are.
-fn recount_satellites(random: &mut Random, lent: &mut [u8]) {
+pub fn recount_satellites(random: &mut Random, lent: &mut [u8]) {
     let more = flip_in(random, lent, SATELLITE_MASKS);
     let count = lent[SATELLITES];
     lent[SATELLITES] = if more { count.wrapping_add(1) } else { count.wrapping_sub(1) };

@@ -164,6 +164,38 @@ fn full_cells_at(random: &mut Random, over: usize) -> Mask {
     Mask { iod: 0, systems }
 }
 
+/// The longest cell masks, few of their bits set: as many satellites as there
+/// may be, or a few less, by nearly all signals.
+pub fn wide(random: &mut Random) -> Mask {
+    let count = 1 + random.below(IDS.len());
+    let mut left = MAX_SATELLITES;
+    let mut systems = Vec::new();
+    for id in random.draw(&IDS, count) {
+        let satellites = left.min(SATELLITE_PLACES[usize::from(id)]);
+        left -= satellites;
+        let satellites = satellites.saturating_sub(random.below(3));
+        let signals = SIGNAL_PLACES[usize::from(id)] - random.below(4);
+        let mut system = sized_system(random, id, satellites, signals);
+        let cells = random.below(MAX_CELLS / IDS.len()).min(system.cell_bits());
+        system.cells = Some(counted_cells(random, system.cell_bits(), cells));
+        systems.push(system);
+    }
+    Mask { iod: random.below(16) as u8, systems }
+}
+
+/// One to five systems with cell masks of no bits: no satellite, or no signal.
+pub fn bare(random: &mut Random) -> Mask {
+    let count = 1 + random.below(IDS.len());
+    let ids = random.draw(&IDS, count);
+    let mut mask = of_systems(random, &[]);
+    for id in ids {
+        let (satellites, signals) = random.pick(&[(0, 0), (0, 3), (3, 0)]);
+        let cells = Some(Vec::new());
+        mask.systems.push(System { cells, ..sized_system(random, id, satellites, signals) });
+    }
+    mask
+}
+
 /// A good mask in which one system got an ID over 4 or one named already.
 pub fn with_bad_system(random: &mut Random) -> Mask {
     let mut mask = named(random);

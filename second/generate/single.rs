@@ -6,7 +6,7 @@ use super::super::holding::{Holding, Mask};
 use super::super::random::Random;
 use super::super::STRETCH_BITS;
 use super::messages::Drawn;
-use super::{bad_room, flip, lend, mislength, misstart};
+use super::{bad_room, flip, lend, mislength, misstart, weighted};
 use super::{holdings, masks, messages, Case};
 
 /// The mask held, if any, and the message read under it.
@@ -49,25 +49,13 @@ const LONG: &str = "long stretch";
 
 /// The next case of one reading.
 pub fn case(random: &mut Random) -> Case {
-    let (family, _, scene) = family(random);
+    let (family, scene) = weighted(random, &FAMILIES);
     let held = if random.chance(6) { masks::at_limit(random, 0) } else { masks::good(random) };
     let (mask, drawn) = scene(random, held);
     let holding = holding(random, mask);
     let mut case = place(random, family, &holding, &drawn);
     spoil(random, &mut case, &drawn);
     case
-}
-
-fn family(random: &mut Random) -> Family {
-    let total = FAMILIES.iter().map(|family| family.1).sum();
-    let mut left = random.below(total);
-    for family in FAMILIES {
-        if left < family.1 {
-            return family;
-        }
-        left -= family.1;
-    }
-    FAMILIES[0]
 }
 
 fn with(mask: Mask, draw: impl FnOnce(&Mask) -> Drawn) -> Scene {

@@ -60,6 +60,40 @@ impl Run {
         case
     }
 
+    /// The next stretch as a line can say it, with its family: as the sender
+    /// sends it, after a mask that was missed, damaged, or cut.
+    pub fn sent(&mut self) -> (&'static str, Vec<bool>) {
+        let family = match self.family() {
+            family @ (MISSED | FLIPPED | CUT) => family,
+            _ => PLAIN,
+        };
+        if family == MISSED {
+            self.sender = masks::successor(&mut self.random, &self.sender);
+        }
+        let mut bits = self.stretch();
+        match family {
+            FLIPPED => damage(&mut self.random, &mut bits),
+            CUT => bits.truncate(self.random.below(bits.len() + 1)),
+            _ => {}
+        }
+        (family, bits)
+    }
+
+    /// A stretch without masks, of one to five messages.
+    pub fn unmasked(&mut self) -> Vec<bool> {
+        let random = &mut self.random;
+        let mut bits = Vec::new();
+        for _ in 0..1 + random.below(5) {
+            let drawn = if random.chance(30) {
+                messages::service(random)
+            } else {
+                messages::correction(random, &self.sender)
+            };
+            bits.extend(drawn.bits);
+        }
+        bits
+    }
+
     fn family(&mut self) -> &'static str {
         match self.random.below(100) {
             0..=9 => FRESH,
@@ -130,6 +164,16 @@ fn damage_bits(random: &mut Random, case: &mut Case) {
     for _ in 0..1 + random.below(3) {
         let place = random.below(case.bit_length.max(1));
         flip(&mut case.bytes, place);
+    }
+}
+
+/// The same of bits that aren't lent yet.
+fn damage(random: &mut Random, bits: &mut [bool]) {
+    for _ in 0..1 + random.below(3) {
+        let place = random.below(bits.len().max(1));
+        if let Some(bit) = bits.get_mut(place) {
+            *bit = !*bit;
+        }
     }
 }
 

@@ -35,7 +35,7 @@ pub fn cases() -> Vec<Case> {
 
 /// All five systems, not in the order of their IDs, with and without cell mask,
 /// one without satellites, one without signals, at first and last places.
-fn five_systems() -> Mask {
+pub fn five_systems() -> Mask {
     let field = |places: &[usize], width| places.iter().map(|&at| place(at, width)).sum::<i64>();
     let system = |id, satellites: &[usize], signals: &[usize], cells: Option<&[bool]>| System {
         id,

@@ -11,7 +11,7 @@ fn listed(input: &[u8]) -> String {
     let mut output = Vec::new();
     let mut input = input;
     match listing(&mut input, &mut output) {
-        Ok(()) => String::from_utf8_lossy(&output).into_owned(),
+        Ok(_) => String::from_utf8_lossy(&output).into_owned(),
         Err(error) => error.to_string(),
     }
 }

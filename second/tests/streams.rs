@@ -4,6 +4,7 @@
 use std::io::{self, sink};
 
 use super::Group;
+use crate::codec::emit::texts::{emit_sweep, emit_texts, Kind};
 use crate::codec::emit::{emit_bench, emit_fixed, emit_read, emit_stretch, emit_walk, Answers};
 
 const CASES: usize = 30_000;
@@ -39,6 +40,20 @@ pub fn formats(group: &mut Group) {
     group.check("fixed too", readings(&fixed, b"fixed\0\0\0") > Some(5_000));
     group.check("bench too", records(&bench, b"bench\0\0\0", skip_walk) > Some(5_000));
     group.same("walk too", records(&walks, b"walk\0\0\0\0", skip_walk), Some(50));
+    texts(group);
+}
+
+/// The streams of lines.
+fn texts(group: &mut Group) {
+    for name in ["save", "load", "line"] {
+        let kind = Kind::named(name).unwrap_or(Kind::Save);
+        let stream = |seed| written(|output| emit_texts(output, kind, seed, 50));
+        let sweep = written(|output| emit_sweep(output, kind));
+        let header = [name.as_bytes(), &[0; 4]].concat();
+        group.check("the same seed", stream(5) == stream(5) && stream(5) != stream(6));
+        group.same(name, records(&stream(5), &header, skip_text), Some(50));
+        group.check("and its sweep", records(&sweep, &header, skip_text) > Some(5_000));
+    }
 }
 
 fn written(emitted: impl FnOnce(&mut Vec<u8>) -> io::Result<Answers>) -> Vec<u8> {
@@ -51,16 +66,11 @@ fn written(emitted: impl FnOnce(&mut Vec<u8>) -> io::Result<Answers>) -> Vec<u8>
 
 /// Steps over the records by the documented format; the number of records when
 /// the last one ends with the stream.
-fn records(
-    stream: &[u8],
-    kind: &[u8],
-    skip_expected: fn(&mut &[u8], usize) -> Option<()>,
-) -> Option<u64> {
+fn records(stream: &[u8], kind: &[u8], skip_record: fn(&mut &[u8]) -> Option<()>) -> Option<u64> {
     let mut left = stream.strip_prefix(kind)?;
     let count = take(&mut left, 8)?;
     for _ in 0..count {
-        let holding = skip_lent(&mut left)?;
-        skip_expected(&mut left, holding)?;
+        skip_record(&mut left)?;
     }
     left.is_empty().then_some(count)
 }
@@ -74,7 +84,8 @@ fn skip_lent(left: &mut &[u8]) -> Option<usize> {
     Some(holding)
 }
 
-fn skip_readings(left: &mut &[u8], holding: usize) -> Option<()> {
+fn skip_readings(left: &mut &[u8]) -> Option<()> {
+    let holding = skip_lent(left)?;
     for _ in 0..take(left, 4)? {
         let answer = take(left, 1)?;
         skip(left, 8 + 32)?;
@@ -87,10 +98,22 @@ fn skip_readings(left: &mut &[u8], holding: usize) -> Option<()> {
     Some(())
 }
 
-fn skip_walk(left: &mut &[u8], holding: usize) -> Option<()> {
+fn skip_walk(left: &mut &[u8]) -> Option<()> {
+    let holding = skip_lent(left)?;
     skip(left, 1 + 8 + 8 + 8 + holding)?;
     let changed = take(left, 4)? as usize;
     skip(left, 4 * changed)
+}
+
+fn skip_text(left: &mut &[u8]) -> Option<()> {
+    skip_counted(left, 1)?;
+    skip_counted(left, 2)?;
+    skip_counted(left, 4)?;
+    skip(left, 4 + 8)?;
+    let answer = take(left, 1)?;
+    skip(left, 8)?;
+    skip_counted(left, 4)?;
+    matches!(answer, 1 | 12 | 255).then_some(())
 }
 
 fn skip_counted(left: &mut &[u8], width: usize) -> Option<usize> {

@@ -8,13 +8,18 @@
 
 enum { GUARD = 64, GUARD_BYTE = 0xA5 };
 
-/* Differing calls that are told; the rest is only counted. */
-enum { TOLD = 10 };
+/* Differing calls that are told; the rest is only counted. Of a line so many characters are shown. */
+enum { TOLD = 10, SHOWN = 200 };
 
 buffer holding = {.name = "holding", .space = 1024};
 buffer stretch = {.name = "stretch", .space = 16384};
 buffer rows = {.name = "row buffer", .space = 32768};
+buffer line = {.name = "line", .space = 262144};
 case_name now;
+
+static buffer result = {.name = "result", .space = 1024};
+static buffer *const all[] = {&holding, &stretch, &rows, &line, &result};
+enum { BUFFERS = sizeof all / sizeof *all };
 
 static unsigned long passed, failed;
 
@@ -70,30 +75,50 @@ void lend(buffer *b, size_t count) {
   guard(b->want, count);
 }
 
-static void take_lent(buffer *b, size_t count) {
+void take_lent(buffer *b, size_t count) {
   lend(b, count);
   get(content(b->got), count);
   memcpy(content(b->want), content(b->got), count);
 }
 
-/* The row buffer's first numbers, by the rule of second/emit.rs. */
+/* The next number of the rule by which the second program fills what is lent. */
+static uint64_t filling(uint64_t x) { return x * UINT64_C(6364136223846793005) + UINT64_C(1442695040888963407); }
+
+/* The row buffer's first numbers. */
 static void fill_rows(size_t count, uint64_t x) {
   lend(&rows, 4 * count);
   for (size_t i = 0; i < count; i++) {
-    x = x * UINT64_C(6364136223846793005) + UINT64_C(1442695040888963407);
+    x = filling(x);
     numbers(rows.got)[i] = numbers(rows.want)[i] = (int32_t)(x >> 32);
   }
 }
 
-static void take_case(void) {
+void fill_bytes(buffer *b, size_t count, uint64_t x) {
+  lend(b, count);
+  for (size_t i = 0; i < count; i++) {
+    x = filling(x);
+    content(b->got)[i] = content(b->want)[i] = (uint8_t)(x >> 56);
+  }
+}
+
+void *lend_result(size_t count) {
+  fill_bytes(&result, count, 1);
+  return content(result.got);
+}
+
+static void take_family(void) {
   size_t letters = number(1);
   get(now.family, letters);
   now.family[letters] = 0;
+  now.end = now.place = 0;
+  now.call = 1;
+}
+
+void take_stretch(void) {
   take_lent(&holding, number(2));
   take_lent(&stretch, number(4));
   now.end = number(8);
   now.place = number(8);
-  now.call = 1;
   size_t row_count = number(4);
   fill_rows(row_count, number(8));
 }
@@ -103,12 +128,26 @@ static void take_case(void) {
 static bool same = true;
 static unsigned long told;
 
+/* The first characters of a line, those that are no text as numbers. */
+static void tell_line(const uint8_t *text, size_t count) {
+  printf("  ");
+  for (size_t i = 0; i < count && i < SHOWN; i++)
+    printf(text[i] > ' ' && text[i] < 127 && text[i] != '\\' ? "%c" : "\\%02X", text[i]);
+  printf(count > SHOWN ? "..\n" : "\n");
+}
+
+static void tell_case(void) {
+  printf("%s %lu (%s), call %lu", now.kind, now.record, now.family, now.call);
+  if (now.end > 0) printf(" at place %" PRIu64 " of %" PRIu64 " bits", now.place, now.end);
+  printf("; lent:");
+  for (size_t i = 0; i < BUFFERS; i++)
+    if (all[i]->got) printf(" %s of %zu bytes", all[i]->name, all[i]->count);
+  printf("\n");
+  if (line.got) tell_line(content(line.got), line.count);
+}
+
 void differ(const char *format, ...) {
-  if (same && told++ < TOLD) {
-    printf("%s %lu (%s), call %lu", now.kind, now.record, now.family, now.call);
-    printf(" at place %" PRIu64 " of %" PRIu64 " bits;", now.place, now.end);
-    printf(" lent: holding of %zu bytes, stretch of %zu, %zu numbers\n", holding.count, stretch.count, rows.count / 4);
-  }
+  if (same && told++ < TOLD) tell_case();
   same = false;
   if (told > TOLD) return;
   va_list values;
@@ -126,7 +165,7 @@ void compare(const char *what, uint64_t got, uint64_t want) {
 /* Tells the first byte that differs; of rows the number that it is in. */
 static void compare_buffer(const buffer *b) {
   static const char *const row_names[] = {"system", "satellite", "signal place", "v1", "v2", "v3", "v4", "v5"};
-  if (memcmp(b->got, b->want, whole(b)) == 0) return;
+  if (!b->got || memcmp(b->got, b->want, whole(b)) == 0) return;
   size_t at = 0;
   while (b->got[at] == b->want[at]) at++;
   if (at < GUARD || at >= GUARD + b->count) {
@@ -140,17 +179,19 @@ static void compare_buffer(const buffer *b) {
   }
 }
 
-/* What follows begins with the buffers as they must be, so that a difference is told once. */
+/* Of the result only what is around it. What follows begins with the buffers as they must be, so that a difference
+   is told once. */
 void compare_lent(void) {
-  buffer *const lent[] = {&holding, &stretch, &rows};
-  for (size_t i = 0; i < 3; i++) compare_buffer(lent[i]);
+  if (result.got) memcpy(content(result.want), content(result.got), result.count);
+  for (size_t i = 0; i < BUFFERS; i++) compare_buffer(all[i]);
   if (same) {
     passed++;
     return;
   }
   failed++;
   same = true;
-  for (size_t i = 0; i < 3; i++) memcpy(lent[i]->got, lent[i]->want, whole(lent[i]));
+  for (size_t i = 0; i < BUFFERS; i++)
+    if (all[i]->got) memcpy(all[i]->got, all[i]->want, whole(all[i]));
 }
 
 /* ---- all streams, and what came */
@@ -159,7 +200,7 @@ static void compare_stream(kind *k, void compare_record(kind *k)) {
   uint64_t records = number(8);
   now.kind = k->name;
   for (now.record = 1; now.record <= records; now.record++, k->records++) {
-    take_case();
+    take_family();
     compare_record(k);
   }
 }

@@ -1,6 +1,6 @@
 /* For programs that compare the host interface with the second program, whose cases and answers come as streams
-   on the standard input (second/emit.rs says their format byte by byte). Every buffer is lent between guard
-   bytes, and is compared whole, guards and all, with what it must be after each call. */
+   on the standard input (second/emit.rs and second/emit/texts.rs say their format byte by byte). Every buffer is
+   lent between guard bytes, and is compared whole, guards and all, with what it must be after each call. */
 #ifndef TESTS_STREAMS_H
 #define TESTS_STREAMS_H
 
@@ -27,7 +27,7 @@ typedef struct {
   uint8_t *got, *want;
 } buffer;
 
-extern buffer holding, stretch, rows;
+extern buffer holding, stretch, rows, line;
 
 /* What is being compared, for reports: a call of a record, at a place of a stretch of so many bits. */
 typedef struct {
@@ -39,7 +39,7 @@ typedef struct {
 
 extern case_name now;
 
-/* Compares each record of each stream after taking what it lends, and needs so many of each kind as must come. Then
+/* Compares each record of each stream after taking its family, and needs so many of each kind as must come. Then
    prints the kinds' names, for print_counts. */
 void compare_streams(kind *kinds, size_t count, void compare_record(kind *k));
 
@@ -48,10 +48,19 @@ void get(void *to, size_t count);
 uint64_t number(size_t width);
 _Noreturn void broken(const char *what);
 
-/* What is lent of a buffer's memory, as bytes and as numbers; lending another count of it. */
+/* What is lent of a buffer's memory, as bytes and as numbers; lending another count of it, with bytes that come, or
+   filled by the second program's rule. */
 uint8_t *content(uint8_t *memory);
 int32_t *numbers(uint8_t *memory);
 void lend(buffer *b, size_t count);
+void take_lent(buffer *b, size_t count);
+void fill_bytes(buffer *b, size_t count, uint64_t seed);
+
+/* Where a call may write a result of so many bytes, between guards. What is in it, the caller compares. */
+void *lend_result(size_t count);
+
+/* Taking what a reading or a walk is lent: holding, stretch, row buffer, and the stretch's length and start. */
+void take_stretch(void);
 
 /* Comparing after a call: what it answered, number by number, and then the buffers, by which the call is counted. */
 void differ(const char *format, ...);

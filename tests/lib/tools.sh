@@ -60,7 +60,7 @@ agree() {
     program=$1
     shift
     second
-    compile "$program" host tests/lib/streams.c
+    compile "$program" host tests/lib/streams.c tests/lib/texts.c
     for stream; do
         target/tests/second emit $stream
     done 2>"target/tests/$program.log" | $RUN "target/tests/$program"
