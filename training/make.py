@@ -3,8 +3,8 @@
 import os
 import sys
 
-from messages import (GALILEO, BEIDOU, GLONASS, GPS, QZSS, Mask, System, combined, correction, mask_message, service, spell,
-                      text)
+from messages import (BEIDOU, GALILEO, GLONASS, GPS, QZSS, Mask, System, combined, correction, mask_message, service,
+                      spell, text)
 
 # Document 01's worked stretch: GPS satellites 1 and 3, signal places 0 and 7, cells 1011; two clocks.
 MASK = Mask(3, (System(GPS, (0, 2), (0, 7), "1011"),))

@@ -8,8 +8,8 @@ import re
 import sys
 from typing import NamedTuple
 
-from messages import (CLOCK, CODE, CORRECTIONS, NUMBER, PHASE, SATELLITE_PLACES, SIGNAL_PLACES, Mask, System, cell_flags,
-                      cells, orbit, satellites)
+from messages import (CLOCK, CODE, CORRECTIONS, NUMBER, PHASE, SATELLITE_PLACES, SIGNAL_PLACES, Mask, System,
+                      cell_flags, cells, orbit, satellites)
 
 IDLE, SHORT, OTHER_NUMBER, SUB_TYPE, NO_MASK, OTHER_ISSUE, SYSTEM, RESERVED, SIZE, NETWORK = 0, *range(3, 12)
 STRETCH_BITS = 50850

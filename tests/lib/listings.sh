@@ -20,5 +20,5 @@ judge() {
     rm -rf "target/tests/$1"
     mkdir -p "target/tests/$1"
     remake "$1" "target/tests/$1"
-    programs | python3 -B "tests/lib/$1.py"
+    programs | PYTHONPATH=vectors python3 -B "tests/lib/$1.py"
 }

@@ -109,17 +109,21 @@ def body(columns_of, ids, values):
     return [(name, width, next(values)) for system_id in ids for name, width in columns_of(system_id)]
 
 
-def correction(sub_type, mask, values, iod=None, epoch=100, interval=2, indicator=0):
-    """Sub types 2, 3, 4 and 5 for this mask; of another issue where iod says so."""
+def head(sub_type, mask, iod=None, epoch=100, interval=2, indicator=0):
+    """The 37 bits that open a correction for this mask; of another issue where iod says so."""
+    return opening(sub_type) + common(12, epoch, interval, indicator, mask.iod if iod is None else iod)
+
+
+def correction(sub_type, mask, values, **said):
+    """Sub types 2, 3, 4 and 5; what its head says can be given as head's."""
     columns_of = {2: orbit, 3: lambda _: CLOCK, 4: lambda _: CODE, 5: lambda _: PHASE}[sub_type]
     ids = satellites(mask) if sub_type in (2, 3) else cells(mask)
-    head = opening(sub_type) + common(12, epoch, interval, indicator, mask.iod if iod is None else iod)
-    return head + body(columns_of, ids, values)
+    return head(sub_type, mask, **said) + body(columns_of, ids, values)
 
 
-def combined(mask, values, orbits=1, clocks=1, network=None, selection="", iod=None, epoch=100, interval=2, indicator=0):
+def combined(mask, values, orbits=1, clocks=1, network=None, selection="", **said):
     """Sub type 11; the selection counts where there is a network ID."""
-    fields = opening(11) + common(12, epoch, interval, indicator, mask.iod if iod is None else iod)
+    fields = head(11, mask, **said)
     fields += [("orbit flag", 1, orbits), ("clock flag", 1, clocks), ("network flag", 1, int(network is not None))]
     ids = satellites(mask)
     if network is not None:
@@ -130,6 +134,6 @@ def combined(mask, values, orbits=1, clocks=1, network=None, selection="", iod=N
 
 def service(values, indicator=0, counter=0, size=0):
     """Sub type 10: five bytes for each 40 bits."""
-    head = [("indicator", 1, indicator), ("counter", 3, counter), ("size", 2, size)]
+    fields = opening(10) + [("indicator", 1, indicator), ("counter", 3, counter), ("size", 2, size)]
     values = iter(values)
-    return opening(10) + head + [("data", 8, next(values)) for _ in range(5 * (size + 1))]
+    return fields + [("data", 8, next(values)) for _ in range(5 * (size + 1))]

@@ -2,6 +2,7 @@
 
 import re
 import sys
+from itertools import zip_longest
 from pathlib import Path
 
 from checks import check, check_programs, check_remade, files, finish, read_lines, tables
@@ -11,6 +12,10 @@ FOLDER = Path("training")
 EARNED_BY_STRETCHES = ("0", "3", "4", "5", "6", "7", "8", "9", "10", "11", "B")
 CASES_HEADER = ["case", "file", "its last answer", "accepted differs in"]
 WORKED_HEADER = ["place", "width", "field", "value"]
+
+
+def cases():
+    return {str(name.parent) for name in files(FOLDER, "txt")}
 
 
 def lines(case, name):
@@ -26,7 +31,7 @@ def listing(path):
 
 def distance(one, other):
     """Places where two strings differ, or only one is."""
-    return sum(a != b for a, b in zip(one, other)) + abs(len(one) - len(other))
+    return sum(a != b for a, b in zip_longest(one, other))
 
 
 def difference(one, other):
@@ -61,7 +66,7 @@ def check_case(case, name, answer, differs):
 
 
 def check_cases(rows):
-    check({row[0] for row in rows} == {str(name.parent) for name in files(FOLDER, "txt")}, "the cases are not the folders")
+    check({row[0] for row in rows} == cases(), "the cases are not the folders")
     for row in rows:
         check_case(*row)
 
@@ -108,8 +113,8 @@ def check_fields(case, header, rows):
         check_value(case, one, row, row[4])
         check_value(case, other, row, row[5])
     for line in {line for line, _ in told}:
-        bits = [parse(lines(case, name)[line - 1]) for name in (one, other)]
-        differ = {(line, place) for place in range(max(map(len, bits))) if bits[0][place:place + 1] != bits[1][place:place + 1]}
+        pairs = zip_longest(*(parse(lines(case, name)[line - 1]) for name in (one, other)))
+        differ = {(line, place) for place, (a, b) in enumerate(pairs) if a != b}
         check(differ <= told, f"{case}: line {line} also differs at {sorted(differ - told)}")
 
 
@@ -118,8 +123,8 @@ def check_fields(case, header, rows):
 
 def check_block(case, block):
     """A listing on the page stands so in one of the case's listings."""
-    found = [name for name in (FOLDER / case).glob("*.listing") if "\n" + block in "\n" + name.read_text(encoding="ascii")]
-    check(found, f"{case}: no file lists\n{block}")
+    listings = [name.read_text(encoding="ascii") for name in (FOLDER / case).glob("*.listing")]
+    check(any("\n" + block in "\n" + text for text in listings), f"{case}: no file lists\n{block}")
 
 
 def check_section(title, text):
@@ -139,7 +144,7 @@ def check_page():
     for title, text in re.findall(r"^##? (.*?)\n(.*?)(?=^## |\Z)", page, re.M | re.S):
         check_section(title, text)
     titles = set(re.findall(r"^## (\S+)$", page, re.M))
-    check({str(name.parent) for name in files(FOLDER, "txt")} <= titles, "a case has no section")
+    check(cases() <= titles, "a case has no section")
 
 
 def check_mistakes():
