@@ -63,6 +63,16 @@ def check_agreement(name, group):
         check(said == list(map(str, want)), f"{name}: line {number} is listed with {said}, read field by field {want}")
 
 
+def check_alone(groups):
+    """Lines that need no other one: by themselves they stop just so, but for two that lost their mask's sub type."""
+    for name in ("accepted", "limits", "one-bit"):
+        for number, (line, answer) in enumerate(zip(groups[name].lines, groups[name].answers), 1):
+            alone = listed([line])[0]
+            lost = name == "one-bit" and answer.place == 0 and answer.stop == 7 and alone.stop == 6
+            same = alone and answer and (alone.stop, alone.place) == (answer.stop, answer.place)
+            check(same or lost or alone is answer is None, f"{name}: line {number} needs another one")
+
+
 def check_groups(groups):
     rows = []
     for name, group in groups.items():
@@ -180,6 +190,7 @@ def main():
     groups = {name.stem: Group(name.stem) for name in files(FOLDER, "txt")}
     for name, group in groups.items():
         check_agreement(name, group)
+    check_alone(groups)
     check_groups(groups)
     check_refusals(groups["refusals"])
     check_order(groups["order"])
