@@ -10,6 +10,7 @@ from fields import parse
 
 FOLDER = Path("training")
 EARNED_BY_STRETCHES = ("0", "3", "4", "5", "6", "7", "8", "9", "10", "11", "B")
+EARNED_BY_CALLS = ("1", "2", "12")
 CASES_HEADER = ["case", "file", "its last answer", "accepted differs in"]
 WORKED_HEADER = ["place", "width", "field", "value"]
 
@@ -153,10 +154,22 @@ def check_mistakes():
     check(refused[67:] == careless, "mistake 3: careless is not the rest from place 67 on")
 
 
-check_remade("training")
-check_programs("training", [line.strip() for line in sys.stdin])
-check_page()
-check_answers()
-check_mistakes()
-check(Path("target/tests/calls.out").read_bytes() == (FOLDER / "calls.out").read_bytes(), "training/calls.c")
-finish()
+def check_calls():
+    """calls.c prints what is expected, and each answer that a call alone earns is there."""
+    printed = Path("target/tests/calls.out").read_text(encoding="ascii")
+    check(printed == (FOLDER / "calls.out").read_text(encoding="ascii"), "training/calls.c prints something else")
+    for answer in EARNED_BY_CALLS:
+        check(f"\tanswer {answer}\t" in printed, f"no call earns {answer}")
+
+
+def main():
+    check_remade("training")
+    check_programs("training", [line.strip() for line in sys.stdin])
+    check_page()
+    check_answers()
+    check_mistakes()
+    check_calls()
+    finish()
+
+
+main()
