@@ -34,7 +34,8 @@ class Message:
     """One message from a place on: the fields taken so far, and the mask held after it."""
 
     def __init__(self, bits, place, held):
-        self.bits, self.start, self.place, self.held, self.taken, self.sub_type = bits, place, place, held, [], None
+        self.bits, self.place, self.held = bits, place, held
+        self.taken, self.sub_type = [], None
 
     def take(self, name, width):
         if self.place + width > len(self.bits):

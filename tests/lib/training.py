@@ -5,7 +5,7 @@ import sys
 from itertools import zip_longest
 from pathlib import Path
 
-from checks import check, check_programs, check_remade, files, finish, read_lines, tables
+from checks import check, check_programs, check_remade, files, finish, read_lines
 from fields import parse
 
 FOLDER = Path("training")
@@ -120,6 +120,18 @@ def check_fields(case, header, rows):
 
 
 # ---- the page
+
+
+def tables(text):
+    """The tables of a page: for each its header and its rows, lists of cells."""
+    found, rows = [], []
+    for line in text.splitlines() + [""]:
+        if line.startswith("|"):
+            rows.append([cell.strip() for cell in line.strip("|").split("|")])
+        elif rows:
+            found.append((rows[0], rows[2:]))
+            rows = []
+    return found
 
 
 def check_block(case, block):
