@@ -1,6 +1,6 @@
 """Masks that change from line to line and within a line; each line is read under what the lines before left."""
 
-from messages import BEIDOU, GALILEO, GLONASS, GPS, QZSS, Mask, System, mask_message, opening
+from messages import BEIDOU, GALILEO, GLONASS, GPS, QZSS, Mask, System, combined, mask_message, opening
 
 from . import BASE, Random, clock, line, message
 
@@ -38,7 +38,7 @@ def same_mask(random):
 
 
 def within_a_stretch(random):
-    """Two masks in one stretch; what stands between and after them; one that is adopted before a refusal stays."""
+    """Two masks in one stretch; what stands between and after them."""
     one = Mask(1, (System(GPS, (4,), (0,)),))
     two = Mask(2, (System(BEIDOU, (5, 6), (0, 8)), System(GLONASS, (23,), ())))
     return [
@@ -46,12 +46,29 @@ def within_a_stretch(random):
         line(clock(two, random)),
         line(mask_message(one), mask_message(two), clock(one, random)),
         line(clock(two, random)),
-        line(mask_message(one), opening(12)),
-        line(clock(one, random)),
         line(clock(two, random), mask_message(two)),
         line(clock(one, random)),
         line(message(10, one, random), mask_message(two), message(10, two, random), clock(two, random)),
     ]
+
+
+def refused_after(mask, random):
+    """For each refusal that a stretch can earn behind this mask a message that earns it: 3, 4, 5, 7, 8, 9, 10, 11."""
+    def other(system):
+        return mask_message(Mask((mask.iod + 1) % 16, (system,)))
+
+    return [clock(mask, random)[:-1], [("number", 12, 4072)], opening(12), clock(mask, random, iod=(mask.iod + 1) % 16),
+            other(System(6, (), ())), other(System(QZSS, (10,), ())), other(System(GPS, range(32), range(9))),
+            combined(mask, random, network=0, selection="1")]
+
+
+def adopted_before(random):
+    """A mask that is adopted in front of a refusal stays, whichever it is."""
+    made = []
+    for turn in range(8):
+        mask = Mask(turn, (System(GPS, (30 + turn,), (0,)),))
+        made += [line(mask_message(mask), refused_after(mask, random)[turn]), line(clock(mask, random))]
+    return made
 
 
 def not_adopted(random):
@@ -64,4 +81,5 @@ def not_adopted(random):
 
 def made():
     random = Random(6)
-    return counted(random) + same_issue(random) + same_mask(random) + within_a_stretch(random) + not_adopted(random)
+    return counted(random) + same_issue(random) + same_mask(random) + within_a_stretch(random) + \
+        adopted_before(random) + not_adopted(random)
