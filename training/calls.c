@@ -1,6 +1,6 @@
 /* The answers that no stretch earns, only a call: 1 (room), 2 (place) and 12 (value), each beside the nearest call that
-   is not refused so; then the order of the tests, and rows after a refusal. A line for each call:
-   what is lent, the answer, the place, and whether holding and rows were kept as they were. training/README.md explains. */
+   is not refused so; then the order of the tests, and rows after a refusal. A line for each call: what is lent, the
+   answer, the place, and whether holding and rows were kept as they were. training/README.md explains. */
 #include <inttypes.h>
 #include <stdio.h>
 #include <string.h>

@@ -56,9 +56,11 @@ def assigned_places():
     for k, name in enumerate(SYSTEM_NAMES):
         end = SATELLITE_PLACES[k]
         if end < 40:
-            made.append(masks(f"{name} satellite place {end - 1}", [System(k, (end - 1,), ())], [System(k, (end,), ())]))
+            good, past = System(k, (end - 1,), ()), System(k, (end,), ())
+            made.append(masks(f"{name} satellite place {end - 1}", [good], [past]))
         end = SIGNAL_PLACES[k]
-        made.append(masks(f"{name} signal place {end - 1}", [System(k, (), (end - 1,))], [System(k, (), (end,))]))
+        good, past = System(k, (), (end - 1,)), System(k, (), (end,))
+        made.append(masks(f"{name} signal place {end - 1}", [good], [past]))
     return made
 
 
