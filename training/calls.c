@@ -1,0 +1,118 @@
+/* The answers that no stretch earns, only a call: 1 (room), 2 (place) and 12 (value), each beside the nearest call that
+   is not refused so; then the order of the tests, and rows after a refusal. A line for each call: what is lent, the
+   answer, the place, and whether holding and rows were kept as they were. training/README.md explains. */
+#include <inttypes.h>
+#include <stdio.h>
+#include <string.h>
+
+#include "hundurzek.h"
+
+/* Document 01's worked stretch: 23 bytes are lent of it, or as many as the longest stretch has, zeros behind it. */
+enum { BITS = 181, CLOCKS = 114, BYTES = 23, LONGEST = 50850, LONGEST_BYTES = 6357, SATELLITES = 3, ISSUE = 1 };
+static uint8_t stretch[LONGEST_BYTES] = {0xFE, 0x91, 0x00, 0x06, 0x45, 0x18, 0x85, 0x00, 0x00, 0x00, 0x00, 0x04,
+                                         0x08, 0x06, 0xFF, 0xA4, 0xC1, 0x90, 0x86, 0x00, 0x16, 0x00, 0x00};
+
+/* What one call lends and asks. */
+typedef struct {
+  const uint8_t *holding;
+  uint64_t holding_count, bytes, end, start, numbers;
+} call;
+
+static uint8_t empty[HUNDURZEK_HOLDING], masked[HUNDURZEK_HOLDING], spoilt[HUNDURZEK_HOLDING];
+
+static const char *told(int same) { return same ? "kept" : "changed"; }
+
+/* Reads with copies of what is lent, the row buffer full of sevens, and tells what came of it. */
+static void try(const char *what, call c) {
+  static uint8_t holding[HUNDURZEK_HOLDING];
+  static int32_t rows[HUNDURZEK_ROOM], before[HUNDURZEK_ROOM];
+  hundurzek_reading reading;
+  for (int i = 0; i < HUNDURZEK_ROOM; i++) rows[i] = before[i] = 7;
+  memcpy(holding, c.holding, sizeof holding);
+  hundurzek_read(&reading, holding, c.holding_count, stretch, c.bytes, c.end, c.start, rows, c.numbers);
+  printf("%s\tanswer %" PRIu64 "\tplace %" PRIu64, what, reading.answer, reading.place);
+  printf("\tholding %s", told(memcmp(holding, c.holding, sizeof holding) == 0));
+  printf("\trows %s\n", told(memcmp(rows, before, sizeof rows) == 0));
+}
+
+static void room(void) {
+  call c = {empty, sizeof empty, BYTES, BITS, 0, HUNDURZEK_ROOM - 1};
+  try("2047 numbers for rows", c);
+  c.numbers++;
+  try("2048 numbers for rows", c);
+  for (uint64_t count = HUNDURZEK_HOLDING - 1; count <= HUNDURZEK_HOLDING; count++) {
+    uint64_t answer = hundurzek_empty(spoilt, count);
+    printf("empty holding in %" PRIu64 " bytes\tanswer %" PRIu64 "\n", count, answer);
+  }
+}
+
+static void place(void) {
+  call c = {empty, sizeof empty, LONGEST_BYTES, LONGEST + 1, 0, HUNDURZEK_ROOM};
+  try("50851 bits", c);
+  c.end--;
+  try("50850 bits", c);
+  c.bytes = BYTES;
+  c.end = 8 * BYTES + 1;
+  try("185 bits in 23 bytes", c);
+  c.end--;
+  try("184 bits in 23 bytes", c);
+  c.end = BITS;
+  c.start = BITS + 1;
+  try("start 182 of 181 bits", c);
+  c.start--;
+  try("start 181 of 181 bits", c);
+}
+
+/* A holding as bytes (docs/HOST.md): a number of satellites that is not the masks' own, an issue of no mask. */
+static void value(void) {
+  call c = {spoilt, sizeof spoilt, BYTES, BITS, CLOCKS, HUNDURZEK_ROOM};
+  memcpy(spoilt, masked, sizeof spoilt);
+  spoilt[SATELLITES] ^= 1;
+  try("holding says 3 satellites, masks name 2", c);
+  c.holding = masked;
+  try("holding says 2 satellites, masks name 2", c);
+  c.holding_count--;
+  try("holding in 193 bytes", c);
+  c = (call){spoilt, sizeof spoilt, BYTES, BITS, 0, HUNDURZEK_ROOM};
+  memcpy(spoilt, empty, sizeof spoilt);
+  spoilt[ISSUE] ^= 1;
+  try("empty holding with issue 1", c);
+  c.holding = empty;
+  try("empty holding", c);
+}
+
+/* Everything wrong at once; then one thing after another is put right. */
+static void order(void) {
+  call c = {spoilt, sizeof spoilt, BYTES, BITS, BITS + 1, HUNDURZEK_ROOM - 1};
+  try("room, place and holding wrong", c);
+  c.numbers++;
+  try("place and holding wrong", c);
+  c.start--;
+  try("holding wrong, no bits left", c);
+  c.holding = empty;
+  try("no bits left", c);
+}
+
+/* The clocks of issue 3 under a mask of issue 2: whoever tests the issue after the rows has changed them by now. */
+static void late(void) {
+  call c = {spoilt, sizeof spoilt, BYTES, BITS, CLOCKS, HUNDURZEK_ROOM};
+  memcpy(spoilt, masked, sizeof spoilt);
+  spoilt[ISSUE] = 2;
+  try("clocks of issue 3, mask of issue 2", c);
+  spoilt[ISSUE] = 3;
+  try("clocks of issue 3, mask of issue 3", c);
+}
+
+int main(void) {
+  static int32_t rows[HUNDURZEK_ROOM];
+  hundurzek_reading reading;
+  hundurzek_empty(empty, sizeof empty);
+  memcpy(masked, empty, sizeof masked);
+  hundurzek_read(&reading, masked, sizeof masked, stretch, BYTES, BITS, 0, rows, HUNDURZEK_ROOM);
+  room();
+  place();
+  value();
+  order();
+  late();
+  return 0;
+}

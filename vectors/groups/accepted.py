@@ -1,0 +1,48 @@
+"""Good messages under masks of every kind: each line opens with its mask; then every sub type, in any order."""
+
+from messages import (SATELLITE_PLACES, SIGNAL_PLACES, Mask, System, cells, combined, correction, mask_message,
+                      satellites, service)
+
+from . import Random, line
+
+LINES = 80
+
+
+def system(random, system_id):
+    count = random.pick((0, 1, 2, 3, 5, 8))
+    chosen = random.some(range(SATELLITE_PLACES[system_id]), count)
+    signals = random.some(range(SIGNAL_PLACES[system_id]), random.pick((0, 1, 2, 3, 4)))
+    flagged = random.below(2)
+    cell_mask = random.bits(len(chosen) * len(signals), random.pick((0, 30, 60, 100))) if flagged else None
+    return System(system_id, chosen, signals, cell_mask)
+
+
+def mask(random):
+    """Any systems in any order; small enough for the limits."""
+    ids = sorted(range(5), key=lambda _: next(random))[:random.below(6)]
+    return Mask(random.below(16), tuple(system(random, system_id) for system_id in ids))
+
+
+def head(random):
+    return {"epoch": random.below(3600), "interval": random.below(16), "indicator": random.below(2)}
+
+
+def some_message(random, held, sub_type):
+    if sub_type == 10:
+        return service(random, random.below(2), random.below(8), random.below(4))
+    if sub_type < 10:
+        return correction(sub_type, held, random, **head(random))
+    network = random.pick((None, 1 + random.below(31)))
+    selection = random.bits(len(satellites(held)))
+    return combined(held, random, random.below(2), random.below(2), network, selection, **head(random))
+
+
+def made():
+    random, made = Random(5), []
+    while len(made) < LINES:
+        held = mask(random)
+        if len(satellites(held)) <= 64 and len(cells(held)) <= 256:
+            order = sorted((2, 3, 4, 5, 10, 11), key=lambda _: next(random))[:1 + random.below(6)]
+            sent = [some_message(random, held, sub_type) for sub_type in order]
+            made.append(line(mask_message(held, epoch=random.below(604800)), *sent))
+    return made

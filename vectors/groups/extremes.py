@@ -1,0 +1,86 @@
+"""Each field at its least, its greatest and next to them. EACH is held unless a line opens with another mask."""
+
+from messages import GPS, SATELLITE_PLACES, SIGNAL_PLACES, Mask, System, combined, correction, mask_message, service
+
+from . import EACH, Random, line, message
+
+INTERVALS = range(16)
+BODY = ("IODE", "radial", "along-track", "cross-track", "clock", "code bias", "phase bias", "discontinuity", "data")
+
+
+def extremes(width):
+    """Least, greatest and next to them, unsigned and signed: as bits these are the same few."""
+    half, full = 1 << (width - 1), 1 << width
+    return [0, 1, half - 1, half, half + 1, full - 1]
+
+
+def turned(fields, turn):
+    """The message with the extremes in its body, going round from field to field and from line to line."""
+    body = [k for k, (name, _, _) in enumerate(fields) if name in BODY]
+    return [(name, width, extremes(width)[(turn + k) % 6] if k in body else value)
+            for k, (name, width, value) in enumerate(fields)]
+
+
+def bodies():
+    zeros = [0] * 100
+    sent = [correction(sub_type, EACH, zeros) for sub_type in (2, 3, 4, 5)]
+    sent += [combined(EACH, zeros), service(zeros, size=3)]
+    return [line(turned(fields, turn)) for fields in sent for turn in range(6)]
+
+
+def mask_heads():
+    epochs = [line(mask_message(EACH, epoch=epoch)) for epoch in (0, 1, 604799, 604800, 2**20 - 1)]
+    intervals = [line(mask_message(EACH, interval=interval, indicator=interval % 2)) for interval in INTERVALS]
+    counts = [line(mask_message(Mask(3, EACH.systems[:count]))) for count in range(6)]
+    return epochs + intervals + counts
+
+
+def heads(random):
+    """Epochs, intervals and indicators of the corrections; every issue, with a mask of it."""
+    made = []
+    for k in (2, 3, 4, 5, 11):
+        made += [line(message(k, EACH, random, epoch=epoch, indicator=epoch % 2)) for epoch in (0, 1, 3599, 3600, 4095)]
+        made += [line(message(k, EACH, random, interval=interval)) for interval in INTERVALS]
+        made += [line(mask_message(EACH._replace(iod=iod)), message(k, EACH, random, iod=iod)) for iod in range(16)]
+        made.append(line(mask_message(EACH)))
+    return made
+
+
+def flags(random):
+    """Sub type 11: all flags, every network ID, every selection of five; sub type 10: counters and sizes."""
+    plain = [line(combined(EACH, random, orbits, clocks)) for orbits in (0, 1) for clocks in (0, 1)]
+    some = [line(combined(EACH, random, orbits, clocks, network=9, selection="01101"))
+            for orbits in (0, 1) for clocks in (0, 1)]
+    networks = [line(combined(EACH, random, network=k, selection=format(k, "05b"))) for k in range(1, 32)]
+    none = [line(combined(EACH, random, network=31, selection="00000"))]
+    packets = [line(service(random, indicator, counter, size))
+               for indicator in (0, 1) for counter in range(8) for size in range(4)]
+    return plain + some + networks + none + packets
+
+
+def places(random):
+    """Each satellite place and each signal place of each system alone, all of them, and none."""
+    made = []
+    for k in range(5):
+        chosen = [((place,), (0,)) for place in range(SATELLITE_PLACES[k])]
+        chosen += [((0,), (place,)) for place in range(SIGNAL_PLACES[k])]
+        chosen += [((), ()), ((), (0,)), ((0,), ()), (range(SATELLITE_PLACES[k]), ()), ((), range(SIGNAL_PLACES[k]))]
+        for satellites, signals in chosen:
+            mask = Mask(7, (System(k, tuple(satellites), tuple(signals)),))
+            made.append(line(mask_message(mask), correction(3, mask, random), correction(4, mask, random)))
+    return made
+
+
+def cell_masks(random):
+    """Each cell mask of two satellites by two signals, and none."""
+    made = []
+    for cells in [format(k, "04b") for k in range(16)] + [None]:
+        mask = Mask(7, (System(GPS, (0, 2), (0, 7), cells),))
+        made.append(line(mask_message(mask), correction(4, mask, random), correction(5, mask, random)))
+    return made
+
+
+def made():
+    random = Random(4)
+    return [line(mask_message(EACH))] + bodies() + mask_heads() + heads(random) + flags(random) + places(random) + \
+        cell_masks(random)

@@ -1,0 +1,68 @@
+"""Two faults in one message: the one that comes first in the reader's order is told. BASE is held to the end."""
+
+from messages import BEIDOU, GLONASS, GPS, QZSS, Mask, System, combined, mask_message, opening, spell, text
+
+from . import BASE, Random, clock, line, message
+
+BODY = 7 * (49 + 15) + 2 * 2  # of sub type 11 for all of BASE's satellites, two of them Galileo's
+
+
+def cut(fields, bits):
+    return text(spell(fields)[:-bits])
+
+
+def masked(*systems, count=None):
+    return mask_message(Mask(3, systems), count=count)
+
+
+def faulty_messages(random):
+    other = message(11, BASE, random, iod=4)
+    network = combined(BASE, random, network=0, selection="1" * 7)
+    return [
+        ("number and sub type", line([("number", 12, 4072), ("sub type", 4, 12)])),
+        ("number, nothing behind it", line([("number", 12, 4072)])),
+        ("sub type, nothing behind it", line(opening(12))),
+        ("other issue, no body", cut(clock(BASE, random, iod=4), 7 * 15)),
+        ("other issue, a bit of the body missing", cut(clock(BASE, random, iod=4), 1)),
+        ("other issue, network 0", line(other[:9] + [("network ID", 5, 0)] + other[10:])),
+        ("network 0, no selection", cut(network, BODY + 7)),
+        ("network 0, no body", cut(network, BODY)),
+    ]
+
+
+def faulty_masks():
+    one = System(GPS, (0,), (0,))
+    many = System(GPS, range(40), (0,))
+    wide = System(GPS, range(33), range(8), "1" * 264)
+    return [
+        ("unknown system, nothing behind it", cut(masked(System(6, (), ())), 57)),
+        ("system named twice, nothing behind it", cut(masked(one, one), 57)),
+        ("reserved satellite, over 64 satellites", line(masked(many, System(GLONASS, range(25), ())))),
+        ("over 64 satellites, reserved signal", line(masked(many, System(BEIDOU, range(25), (9,))))),
+        ("over 64 satellites, nothing behind it", cut(masked(many, System(BEIDOU, range(25), ())), 17)),
+        ("reserved satellite, reserved signal", line(masked(System(QZSS, (10,), (10,))))),
+        ("reserved signal, nothing behind it", cut(masked(System(QZSS, (9,), (10,))), 1)),
+        ("over 256 cells, next system unknown", line(masked(System(GPS, range(40), range(7)), System(6, (), ())))),
+        ("cell mask of over 256 cells, a bit of it missing", cut(masked(wide), 1)),
+        ("sixth system, a system named twice", line(masked(*(one._replace(id=k) for k in (0, 1, 2, 3, 4, 0))))),
+        ("15 systems said, one there", line(masked(one, count=15))),
+    ]
+
+
+def named(random):
+    """The line before any mask; then the others, for which BASE is held."""
+    first = [("no mask, no body", cut(clock(BASE, random), 7 * 15))]
+    return first, faulty_messages(random) + faulty_masks()
+
+
+def made():
+    """After each a clock that shows what is held still."""
+    random = Random(2)
+    first, others = named(random)
+    shown = [made for _, faulty in others for made in (faulty, line(clock(BASE, random)))]
+    return [faulty for _, faulty in first] + [line(mask_message(BASE))] + shown
+
+
+def names():
+    first, others = named(Random(2))
+    return [name for name, _ in first + others]
