@@ -2,3 +2,4 @@ pub mod Stores
 pub mod LastDigits
 pub mod HexDigits
 pub mod Values
+pub mod MoreDigits
