@@ -3,3 +3,4 @@ pub mod LastDigits
 pub mod HexDigits
 pub mod Values
 pub mod Characters
+pub mod MoreDigits

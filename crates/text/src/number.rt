@@ -65,14 +65,71 @@ pub fn decimals(n: u64) -> usize
     k
 }
 
-// A number, decimal without leading zeros.
-pub fn number(line: &mut [u8], at: usize, n: u64) -> usize
+// A number of many digits.
+fn long(line: &mut [u8], at: usize, n: u64) -> usize
     requires { ⌜ at + length (decimal n) ≤ length (now line) ⌝ }
     ensures { λ r. ⌜ r ≡ at + length (decimal n) ⌝ }
     ensures { λ _. ⌜ now (line .exit) ≡ sets (now (line .entry)) at (decimal n) ⌝ }
 {
     let k = decimals(n);
     digits(line, at, k, n, 10)
+}
+
+// Numbers of one to four digits, which is what nearly all are: each digit at its place, without a loop.
+fn one(line: &mut [u8], at: usize, n: u64) -> usize
+    requires { ⌜ (n < 10) × (at + length (decimal n) ≤ length (now line)) ⌝ }
+    ensures { λ r. ⌜ r ≡ at + length (decimal n) ⌝ }
+    ensures { λ _. ⌜ now (line .exit) ≡ sets (now (line .entry)) at (decimal n) ⌝ }
+{
+    put(line, at, digit(n))
+}
+
+fn two(line: &mut [u8], at: usize, n: u64) -> usize
+    requires { ⌜ (10 ≤ n) × (n < 100) × (at + length (decimal n) ≤ length (now line)) ⌝ }
+    ensures { λ r. ⌜ r ≡ at + length (decimal n) ⌝ }
+    ensures { λ _. ⌜ now (line .exit) ≡ sets (now (line .entry)) at (decimal n) ⌝ }
+{
+    let last = one(line, at, n / 10);
+    put(line, last, digit(n % 10))
+}
+
+fn three(line: &mut [u8], at: usize, n: u64) -> usize
+    requires { ⌜ (100 ≤ n) × (n < 1000) × (at + length (decimal n) ≤ length (now line)) ⌝ }
+    ensures { λ r. ⌜ r ≡ at + length (decimal n) ⌝ }
+    ensures { λ _. ⌜ now (line .exit) ≡ sets (now (line .entry)) at (decimal n) ⌝ }
+{
+    let last = two(line, at, n / 10);
+    put(line, last, digit(n % 10))
+}
+
+fn four(line: &mut [u8], at: usize, n: u64) -> usize
+    requires { ⌜ (1000 ≤ n) × (n < 10000) × (at + length (decimal n) ≤ length (now line)) ⌝ }
+    ensures { λ r. ⌜ r ≡ at + length (decimal n) ⌝ }
+    ensures { λ _. ⌜ now (line .exit) ≡ sets (now (line .entry)) at (decimal n) ⌝ }
+{
+    let last = three(line, at, n / 10);
+    put(line, last, digit(n % 10))
+}
+
+// A number, decimal without leading zeros.
+pub fn number(line: &mut [u8], at: usize, n: u64) -> usize
+    requires { ⌜ at + length (decimal n) ≤ length (now line) ⌝ }
+    ensures { λ r. ⌜ r ≡ at + length (decimal n) ⌝ }
+    ensures { λ _. ⌜ now (line .exit) ≡ sets (now (line .entry)) at (decimal n) ⌝ }
+{
+    if n < 10 {
+        return one(line, at, n);
+    }
+    if n < 100 {
+        return two(line, at, n);
+    }
+    if n < 1000 {
+        return three(line, at, n);
+    }
+    if n < 10000 {
+        return four(line, at, n);
+    }
+    long(line, at, n)
 }
 
 // The base that writes four bits by a digit.
