@@ -1,5 +1,5 @@
-// The holding that a line would say, if it is the line of one. Of any other line it makes something: whether it is its line is
-// tested afterwards.
+// The holding that a line would say (document 01, "Saved mask and listing"), if it is the line of one. Of any other line it
+// makes something, which `load` tests: so no field is tested here, and a place past the end says 0.
 ghost use mathlib.Core.Path.{_≡_};
 ghost use mathlib.Core.Bool.{true};
 ghost use mathlib.Core.List.{List, [], _∷_, _++_, flatMap};
@@ -152,6 +152,7 @@ fn issue_said(line: &[u8]) -> u8
     ((10 * tens + said(second)) % 256) as u8
 }
 
+// A dash, or an issue and systems.
 pub fn candidate(line: &[u8]) -> Holding
     ensures { λ r. ⌜ ((held : Held) → good held ≡ true → lineOf held ≡ now (line .entry) → r ≡ pictureOf held) ⌝ }
 {

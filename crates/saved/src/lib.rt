@@ -1,4 +1,4 @@
-// The saved holding (document 01, "Saved mask and listing"): one line of text.
+// The saved holding (document 01, "Saved mask and listing"): one line of text, and the way back.
 mod candidate;
 pub mod cells;
 mod characters;
@@ -46,7 +46,8 @@ pub fn save(holding: Holding, line: &mut [u8]) -> Saving
     Saving::Saved(line::line_text(line, holding))
 }
 
-// The holding that a line says: the one that it would say, if that is one and the line is its own. Any other line is refused.
+// The holding that a line says: the one that it would say, if that is a holding and the line is its own. A form is told by its
+// own line, so that no list of what can be wrong with a line is needed.
 pub fn load(line: &[u8]) -> Loading
     ensures { λ r. ⌜ r ≡ loadingBy (load (now (line .entry))) ⌝ }
 {

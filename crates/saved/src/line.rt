@@ -22,10 +22,6 @@ use text::put;
 // The letter that a saved holding begins with.
 const LETTER: u8 = b'S';
 
-// The longest line of a sound holding: letter, tab and line feed, an issue of two digits, 22 characters for each system (its ID,
-// its masks, its flag and a dash, each after a tab), and four digits for each satellite's part of a cell mask.
-const LONGEST: usize = AROUND + 2 + 22 * Holding::SYSTEMS + 4 * Holding::SATELLITES;
-
 // How long the text of its systems is.
 fn systems_long(h: Holding) -> usize
     requires { ⌜ sound h ≡ true ⌝ }
@@ -101,6 +97,7 @@ pub fn line_text(line: &mut [u8], h: Holding) -> usize
     put(line, third, LINE_FEED)
 }
 
+// Whether two texts are the same.
 fn same(a: &[u8], b: &[u8]) -> bool
     ensures { λ r. ⌜ r ≡ sameList eqb (now (a .entry)) (now (b .entry)) ⌝ }
 {
@@ -116,6 +113,13 @@ fn same(a: &[u8], b: &[u8]) -> bool
     }
     true
 }
+
+// The longest line of a sound holding: an issue of two digits; for each system what is fixed, its ID and a dash; for each
+// satellite a bit of a cell mask for each signal.
+const LONGEST: usize = AROUND
+    + 2
+    + (systems::FIXED + 2) * Holding::SYSTEMS
+    + systems::SIGNAL_DIGITS * Holding::SATELLITES;
 
 // Whether a line is a sound holding's own.
 pub fn is_own(h: Holding, line: &[u8]) -> bool

@@ -54,7 +54,7 @@ pub const SATELLITE_DIGITS: usize = Holding::SATELLITE_MASK / cells::DIGIT;
 pub const SIGNAL_DIGITS: usize = Holding::SIGNAL_MASK / cells::DIGIT;
 
 // How long a system's text is without its ID and its cell mask: five tabs, both masks and the flag.
-const FIXED: usize = 5 + SATELLITE_DIGITS + SIGNAL_DIGITS + 1;
+pub const FIXED: usize = 5 + SATELLITE_DIGITS + SIGNAL_DIGITS + 1;
 
 // The most bits that a digit of a cell mask is padded with.
 const SPARE: usize = cells::DIGIT - 1;
