@@ -71,6 +71,7 @@ pub fn rows(out: &mut [u8], at: usize, rows: &[i32], n: usize) -> usize
     requires { ⌜ (8 * n ≤ length (now rows)) × (at + rowLong * n ≤ length (now out)) ⌝ }
     ensures { λ r. ⌜ r ≡ at + length (flatMap (recordText letterR) (rowsIn n (now (rows .entry)))) ⌝ }
     ensures { λ _. ⌜ now (out .exit) ≡ sets (now (out .entry)) at (flatMap (recordText letterR) (rowsIn n (now (rows .entry)))) ⌝ }
+    ensures { λ r. ⌜ r ≤ at + rowLong * n ⌝ }
 {
     let mut place = at;
     let mut i = 0;
@@ -122,6 +123,7 @@ pub fn message(
     requires { ⌜ (place ≤ next) × (next ≤ 50850) × (n ≤ 256) × (8 * n ≤ length (now rows)) × (messageRoom ≤ length (now out)) ⌝ }
     ensures { λ r. ⌜ r ≡ length (messageIn head place next n (now (rows .entry))) ⌝ }
     ensures { λ _. ⌜ now (out .exit) ≡ sets (now (out .entry)) 0 (messageIn head place next n (now (rows .entry))) ⌝ }
+    ensures { λ r. ⌜ r ≤ messageRoom ⌝ }
 {
     let first = opening(out, head, place, next, n);
     crate::records::rows(out, first, rows, n)
@@ -135,6 +137,7 @@ pub fn stop(out: &mut [u8], number: u64, place: usize, messages: usize, rows: us
     requires { ⌜ (number < 2 ^ 31) × (place < 2 ^ 31) × (messages < 2 ^ 31) × (rows < 2 ^ 31) × (messageRoom ≤ length (now out)) ⌝ }
     ensures { λ r. ⌜ r ≡ length (recordText letterE (pos number ∷ pos place ∷ pos messages ∷ pos rows ∷ [])) ⌝ }
     ensures { λ _. ⌜ now (out .exit) ≡ sets (now (out .entry)) 0 (recordText letterE (pos number ∷ pos place ∷ pos messages ∷ pos rows ∷ [])) ⌝ }
+    ensures { λ r. ⌜ r ≤ messageRoom ⌝ }
 {
     let values = [number as i32, place as i32, messages as i32, rows as i32];
     record(out, 0, LETTER_E, &values)
@@ -148,6 +151,7 @@ pub fn bad(out: &mut [u8], number: u64) -> usize
     requires { ⌜ messageRoom ≤ length (now out) ⌝ }
     ensures { λ r. ⌜ r ≡ length (badText number) ⌝ }
     ensures { λ _. ⌜ now (out .exit) ≡ sets (now (out .entry)) 0 (badText number) ⌝ }
+    ensures { λ r. ⌜ r ≤ messageRoom ⌝ }
 {
     let first = put(out, 0, LETTER_B);
     let second = put(out, first, TAB);

@@ -16,6 +16,9 @@ use crate::open::open;
 use holding::Holding;
 use walk::Tally;
 
+// How many bytes of a line are kept: one more than the longest that is not bad has.
+pub const LINE_ROOM: usize = 12721;
+
 // What is under way: a line of which so many bytes have come; one that has come whole; or the stretch that one said,
 // of so many bits, listed up to a place.
 pub enum Work {
@@ -52,6 +55,7 @@ pub fn advance(
     ensures { λ _. ⌜ now (line .exit) ≡ stepOf state (now (line .entry)) (now (rows .entry)) (now (piece .entry)) .line ⌝ }
     ensures { λ _. ⌜ now (rows .exit) ≡ stepOf state (now (line .entry)) (now (rows .entry)) (now (piece .entry)) .rows ⌝ }
     ensures { λ _. ⌜ now (out .exit) ≡ sets (now (out .entry)) 0 (stepOf state (now (line .entry)) (now (rows .entry)) (now (piece .entry)) .text) ⌝ }
+    ensures { λ r. ⌜ r .given ≤ messageRoom ⌝ }
 {
     let work = state.work;
     let holding = state.holding;

@@ -24,6 +24,7 @@ fn stop(next: State, tally: Tally, number: u64, out: &mut [u8]) -> Step
     requires { ⌜ (number < 2 ^ 31) × (tally .place < 2 ^ 31) × (tally .messages < 2 ^ 31) × (tally .rows < 2 ^ 31) × (messageRoom ≤ length (now out)) ⌝ }
     ensures { λ r. ⌜ r ≡ record { state = next; taken = 0; given = length (stopText number tally) } ⌝ }
     ensures { λ _. ⌜ now (out .exit) ≡ sets (now (out .entry)) 0 (stopText number tally) ⌝ }
+    ensures { λ r. ⌜ r .given ≤ messageRoom ⌝ }
 {
     let given = records::stop(out, number, tally.place, tally.messages, tally.rows);
     Step {
@@ -46,6 +47,7 @@ pub fn onward(
     ensures { λ r. ⌜ r ≡ answered (listedAt state bits tally (now (line .entry)) (now (rows .entry))) ⌝ }
     ensures { λ _. ⌜ now (rows .exit) ≡ listedAt state bits tally (now (line .entry)) (now (rows .entry)) .rows ⌝ }
     ensures { λ _. ⌜ now (out .exit) ≡ sets (now (out .entry)) 0 (listedAt state bits tally (now (line .entry)) (now (rows .entry)) .text) ⌝ }
+    ensures { λ r. ⌜ r .given ≤ messageRoom ⌝ }
 {
     let reading = single::read(state.holding, line, bits, tally.place, rows);
     let answer = reading.answer;

@@ -53,6 +53,7 @@ pub fn open(state: State, filled: usize, line: &mut [u8], out: &mut [u8]) -> Ste
     ensures { λ r. ⌜ ((rows : List ℤ) → r ≡ answered (opensAs state (lineSays (take filled (now (line .entry)))) (now (line .entry)) rows)) ⌝ }
     ensures { λ _. ⌜ ((rows : List ℤ) → now (line .exit) ≡ opensAs state (lineSays (take filled (now (line .entry)))) (now (line .entry)) rows .line) ⌝ }
     ensures { λ _. ⌜ ((rows : List ℤ) → now (out .exit) ≡ sets (now (out .entry)) 0 (opensAs state (lineSays (take filled (now (line .entry)))) (now (line .entry)) rows .text)) ⌝ }
+    ensures { λ r. ⌜ r .given ≤ messageRoom ⌝ }
 {
     let holding = state.holding;
     let said = said_by(&line[..filled]);

@@ -1,4 +1,5 @@
 -- `lister::advance` meets its contract. Assumes nothing.
+use native.Mathlib.Omega.{arith}
 use borrow.Author.Needs.{needs}
 use Rattle.lister.proofs.Advances.{gathers-made, opens-made, lists-made, gathers-under, opens-under, lists-under}
 use Rattle.lister.proofs.advance.Statement.{statement}
@@ -27,21 +28,26 @@ returns c =
     let g = c .before .before in
     let w = g .before .before .before in
     let x = w .before .before .before .before .before .before .args in
-    gathers-made (x .state) (x .line .now) (x .rows .now) (x .piece .now) (x .out .now) _ (w .work .given .1) (g .gather .result) _ (g .gather .ensures)
+    let made = gathers-made (x .state) (x .line .now) (x .rows .now) (x .piece .now) (x .out .now) _ (w .work .given .1) (g .gather .result) _ (g .gather .ensures) in
+    (made .0, (made .1 .0, (made .1 .1 .0, (made .1 .1 .1, omega arith))))
 
 returns-2 : tie.Need-returns-2
 returns-2 c =
     let o = c .before .before .before .before in
     let w = o .before .before .before .before in
     let x = w .before .before .before .before .before .before .args in
-    opens-made (x .state) (x .line .now) (x .rows .now) (x .piece .now) (x .out .now) _ (w .work2 .given .1) (o .«open» .result) _ _ (o .«open» .ensures)
+    let told = o .«open» .ensures in
+    let made = opens-made (x .state) (x .line .now) (x .rows .now) (x .piece .now) (x .out .now) _ (w .work2 .given .1) (o .«open» .result) _ _ (told .0, (told .1 .0, told .1 .1 .0)) in
+    (made .0, (made .1 .0, (made .1 .1 .0, (made .1 .1 .1, told .1 .1 .1))))
 
 returns-3 : tie.Need-returns-3
 returns-3 c =
     let o = c .before .before .before in
     let w = o .before .before .before .before .before in
     let x = w .before .before .before .before .before .before .args in
-    lists-made (x .state) (x .line .now) (x .rows .now) (x .piece .now) (x .out .now) _ _ (w .work3 .given .1) (o .onward .result) _ _ (o .onward .ensures)
+    let told = o .onward .ensures in
+    let made = lists-made (x .state) (x .line .now) (x .rows .now) (x .piece .now) (x .out .now) _ _ (w .work3 .given .1) (o .onward .result) _ _ (told .0, (told .1 .0, told .1 .1 .0)) in
+    (made .0, (made .1 .0, (made .1 .1 .0, (made .1 .1 .1, told .1 .1 .1))))
 
 pub advance-spec : {M : Type 1} → statement M
 advance-spec =

@@ -31,9 +31,9 @@ returns c =
     let q = n .before .before .before .before in
     let p = q .before .before .before .before in
     let x = p .before .before .before .args in
-    rw (bad-parts (x .number))
-    (told-first (then-wrote (wrote (x .out .now) {at = 0} (letterB ∷ []) (p .put .ensures)) (then-wrote (wrote _ (tab ∷ []) (q .put2 .ensures))
-    (then-wrote (wrote _ (decimal (x .number)) (n .number .ensures)) (wrote _ (lineFeed ∷ []) (r .put3 .ensures))))))
+    let w = told-first (then-wrote (wrote (x .out .now) {at = 0} (letterB ∷ []) (p .put .ensures)) (then-wrote (wrote _ (tab ∷ []) (q .put2 .ensures))
+    (then-wrote (wrote _ (decimal (x .number)) (n .number .ensures)) (wrote _ (lineFeed ∷ []) (r .put3 .ensures))))) in
+    rw (bad-parts (x .number)) (w .0, (w .1, omega (arith, p .put .ensures .0, q .put2 .ensures .0, n .number .ensures .0, r .put3 .ensures .0, decimal-long 19 (x .number) (omega arith))))
 
 pub bad-spec : {M : Type 1} → statement M
 bad-spec =

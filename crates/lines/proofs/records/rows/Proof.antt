@@ -14,7 +14,7 @@ use Rattle.lines.proofs.records.rows.Tie as tie
 
 abbrev Inv-loop : tie.InvT-loop
 Inv-loop out₀ at rows n place₀ i₀ out place i =
-    (i ≤ n) × (place + rowLong * (n - i) ≤ length out₀) × Left out₀ at (rowsFrom n rows 0) out place (rowsFrom n rows i)
+    (i ≤ n) × (place ≤ at + rowLong * i) × Left out₀ at (rowsFrom n rows 0) out place (rowsFrom n rows i)
 
 abbrev μ-loop : tie.MeasureT-loop
 μ-loop out₀ at rows n place₀ i₀ out place i = n - i
@@ -43,7 +43,8 @@ returns : tie.Need-returns Inv-loop μ-loop
 returns c =
     let a = c .before in
     let x = a .before .before .args in
-    rw (all-rows (x .n) (x .rows .now)) (told (none-left (a .loop .inv .2) (no-row (x .n) (x .rows .now) (a .loop .i) (omega arith))))
+    let w = told (none-left (a .loop .inv .2) (no-row (x .n) (x .rows .now) (a .loop .i) (omega arith))) in
+    rw (all-rows (x .n) (x .rows .now)) (w .0, (w .1, omega arith))
 
 pub rows-spec : {M : Type 1} → statement M
 rows-spec =

@@ -38,7 +38,7 @@ returns c =
     let r = c .before .before in
     let s = r .before .before .before .before in
     let done = rw (same s) at (r .«record» .ensures) in
-    (omega (arith, done .0), done .1)
+    (omega (arith, done .0), (done .1, omega (arith, done .0, long s)))
 
 pub stop-spec : {M : Type 1} → statement M
 stop-spec =

@@ -79,7 +79,7 @@ returns c =
     let x = s (k a) .args in (
       (λ i. record { state = record { number = x .state .number; work = Walking (x .bits) (record { place = next a; messages = x .tally .messages + 1; rows = x .tally .rows + n a }); holding = k a .read .result .holding }; taken = 0; given = m .message .ensures .0 i })
           ∙ it .result,
-      (it .numbers, m .message .ensures .1 ∙ ap (sets (x .out .now) 0) (it .text)),
+      (it .numbers, (m .message .ensures .1 .0 ∙ ap (sets (x .out .now) 0) (it .text), m .message .ensures .1 .1)),
     )
 
 -- a stop
@@ -90,13 +90,13 @@ module _ (k : tie.After-read) (number : ℕ) (e : saidAt (s k .args .tally .plac
 
   -- as it is answered
   module _ (next : State) (then : next ≡ nextLine (s k .args .state) (k .read .result .holding)) (result : Step) (out : List ℕ)
-      (told : (result ≡ record { state = next; taken = 0; given = length (stopText number (s k .args .tally)) }) × (out ≡ sets (s k .args .out .now) 0 (stopText number (s k .args .tally)))) where
+      (told : (result ≡ record { state = next; taken = 0; given = length (stopText number (s k .args .tally)) }) × ((out ≡ sets (s k .args .out .now) 0 (stopText number (s k .args .tally))) × (result .given ≤ messageRoom))) where
     abbrev d : Done
     d = listedAt (s k .args .state) (s k .args .bits) (s k .args .tally) (s k .args .line .now) (s k .args .rows .now)
 
-    stop-answered : (result ≡ answered d) × ((after k ≡ d .rows) × (out ≡ sets (s k .args .out .now) 0 (d .text)))
+    stop-answered : (result ≡ answered d) × ((after k ≡ d .rows) × ((out ≡ sets (s k .args .out .now) 0 (d .text)) × (result .given ≤ messageRoom)))
     stop-answered =
-        (told .0 ∙ (λ i. record { state = then i; taken = 0; given = length (stopText number (s k .args .tally)) }) ∙ stops .result, (stops .numbers, told .1 ∙ ap (sets (s k .args .out .now) 0) (stops .text)))
+        (told .0 ∙ (λ i. record { state = then i; taken = 0; given = length (stopText number (s k .args .tally)) }) ∙ stops .result, (stops .numbers, (told .1 .0 ∙ ap (sets (s k .args .out .now) 0) (stops .text), told .1 .1)))
 
 -- the numbers of its line are short
 short : (k : tie.After-read) → (s k .args .tally .place < 2 ^ 31) × (s k .args .tally .messages < 2 ^ 31) × (s k .args .tally .rows < 2 ^ 31) × (messageRoom ≤ length (s k .args .out .now))

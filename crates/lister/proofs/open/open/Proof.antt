@@ -1,5 +1,6 @@
 -- `lister::open::open` meets its contract. Assumes nothing.
 use mathlib.Core.Path.{_≡_, sym, ap, _∙_}
+use native.Mathlib.Omega.{arith}
 use borrow.Author.Needs.{needs}
 use denote.Enum.Declared.{tagOf}
 use lib.ListN.{take}
@@ -21,7 +22,9 @@ returns c =
     let t = b .before .before in
     let k = t .before .before in
     let x = k .before .before .before .before .before .args in
-    bad-opens (x .state) (x .line .now) (x .out .now) _ (bad-so _ (ap (tagOf the-type) (sym (k .said-by .ensures)) ∙ t .before .match .keys2)) (c .next-line .result) (c .next-line .ensures) (b .bad .result) _ (b .bad .ensures)
+    let told = b .bad .ensures in
+    let o = bad-opens (x .state) (x .line .now) (x .out .now) _ (bad-so _ (ap (tagOf the-type) (sym (k .said-by .ensures)) ∙ t .before .match .keys2)) (c .next-line .result) (c .next-line .ensures) (b .bad .result) _ (told .0, told .1 .0) in
+    (o .0, (o .1 .0, (o .1 .1, told .1 .1)))
 
 -- what the line says
 module _ (c : tie.After-said) where
@@ -43,7 +46,8 @@ returns-2 : tie.Need-returns-2
 returns-2 c =
     let t = c .before .before in
     let a = t .before .before .before in
-    says-opens (s a .args .state) (s a .args .line .now) (s a .args .out .now) (s a .args .filled) _ _ (it a) (t .stretch-in .last .0) (t .stretch-in .ensures)
+    let o = says-opens (s a .args .state) (s a .args .line .now) (s a .args .out .now) (s a .args .filled) _ _ (it a) (t .stretch-in .last .0) (t .stretch-in .ensures) in
+    (o .0, (o .1 .0, (o .1 .1, omega arith)))
 
 pub open-spec : {M : Type 1} → statement M
 open-spec =
