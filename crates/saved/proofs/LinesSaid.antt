@@ -11,9 +11,9 @@ use borrow.Author.Tests.{ltb-true, ltb-false, lt-ltb, le-ltb}
 use Rattle.format.proofs.Sames.{and-true}
 use Rattle.format.proofs.Texts.{choice, charDigit-digitChar, decimal-one, decimal-more, decimal-first}
 use Rattle.format.specs.Good.{goodSystems, good}
-use Rattle.format.specs.Masks.{System, Mask, Held, nothing, mask}
+use Rattle.format.specs.Masks.{System, Mask, nothing, mask}
 use Rattle.format.specs.Saved.{systemText, heldText, lineOf}
-use Rattle.format.specs.Text.{dash, lineFeed, digitChar, charDigit, decimal}
+use Rattle.format.specs.Text.{dash, lineFeed, digitChar, decimal}
 use Rattle.saved.specs.Saying.{issueSaid}
 use Rattle.saved.proofs.MasksSaid.{textFrom}
 

@@ -17,7 +17,7 @@ use Rattle.format.specs.Saved.{cellText, flagText, systemText}
 use Rattle.format.specs.Text.{tab, dash, decimal, digitsFrom, hex}
 use Rattle.holding.proofs.Places.{ones-places}
 use Rattle.holding.specs.Pictures.{systemOf}
-use Rattle.text.proofs.HexDigits.{length-hex, hex-long}
+use Rattle.text.proofs.HexDigits.{hex-long}
 use Rattle.saved.specs.declared.systems.Slot.{Slot}
 use Rattle.saved.specs.Gathering.{stripBits, cellBits}
 use Rattle.saved.specs.Slots.{systemIn, cellCount, frontText, cellLong, systemLong}

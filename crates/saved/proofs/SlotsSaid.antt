@@ -15,7 +15,7 @@ use Rattle.bits.proofs.BitLists.{number-lt, spell-number}
 use Rattle.format.specs.Assigned.{known}
 use Rattle.format.specs.Masks.{System, placesFrom}
 use Rattle.format.specs.Saved.{cellText, flagText, systemText}
-use Rattle.format.specs.Text.{tab, dash, digitChar, charDigit, decimal, hex, hexBits}
+use Rattle.format.specs.Text.{tab, dash, digitChar, charDigit, hex, hexBits}
 use Rattle.format.proofs.MakesBack.{GoodSystem}
 use Rattle.format.proofs.Texts.{charDigit-digitChar, decimal-one}
 use Rattle.holding.proofs.Places.{ones-number, ones-places}
@@ -25,7 +25,7 @@ use Rattle.text.proofs.Characters.{written-first}
 use Rattle.text.proofs.HexDigits.{hex-long}
 use Rattle.saved.specs.declared.systems.Slot.{Slot}
 use Rattle.saved.specs.Saying.{slotSaid, stripSaid, stripsSaid}
-use Rattle.saved.specs.Slots.{cellLong, cellCount, systemLong}
+use Rattle.saved.specs.Slots.{cellCount, systemLong}
 use Rattle.saved.proofs.SlotTexts.{text-long}
 
 -- the slot of a system

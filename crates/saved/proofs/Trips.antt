@@ -12,12 +12,11 @@ use lib.ListN.{length, take, drop}
 use Rattle.format.proofs.SavedForm.{line-load}
 use Rattle.format.specs.declared.Refusal.{Refusal}
 use Rattle.format.specs.declared.Refusal.the-variants.{Value}
-use Rattle.format.specs.Masks.{Held}
 use Rattle.format.specs.Saved as Saved
 use Rattle.format.specs.Saved.{lineOf, loaded, unloaded, load, saved, unsaved, saving, bufferAfter}
 use Rattle.holding.proofs.Pictured.{mask-picture, sound-picture, picture-sound}
 use Rattle.holding.specs.declared.Holding.{Holding}
-use Rattle.holding.specs.Pictures.{pictureOf, maskOf, sound, lentBy}
+use Rattle.holding.specs.Pictures.{maskOf, sound, lentBy}
 use Rattle.saved.specs.declared.LoadAnswer.the-variants as LoadAnswers
 use Rattle.saved.specs.declared.Loading.{Loading}
 use Rattle.saved.specs.declared.Saving.{Saving}

@@ -114,10 +114,9 @@ fn same(a: &[u8], b: &[u8]) -> bool
     true
 }
 
-// The longest line of a sound holding: an issue of two digits; for each system what is fixed, its ID and a dash; for each
-// satellite a bit of a cell mask for each signal.
-const LONGEST: usize = AROUND
-    + 2
+// The longest line of a sound holding: letter, tab, an issue of two digits and the line feed; for each system what is fixed, its
+// ID and a dash; for each satellite a bit of a cell mask for each signal.
+const LONGEST: usize = 5
     + (systems::FIXED + 2) * Holding::SYSTEMS
     + systems::SIGNAL_DIGITS * Holding::SATELLITES;
 

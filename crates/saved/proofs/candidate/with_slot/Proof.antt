@@ -1,5 +1,5 @@
 -- `saved::candidate::with_slot` meets its contract. Assumes nothing.
-use mathlib.Core.Path.{_≡_, ap, _∙_}
+use mathlib.Core.Path.{ap, _∙_}
 use lib.Count.{ones}
 use lib.ListN.{drop}
 use native.Mathlib.Omega.{arith}

@@ -2,7 +2,6 @@
 use mathlib.Core.Bool.{false}
 use Prim.Native.Nat.{_^_, _<_}
 use native.Mathlib.Omega.{arith}
-use borrow.Author.Needs.{needs}
 use lib.ListN.{getD, drop}
 use Rattle.format.specs.Text.{hexBits}
 use Rattle.saved.proofs.SpreadBits.{bit-few, Spreading, none-spread, one-spread, none-here, spread-few, all-spread}
