@@ -5,8 +5,7 @@ use mathlib.Core.List.{List, [], _∷_, _++_}
 use Prim.Native.Nat.{ℕ, zero, suc, _+_, _-_, _*_, _/_, _%_, _^_, _≤_, _<_}
 use native.Mathlib.Omega.{arith}
 use lib.Dec.{eqb, ltb}
-use lib.ListN.{length, getD, take, drop}
-use lib.Seq.{drop-cons}
+use lib.ListN.{length, take}
 use borrow.Author.Tests.{eq-eqb, ne-eqb, lt-ltb}
 use native.Mathlib.Decide.{ℕ-discrete}
 use native.Mathlib.Nat.{div-mul-le-self}
@@ -92,9 +91,3 @@ digits-say (suc (suc (suc (suc n)))) (c ∷ cs) =
     let some : ltb 0 (suc (suc (suc (suc n)))) ≡ true = lt-ltb 0 (suc (suc (suc (suc n)))) (omega arith) in
     rw (some, left, digits-say n cs, keeps-four c n, four-more (length (take n (hexBits cs))) n)
     (sym (and-assoc (eqb (digitChar (kept (suc (suc (suc (suc n)))) c)) c) (sameList eqb (hex (take n (hexBits cs))) cs) (eqb (length (take n (hexBits cs))) n)))
-
--- the character that is looked at
-pub one-says : (n : ℕ) (line : List ℕ) (i : ℕ) → i < length line
-    → hexSays n (drop i line) ≡ (ltb 0 n && (eqb (digitChar (kept n (getD line i 0))) (getD line i 0) && hexSays (n - 4) (drop (suc i) line)))
-unfolding hexSays
-one-says n line i there = rw (drop-cons line i 0 there)

@@ -1,16 +1,13 @@
 -- A line whose digits become bytes at its own front, pair by pair: what is behind the bytes is as it was. Assumes nothing.
 use mathlib.Core.Path.{_≡_, refl, sym, ap, _∙_}
-use mathlib.Core.Bool.{true}
 use mathlib.Core.List.{List, [], _∷_}
 use Prim.Native.Nat.{ℕ, _+_, _-_, _*_, _≤_, _<_}
 use native.Mathlib.Omega.{arith}
 use lib.ListN.{length, getD, take, drop, set, length-drop}
 use lib.Seq.{sets, drop-set-lt, drop-drop, getD-drop, getD-take, length-take-le}
-use Rattle.format.specs.Listing.{bytesSaid}
-use Rattle.format.specs.Text.{charDigit, hexBits}
+use Rattle.format.specs.Text.{charDigit}
 use Rattle.text.proofs.Stores.{Left, Wrote, all-left, part-wrote, none-left}
-use Rattle.lines.specs.Digits.{hexSays}
-use Rattle.lines.proofs.StretchBytes.{paired, next-pair, half-pair, no-pair, IsDigit, said-digit, said-paired}
+use Rattle.lines.proofs.StretchBytes.{paired, next-pair, half-pair, no-pair}
 
 -- k digits from a place on
 abbrev pub digitsIn : List ℕ → ℕ → ℕ → List ℕ

@@ -1,15 +1,15 @@
 -- Bits as bytes: two hex digits to a byte, and the bits that the bytes have. Assumes nothing.
 use mathlib.Core.Path.{_≡_, refl, sym, ap, ap₂, _∙_}
-use mathlib.Core.Bool.{Bool, true, false, _&&_, and-eq-true-iff}
-use mathlib.Core.List.{List, [], _∷_, _++_, append-nil}
-use Prim.Native.Nat.{ℕ, zero, suc, _+_, _*_, _/_, _%_, _≤_, _<_}
+use mathlib.Core.Bool.{Bool, true, false, and-eq-true-iff}
+use mathlib.Core.List.{List, [], _∷_, _++_}
+use Prim.Native.Nat.{ℕ, zero, suc, _+_, _*_, _/_, _≤_, _<_}
 use native.Mathlib.Omega.{arith}
 use lib.Dec.{eqb}
-use lib.ListN.{length, getD, take, drop, replicate, length-append, length-take, take-append-drop, drop-of-length-le}
-use lib.Seq.{drop-cons, take-append-le, take-append-seam, take-take, length-take-le}
+use lib.ListN.{length, getD, take, drop, replicate, drop-of-length-le}
+use lib.Seq.{drop-cons}
 use borrow.Author.Tests.{eqb-true}
-use Rattle.bits.specs.BitLists.{number, bits, bytes}
-use Rattle.bits.proofs.BitLists.{number-lt, number-append, bits-append, bits-bytes, length-bytes}
+use Rattle.bits.specs.BitLists.{number, bytes}
+use Rattle.bits.proofs.BitLists.{number-lt, number-append}
 use Rattle.format.specs.Listing.{bytesSaid}
 use Rattle.format.specs.Same.{sameList}
 use Rattle.format.specs.Text.{digitChar, charDigit, hex, hexBits}

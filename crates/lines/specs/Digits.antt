@@ -1,5 +1,5 @@
 -- The hex digits of a line of input, as they are tested: character by character, each with up to four of the bits that are left.
-use mathlib.Core.Bool.{Bool, _&&_}
+use mathlib.Core.Bool.{Bool, true, _&&_}
 use mathlib.Core.List.{List, [], _∷_}
 use Prim.Native.Nat.{ℕ, _-_, _*_, _/_, _%_, _^_}
 use lib.Dec.{eqb, ltb}
@@ -13,3 +13,11 @@ kept n c = charDigit c % 16 / 2 ^ (4 - n) * 2 ^ (4 - n)
 unfoldable pub hexSays : ℕ → List ℕ → Bool
 hexSays n [] = eqb n 0
 hexSays n (c ∷ cs) = ltb 0 n && (eqb (digitChar (kept n c)) c && hexSays (n - 4) cs)
+
+-- a character is a digit, and all are
+unfoldable pub isDigit : ℕ → Bool
+isDigit c = eqb (digitChar (charDigit c % 16)) c
+
+unfoldable pub allDigits : List ℕ → Bool
+allDigits [] = true
+allDigits (c ∷ cs) = isDigit c && allDigits cs

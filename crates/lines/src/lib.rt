@@ -1,4 +1,4 @@
-// The listing's lines (document 01, "Saved mask and listing"): what a line of input says.
+// The listing's lines (document 01, "Saved mask and listing"): what a line of input says, and the lines of output.
 pub mod count;
 pub mod digits;
 pub mod records;

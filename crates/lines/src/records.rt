@@ -1,4 +1,4 @@
-// The listing's lines of output: a letter, then values, each after a tab.
+// The listing's lines of output (document 01, "Saved mask and listing"): a letter, then values, each after a tab.
 ghost use mathlib.Core.Path.{_≡_};
 ghost use mathlib.Core.List.{[], _∷_, flatMap};
 ghost use Prim.Native.Nat.{_+_, _*_, _^_, _≤_, _<_};
@@ -43,7 +43,8 @@ pub fn record(out: &mut [u8], at: usize, letter: u8, values: &[i32]) -> usize
 // The letter of a row's line.
 const LETTER_R: u8 = b'R';
 
-// The line of the row that begins at a place of a row buffer.
+// The line of the row that begins at a place of a row buffer. Its values are read first: of each that was read it is
+// known that it has 32 bits, and so that its line finds room.
 fn row(out: &mut [u8], at: usize, rows: &[i32], from: usize) -> usize
     requires { ⌜ (from + 8 ≤ length (now rows)) × (at + rowLong ≤ length (now out)) ⌝ }
     ensures { λ r. ⌜ r ≡ at + length (recordText letterR (take 8 (drop from (now (rows .entry))))) ⌝ }

@@ -7,8 +7,8 @@ use lib.ListN.{length}
 use lib.Seq.{sets, length-sets}
 use Rattle.format.specs.Text.{digitChar, decimal}
 use Rattle.format.proofs.Texts.{decimal-one, decimal-more}
-use Rattle.text.proofs.LastDigits.{short, longer}
-use Rattle.text.proofs.Stores.{Wrote, wrote, told, then-wrote}
+use Rattle.text.proofs.LastDigits.{longer}
+use Rattle.text.proofs.Stores.{wrote, told, then-wrote}
 
 -- a digit alone
 pub digit-alone : (before : List ℕ) (at n : ℕ) {d : ℕ} {after : List ℕ} {end : ℕ} → n < 10 → d ≡ digitChar n

@@ -1,5 +1,5 @@
 -- `lines::records::record` meets its contract. The loop's invariant: the values that are left. Assumes nothing.
-use mathlib.Core.Path.{_≡_, refl, ap, _∙_}
+use mathlib.Core.Path.{_≡_, refl, ap}
 use mathlib.Core.List.{[], _∷_, _++_}
 use Prim.Native.Nat.{_+_, _-_, _≤_}
 use native.Mathlib.Omega.{arith}
@@ -9,7 +9,7 @@ use lib.ListN.{length, getD, length-append}
 use mir.Facts.{toZ-ofZ}
 use mir.Syntax.{w32}
 use mir.Val.{toZ, ofZ}
-use Rattle.format.specs.Listing.{recordText, valueText}
+use Rattle.format.specs.Listing.{valueText}
 use Rattle.format.specs.Text.{tab, lineFeed}
 use Rattle.text.proofs.Stores.{Left, Wrote, all-left, wrote, told, room-left, then-wrote, part-wrote, left-room, none-left}
 use Rattle.lines.proofs.RecordTexts.{valuesFrom, all-values, next-value, no-value}
