@@ -1,5 +1,6 @@
 -- `lines::records::message` meets its contract. Assumes nothing.
 use mathlib.Core.List.{flatMap}
+use native.Mathlib.Omega.{arith}
 use borrow.Author.Needs.{needs}
 use Rattle.format.specs.Listing.{recordText, letterR}
 use Rattle.format.specs.Writing.{rowsIn}
