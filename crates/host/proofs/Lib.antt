@@ -1,2 +1,3 @@
 pub mod Outcomes
 pub mod Walks
+pub mod HandedLines

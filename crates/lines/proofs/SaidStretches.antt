@@ -1,4 +1,4 @@
--- A line that says a stretch: where its digits stand, and what its bits are as bytes. Assumes nothing.
+-- A line that says a stretch: where its digits stand, what its bits are as bytes, and how the code answers it. Assumes nothing.
 use mathlib.Core.Path.{_≡_, refl, sym, ap, _∙_}
 use mathlib.Core.Bool.{Bool, true, false}
 use mathlib.Core.List.{List, _∷_, _++_}
@@ -7,15 +7,19 @@ use native.Mathlib.Numerals.{add-one}
 use native.Mathlib.Omega.{arith}
 use lib.ListN.{length, take, drop, replicate, length-append, length-take, length-drop, take-append-drop}
 use lib.Seq.{take-append-le, drop-append-le, take-append-seam, take-take, length-take-le}
+use denote.Enum.Declared.{tagOf}
 use Rattle.bits.specs.BitLists.{number, bits, bytes}
 use Rattle.bits.proofs.BitLists.{bits-append, bits-bytes, length-bytes}
-use Rattle.format.specs.Listing.{lineSays, says, bytesSaid}
+use Rattle.format.specs.Listing.{Line, lineSays, says, bad, bytesSaid}
 use Rattle.format.specs.Reading.{stretchLimit}
 use Rattle.format.specs.Text.{decimal, hex, hexBits}
 use Rattle.format.proofs.InputLines.{says-line}
 use Rattle.format.proofs.Texts.{hexBits-hex}
 use Rattle.text.proofs.HexDigits.{hex-long}
+use Rattle.lines.specs.declared.Line.the-variants.{Says}
 use Rattle.lines.specs.Digits.{hexSays}
+use Rattle.lines.specs.Saying.{lineFor}
+use Rattle.lines.proofs.Line.{the-type}
 use Rattle.lines.proofs.StretchLines.{its-digits, its-length, its-middle}
 
 -- ---- its digits
@@ -89,3 +93,32 @@ bits-said l rest =
     ap (bytes count) (sym (take-append-drop (8 * count) padded)) ∙ bytes-front count front (drop (8 * count) padded) (omega (arith, wide)) in
     ap (take (length l)) (bits-append (bytes count padded) rest ∙ ap (λ (m : List Bool). m ++ bits rest) (ap bits same ∙ bits-bytes count front wide))
     ∙ take-append-le (length l) front (bits rest) (omega (arith, wide)) ∙ take-take (length l) (8 * count) padded (omega arith) ∙ take-append-seam l (replicate 7 false)
+
+-- ---- the code's answer to a line
+
+-- a stretch of so many bits, whose digits begin there
+pub record SaysSo (t : Line) (n first : ℕ) : Type 0 where
+  pub stretch : List Bool
+  pub same : t ≡ says stretch
+  pub long : n ≡ length stretch
+  pub begins : first ≡ suc (length (decimal (length stretch)))
+
+pub says-so : (t : Line) (n first : ℕ) → lineFor t ≡ Says n first → SaysSo t n first
+unfolding lineFor
+says-so (says l) n first e = record { stretch = l; same = refl; long = cc; begins = cc }
+says-so bad n first e = absurd (let z : _≡_ {A = ℕ} 0 1 = cc in omega arith)
+
+pub bad-so : (t : Line) → tagOf the-type (lineFor t) ≡ 1 → t ≡ bad
+unfolding lineFor
+bad-so (says l) e = absurd (omega arith)
+bad-so bad e = refl
+
+-- what making bytes of its digits asks for, and what they come to
+module _ (line : List ℕ) (filled : ℕ) {n first : ℕ} (it : SaysSo (lineSays (take filled line)) n first) where
+  pub says-asked : (n ≤ stretchLimit) × (first + (n + 3) / 4 ≤ length line) × (hexSays n (take ((n + 3) / 4) (drop first line)) ≡ true)
+  says-asked = let f = said-in line filled (it .stretch) (it .same) in rw (it .long, it .begins) (f .few, f .room, f .said)
+
+  pub says-bytes : bytesSaid (take n (hexBits (take ((n + 3) / 4) (drop first line)))) ≡ bytesSaid (it .stretch)
+  says-bytes =
+      (λ i. bytesSaid (take (it .long i) (hexBits (take ((it .long i + 3) / 4) (drop (it .begins i) line)))))
+      ∙ ap bytesSaid (said-in line filled (it .stretch) (it .same) .own)

@@ -1,46 +1,19 @@
 -- What a whole line comes to, by what the code says that it says. Assumes nothing.
-use mathlib.Core.Path.{_≡_, refl, sym, ap, _∙_}
-use mathlib.Core.Bool.{Bool, true}
+use mathlib.Core.Path.{_≡_, refl, ap, _∙_}
 use mathlib.Core.List.{List}
-use Prim.Native.Nat.{ℕ, suc, _+_, _/_, _≤_}
-use native.Mathlib.Omega.{arith}
+use Prim.Native.Nat.{ℕ, _+_, _/_}
 use lib.IntN.{ℤ}
 use lib.ListN.{length, take, drop}
 use lib.Seq.{sets}
-use denote.Enum.Declared.{tagOf}
 use Rattle.format.specs.Listing as Listing
-use Rattle.format.specs.Reading.{stretchLimit}
-use Rattle.format.specs.Text.{decimal, hexBits}
-use Rattle.lines.specs.declared.Line.{Line}
-use Rattle.lines.specs.declared.Line.the-variants.{Says, Bad}
-use Rattle.lines.specs.Saying.{lineFor}
-use Rattle.lines.specs.Digits.{hexSays}
-use Rattle.lines.proofs.Line.{the-type}
-use Rattle.lines.proofs.SaidStretches.{said-in}
+use Rattle.format.specs.Text.{hexBits}
+use Rattle.lines.proofs.SaidStretches.{SaysSo, says-bytes}
 use Rattle.lister.specs.declared.State.{State}
 use Rattle.lister.specs.declared.Step.{Step}
 use Rattle.lister.specs.declared.Work.the-variants.{Walking}
 use Rattle.lister.specs.Steps.{start, working, nextLine, opensAs, answered}
 
--- a stretch of so many bits, whose digits begin there
-pub record SaysSo (t : Listing.Line) (bits first : ℕ) : Type 0 where
-  pub said : List Bool
-  pub same : t ≡ Listing.says said
-  pub long : bits ≡ length said
-  pub begins : first ≡ suc (length (decimal (length said)))
-
-pub says-so : (t : Listing.Line) (bits first : ℕ) → lineFor t ≡ Says bits first → SaysSo t bits first
-unfolding lineFor
-says-so (Listing.says l) bits first e = record { said = l; same = refl; long = cc; begins = cc }
-says-so Listing.bad bits first e = absurd (let z : _≡_ {A = ℕ} 0 1 = cc in omega arith)
-
-pub bad-so : (t : Listing.Line) → tagOf the-type (lineFor t) ≡ 1 → t ≡ Listing.bad
-unfolding lineFor
-bad-so (Listing.says l) e = absurd (omega arith)
-bad-so Listing.bad e = refl
-
--- ---- the step is the one that the line makes
-
+-- the step is the one that the line makes
 abbrev pub Opens : State → Listing.Line → List ℕ → List ℕ → Step → List ℕ → List ℕ → Type 0
 Opens s t line out result left text =
     ((rows : List ℤ) → result ≡ answered (opensAs s t line rows))
@@ -63,11 +36,4 @@ module _ (s : State) (line out : List ℕ) where
       → Opens s (Listing.lineSays (take filled line)) line out (record { state = working s (Walking bits start); taken = 0; given = 0 }) left out
   unfolding opensAs
   says-opens filled bits first it left e =
-      let own = said-in line filled (it .said) (it .same) .own in
-      let bytes : bytesIn first bits ≡ Listing.bytesSaid (it .said) = (λ i. bytesIn (it .begins i) (it .long i)) ∙ ap Listing.bytesSaid own in
-      rw (it .same) ((λ rows. λ i. record { state = working s (Walking (it .long i) start); taken = 0; given = 0 }), ((λ rows. e ∙ ap (sets line 0) bytes), λ rows. refl))
-
-  -- what storing them asks for
-  pub says-room : (filled bits first : ℕ) (it : SaysSo (Listing.lineSays (take filled line)) bits first)
-      → (bits ≤ stretchLimit) × (first + (bits + 3) / 4 ≤ length line) × (hexSays bits (take ((bits + 3) / 4) (drop first line)) ≡ true)
-  says-room filled bits first it = let f = said-in line filled (it .said) (it .same) in rw (it .long, it .begins) (f .few, f .room, f .said)
+      rw (it .same) ((λ rows. λ i. record { state = working s (Walking (it .long i) start); taken = 0; given = 0 }), ((λ rows. e ∙ ap (sets line 0) (says-bytes line filled it)), λ rows. refl))

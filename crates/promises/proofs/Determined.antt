@@ -73,6 +73,10 @@ walk-determined = says _ _ _ λ κs args x v p. (p .0, λ i. (tt, (tt, (tt, (p .
 pub save-determined : Determined saved.save.Kinds.ps saved.save.Kinds.r saved.save.Reads.Learnt
 save-determined = says _ _ _ λ κs args x v p. (p .0, λ i. (tt, (p .1 i, tt)))
 
+-- loading: the answer, and the holding beside it
+pub load-determined : Determined saved.load.Kinds.ps saved.load.Kinds.r saved.load.Reads.Learnt
+load-determined = says _ _ _ λ κs args x v p. (p, refl)
+
 -- ---- lines
 
 -- what a line of input says
@@ -92,6 +96,18 @@ hundurzek-read-determined = says _ _ _ λ κs args x v p. (p .0, λ i. (p .1 .0 
 -- reading a stretch: the numbers handed out, the holding's bytes, and the row buffer
 pub hundurzek-walk-determined : Determined host.hundurzek_walk.Kinds.ps host.hundurzek_walk.Kinds.r host.hundurzek_walk.Reads.Learnt
 hundurzek-walk-determined = says _ _ _ λ κs args x v p. (p .0, λ i. (p .1 .0 i, (tt, (tt, (p .1 .1 i, tt)))))
+
+-- saving: the numbers handed out, and the line
+pub hundurzek-save-determined : Determined host.texts.hundurzek_save.Kinds.ps host.texts.hundurzek_save.Kinds.r host.texts.hundurzek_save.Reads.Learnt
+hundurzek-save-determined = says _ _ _ λ κs args x v p. (p .0, λ i. (tt, (p .1 i, tt)))
+
+-- loading: the number handed out, and the holding's bytes
+pub hundurzek-load-determined : Determined host.texts.hundurzek_load.Kinds.ps host.texts.hundurzek_load.Kinds.r host.texts.hundurzek_load.Reads.Learnt
+hundurzek-load-determined = says _ _ _ λ κs args x v p. (p, refl)
+
+-- what a line of input says: the numbers handed out, and the stretch's bytes
+pub hundurzek-line-determined : Determined host.texts.hundurzek_line.Kinds.ps host.texts.hundurzek_line.Kinds.r host.texts.hundurzek_line.Reads.Learnt
+hundurzek-line-determined = says _ _ _ λ κs args x v p. (p .0, λ i. (tt, (p .1 i, tt)))
 
 -- ---- probe: fields of a byte string, for comparing
 

@@ -7,7 +7,8 @@ use lib.ListN.{take}
 use lib.Seq.{length-take-le}
 use Rattle.format.specs.Listing.{lineSays}
 use Rattle.lines.proofs.Line.{the-type}
-use Rattle.lister.proofs.Said.{SaysSo, says-so, bad-so, bad-opens, says-opens, says-room}
+use Rattle.lines.proofs.SaidStretches.{SaysSo, says-so, bad-so, says-asked}
+use Rattle.lister.proofs.Said.{bad-opens, says-opens}
 use Rattle.lister.proofs.open.open.Statement.{statement}
 use Rattle.lister.proofs.open.open.Tie as tie
 
@@ -40,7 +41,7 @@ module _ (c : tie.After-said) where
 stretch-in-requires : tie.Need-stretch-in-requires
 stretch-in-requires c κs =
     let a = c .before .before in
-    says-room (s a .args .state) (s a .args .line .now) (s a .args .out .now) (s a .args .filled) _ _ (it a)
+    says-asked (s a .args .line .now) (s a .args .filled) (it a)
 
 returns-2 : tie.Need-returns-2
 returns-2 c =
