@@ -51,6 +51,7 @@ typedef struct {
 
 typedef struct {
   uint64_t answer; /* HUNDURZEK_DONE; else 1 or 12 */
+  uint64_t place;  /* 0: a line has no other start */
   uint64_t count;  /* of a saved line's bytes, or of a stretch's bits; else 0 */
 } hundurzek_done;
 

@@ -5,6 +5,7 @@ cd "$(dirname "$0")/.."
 . bench/lib/measure.sh
 build_read
 build_fields
+build_listing
 
 # once INPUT: what handed_out says of it; the decoders are compared once for all ways
 rm -f target/bench/handed.*
@@ -33,6 +34,10 @@ measures() {
     stack)
         bytes=$(stack host "$2")
         echo "$1 $2 bytes $bytes"
+        ;;
+    listing)
+        bytes=$(per_byte "$2")
+        echo "$1 $2 per-byte ${bytes#* }"
         ;;
     fields)
         read_field=$(per_call read "$2")

@@ -6,6 +6,8 @@
 #                                 TO-TUNED for each decoder; '-' where there are no rows
 #   stack DECODER FUNCTION        the deepest stack of read, walk or empty over all inputs, damaged ones too, in bytes
 #   per_call KIND WIDTH           of a call (bench/fields.c) and its return: the mean over the eight alignments
+#   build_listing                 makes the listing program, and what prints an input as its lines
+#   per_byte INPUT                of listing it: how many bytes the listing has, and what each takes, reading included
 . bench/lib/count.sh
 
 INPUTS='a b c d e1 e2 e3 e4 f g2 g3 g4 g5 g11'
@@ -16,6 +18,13 @@ build_read() {
 
 build_fields() {
     build fields probe -Wno-cast-function-type bench/fields.c
+}
+
+build_listing() {
+    if [ ! -f target/bin/listing ] || [ -n "$(find crates crates.txt -newer target/bin/listing)" ]; then
+        rt check listing >/dev/null
+    fi
+    $CC -static $FLAGS bench/lines.c bench/stretches.c bench/encode.c -o target/bench/lines
 }
 
 handed_out() {
@@ -63,4 +72,12 @@ per_call() {
     own=$(round fields "$1" "$2")
     none=$(round fields "none-${1%-bits}" "$2")
     awk -v own="$own" -v none="$none" 'BEGIN { print (own - none) / 8 + 2 }'
+}
+
+# what the program takes to start and to end falls out of the difference
+per_byte() {
+    $RUN target/bench/lines "$1" >target/bench/lines.in
+    none=$(listed /dev/null)
+    all=$(listed target/bench/lines.in)
+    awk -v all="$all" -v none="$none" -v bytes="$(wc -c <target/bench/listed)" 'BEGIN { print bytes, (all - none) / bytes }'
 }

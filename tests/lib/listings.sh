@@ -6,6 +6,7 @@
 # judge FOLDER: remakes it aside, and tests/lib/FOLDER.py compares it with that and with the programs.
 programs() {
     echo 'target/tests/second listing'
+    echo './hundurzek list -'
 }
 
 remake() {

@@ -27,6 +27,7 @@ hundurzek_done take_done(buffer *written) {
 void compare_done(const hundurzek_done *got, const void *out, const hundurzek_done *want) {
   if (out != got) differ("another pointer is returned");
   compare("answer", got->answer, want->answer);
+  compare("place", got->place, 0);
   compare("count", got->count, want->count);
 }
 

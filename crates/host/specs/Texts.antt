@@ -25,10 +25,10 @@ use Rattle.saved.specs.declared.LoadAnswer.the-variants as LoadAnswers
 abbrev pub doneNumber : ℕ
 doneNumber = 255
 
--- beside it the place behind, or how long a line is; beside a refusal 0
+-- beside it the start, and how long a line is; beside a refusal the start asked for, and 0
 unfoldable pub doneHanded : Answers.Done → Done
-doneHanded (done n) = record { answer = doneNumber; count = n }
-doneHanded (undone number place) = record { answer = number; count = 0 }
+doneHanded (done n) = record { answer = doneNumber; place = 0; count = n }
+doneHanded (undone number place) = record { answer = number; place = place; count = 0 }
 
 -- ---- a holding as a line
 

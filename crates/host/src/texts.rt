@@ -17,10 +17,11 @@ use passing::take::holding_in;
 use saved::LoadAnswer;
 use saved::Saving;
 
-// What is done with a line: the answer's number, and how long the saved line is, or the stretch in bits.
+// What is done with a line: the answer's number, the start, and how long the saved line is, or the stretch in bits.
 #[repr(C)]
 pub struct Done {
     pub answer: u64,
+    pub place: usize,
     pub count: usize,
 }
 
@@ -34,12 +35,16 @@ pub struct Loaded {
 // The answer to what is done.
 const DONE: u64 = 255;
 
+// Where a line begins: the start that its answers name (document 01, "Answer numbers").
+const START: usize = 0;
+
 // What is done, and so long.
 fn finish(n: usize) -> Done
     ensures { λ r. ⌜ r ≡ doneHanded (done n) ⌝ }
 {
     Done {
         answer: DONE,
+        place: START,
         count: n,
     }
 }
@@ -50,6 +55,7 @@ fn refuse(refusal: Refusal) -> Done
 {
     Done {
         answer: number(refusal),
+        place: START,
         count: 0,
     }
 }

@@ -1,18 +1,16 @@
 -- Digits of a line that become bytes, pair by pair, at the front of a buffer: another one, or the line itself, of which then what is behind the bytes is as it was. Assumes nothing.
 use mathlib.Core.Path.{_≡_, refl, sym, ap, _∙_}
+use mathlib.Core.Bool.{true}
 use mathlib.Core.List.{List, [], _∷_}
 use Prim.Native.Nat.{ℕ, _+_, _-_, _*_, _≤_, _<_}
 use native.Mathlib.Omega.{arith}
 use lib.ListN.{length, getD, take, drop, set, length-drop}
 use lib.Seq.{sets, drop-set-lt, drop-drop, getD-drop, getD-take, length-take-le}
-<<<<<<< HEAD
-use Rattle.format.specs.Text.{charDigit}
-=======
 use Rattle.format.specs.Listing.{bytesSaid}
 use Rattle.format.specs.Text.{digitChar, charDigit, hexBits}
->>>>>>> wt-f
 use Rattle.text.proofs.Stores.{Left, Wrote, all-left, part-wrote, none-left}
-use Rattle.lines.proofs.StretchBytes.{paired, next-pair, half-pair, no-pair}
+use Rattle.lines.specs.Digits.{hexSays}
+use Rattle.lines.proofs.StretchBytes.{paired, next-pair, half-pair, no-pair, IsDigit, said-digit, said-paired}
 
 -- k digits from a place on
 abbrev pub digitsIn : List ℕ → ℕ → ℕ → List ℕ
