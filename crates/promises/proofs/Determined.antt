@@ -9,6 +9,7 @@ use borrow.Fn.Kinds.{PK, RK, Out, Dens}
 use Rattle.holding.proofs.Holding as holding
 use Rattle.host.proofs as host
 use Rattle.lines.proofs as lines
+use Rattle.lister.proofs as lister
 use Rattle.probe.proofs as probe
 use Rattle.reader.proofs as reader
 use Rattle.saved.proofs as saved
@@ -84,6 +85,10 @@ pub said-by-determined : Determined lines.said_by.Kinds.ps lines.said_by.Kinds.r
 said-by-determined = says _ _ _ λ κs args x v p. (p, refl)
 
 -- ---- host: "numbers and byte slices"
+
+-- a step of the listing: the state after it with what it took and gave, the line, the row buffer, the text
+pub advance-determined : Determined lister.advance.Kinds.ps lister.advance.Kinds.r lister.advance.Reads.Learnt
+advance-determined = says _ _ _ λ κs args x v p. (p .0, λ i. (tt, (p .1 .0 i, (p .1 .1 .0 i, (tt, (p .1 .1 .1 .0 i, tt))))))
 
 -- the empty holding over the lent bytes
 pub hundurzek-empty-determined : Determined host.hundurzek_empty.Kinds.ps host.hundurzek_empty.Kinds.r host.hundurzek_empty.Reads.Learnt

@@ -9,3 +9,4 @@ pub mod Receivers
 pub mod Useless
 pub mod Calls
 pub mod CallsOfRead
+pub mod Listings

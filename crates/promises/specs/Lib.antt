@@ -2,3 +2,4 @@ pub mod Calls
 pub mod Determination
 pub mod LateJoiners
 pub mod Useless
+pub mod Listings
