@@ -1,19 +1,19 @@
 -- What is found at a place, by the tests of what is lent. Assumes nothing.
-use Rattle.bits.proofs.Words.{_≡_, refl, sym, ap, _∙_, List, ℕ, arith, length, ℤ}
+use Rattle.bits.proofs.Words.{_≡_, refl, sym, ap, _∙_, Bool, List, ℕ, arith, length, ℤ}
 use denote.Enum.Declared.{tagOf}
 use Rattle.format.specs.declared.Answer.{Answer}
 use Rattle.format.specs.declared.Answer.the-variants as Answers
 use Rattle.format.specs.declared.Refusal.{Refusal}
 use Rattle.format.specs.Ends.{Within}
-use Rattle.format.specs.Reading.{lentAfter, rowsAfter, answerOf}
+use Rattle.format.specs.Reading.{lentTests, lentAfter, rowsAfter, answerOf}
 use Rattle.holding.specs.declared.Holding.{Holding}
 use Rattle.reader.specs.declared.message.Found.the-variants.{Answered}
 use Rattle.reader.specs.declared.Verdict.{Verdict}
 use Rattle.reader.specs.declared.Verdict.the-variants.{Good, Refused}
-use Rattle.holding.specs.Pictures.{lentBy}
+use Rattle.holding.specs.Pictures.{sound, lentBy}
 use Rattle.reader.specs.Readings.{outcomeAt, testsOf, testedBy, readAt, foundAt, soughtBy, soughtAt}
 use Rattle.reader.proofs.Findings.{FoundMask, found-mask, found-answer}
-use Rattle.reader.proofs.Lents.{sound-lent}
+use Rattle.reader.proofs.Lents.{sound-lent, is-holding}
 use Rattle.reader.proofs.Outcomes.{Fine, tested-outcome, outcome-tested, all-good, begun}
 use Rattle.reader.proofs.message.Found.{the-type}
 
@@ -23,6 +23,10 @@ within f = record { inside = f .inside .lent; short = omega (arith, f .inside .l
 module _ (h : Holding) (bs : List ℕ) (end start : ℕ) (rows : List ℤ) where
   abbrev verdict : Verdict
   verdict = testedBy (testsOf h bs end start (length rows))
+
+  -- as it is given where the holding was seen before
+  pub seen-tests : (b : Bool) → b ≡ sound h → testedBy (lentTests b bs end start (length rows)) ≡ verdict
+  seen-tests b e = ap (λ (x : Bool). testedBy (lentTests x bs end start (length rows))) (e ∙ sym (is-holding h))
 
   -- ---- by the verdict
 

@@ -4,8 +4,8 @@ pub mod message;
 pub mod raw;
 
 ghost use mathlib.Core.Path.{_≡_};
-ghost use Rattle.format.specs.Reading.{placed};
-ghost use Rattle.reader.specs.Readings.{testsOf, testedBy};
+ghost use Rattle.format.specs.Reading.{placed, lentTests};
+ghost use Rattle.reader.specs.Readings.{testedBy};
 use format::Answer;
 use format::ROOM;
 use format::Refusal;
@@ -37,9 +37,10 @@ pub enum Verdict {
     Refused(Refusal),
 }
 
-// The tests of what is lent, in their order: room for rows, the place, the holding.
-pub fn tested(holding: Holding, bytes: &[u8], end: usize, start: usize, room: usize) -> Verdict
-    ensures { λ r. ⌜ r ≡ testedBy (testsOf holding (now (bytes .entry)) end start room) ⌝ }
+// The tests of what is lent, in their order: room for rows, the place, the holding. Whether that is one the caller has
+// seen, so that no holding is handed on for it.
+pub fn tested(held: bool, bytes: &[u8], end: usize, start: usize, room: usize) -> Verdict
+    ensures { λ r. ⌜ r ≡ testedBy (lentTests held (now (bytes .entry)) end start room) ⌝ }
 {
     if room < ROOM {
         return Verdict::Refused(Refusal::Room);
@@ -47,7 +48,7 @@ pub fn tested(holding: Holding, bytes: &[u8], end: usize, start: usize, room: us
     if !is_placed(bytes, end, start) {
         return Verdict::Refused(Refusal::Place);
     }
-    if !holding.is_sound() {
+    if !held {
         return Verdict::Refused(Refusal::Value);
     }
     Verdict::Good

@@ -78,7 +78,8 @@ pub fn walk(holding: Holding, bytes: &[u8], end: usize, rows: &mut [i32]) -> Hal
     ensures { λ _. ⌜ now (rows .exit) ≡ walkAt holding (now (bytes .entry)) end (now (rows .entry)) .rows ⌝ }
 {
     let room = rows.len();
-    let verdict = reader::tested(holding, bytes, end, 0, room);
+    let held = holding.is_sound();
+    let verdict = reader::tested(held, bytes, end, 0, room);
     if let Verdict::Refused(r) = verdict {
         return Halt {
             stop: Answer::Refused(r, 0),

@@ -21,7 +21,8 @@ pub fn seek(holding: Holding, bytes: &[u8], end: usize, start: usize, rows: &mut
     ensures { λ _. ⌜ now (rows .exit) ≡ rowsAfter (outcomeAt holding (now (bytes .entry)) end start (now (rows .entry))) (now (rows .entry)) ⌝ }
 {
     let room = rows.len();
-    let verdict = reader::tested(holding, bytes, end, start, room);
+    let held = holding.is_sound();
+    let verdict = reader::tested(held, bytes, end, start, room);
     if let Verdict::Refused(r) = verdict {
         return Found::Answered(Answer::Refused(r, 0));
     }
