@@ -165,7 +165,7 @@ clone() { PATH=$work/kit:$PATH "$work/clone/hundurzek" "$@"; }
 
 # called TIMES: the kit, so far
 called() {
-    times=$(grep -c '^staticlib host$' "$work/calls")
+    times=$(grep -c '^staticlib host$' "$work/calls" || true)
     if [ "$times" -eq "$1" ]; then judge built yes; else judge "built $times times, not $1" no; fi
 }
 
