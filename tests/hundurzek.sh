@@ -23,7 +23,7 @@ judge() {
         passed=$((passed + 1))
     else
         failed=$((failed + 1))
-        echo "FAILED $1"
+        echo "FAILED $1" | cut -c 1-200
         head -n 3 "$work/out" "$work/err"
     fi
 }
