@@ -1,0 +1,85 @@
+#!/bin/sh
+# README.md, "Linking it into a C program": its lines, pasted in a folder outside the repository, print document 01's
+# worked listing; so do the flags that it names for a machine without pkg-config. And hundurzek.pc, as pkg-config sees
+# it.
+set -eu
+cd "$(dirname "$0")/.."
+. tests/lib/tools.sh
+need pkg-config pkg-config
+home=$PWD
+work=$(mktemp -d)
+trap 'rm -rf "$work"' EXIT
+passed=0
+failed=0
+
+judge() {
+    if [ "$2" = yes ]; then
+        passed=$((passed + 1))
+    else
+        failed=$((failed + 1))
+        echo "FAILED $1"
+    fi
+}
+
+# On another processor README.md's cc is one that compiles for x86-64, and runs what it made under the emulator.
+if [ -n "$RUN" ]; then
+    mkdir "$work/shims"
+    cat >"$work/shims/cc" <<END
+#!/bin/sh
+set -eu
+$CC "\$@"
+for made; do :; done
+mv "\$made" "\$made.x86-64"
+printf '#!/bin/sh\nexec $RUN "\$0.x86-64"\n' >"\$made"
+chmod +x "\$made"
+END
+    chmod +x "$work/shims/cc"
+    PATH=$work/shims:$PATH
+fi
+
+# The section's text, and the lines of it to be pasted.
+section() { sed -n '/^## Linking it into a C program$/,/^## /p' README.md; }
+section | sed -n 's/^    //p' >"$work/lines"
+
+# lists WHAT LINES: whether a shell in a fresh folder, with these lines pasted, prints the worked listing and no more
+lists() {
+    rm -rf "$work/own folder"
+    mkdir "$work/own folder"
+    (cd "$work/own folder" && HUNDURZEK=$home sh -eu "$2") >"$work/got" || echo "status $?" >>"$work/got"
+    if diff crates/listing/stdout "$work/got"; then judge "$1" yes; else judge "$1" no; fi
+}
+
+lists 'the lines of README.md' "$work/lines"
+plain=$(section | sed -n 's/.*Without pkg-config the flags are `\([^`]*\)`.*/\1/p')
+sed "s/\$([^)]*pkg-config[^)]*)/$plain/" "$work/lines" >"$work/plain"
+if grep -q pkg-config "$work/plain"; then judge 'pkg-config is not done without' no; fi
+lists 'the flags without pkg-config' "$work/plain"
+
+# ---- hundurzek.pc, in a folder with a blank, where it was put and where it was moved to
+
+# says WHAT WANT ARGUMENT..: what pkg-config prints of it, without a complaint
+says() {
+    what=$1
+    want=$2
+    shift 2
+    got=$( (PKG_CONFIG_PATH=$folder pkg-config "$@" hundurzek || echo "status $?") 2>&1 | sed 's/ *$//')
+    if [ "$got" = "$want" ]; then judge "$what" yes; else judge "$what: $got" no; fi
+}
+
+./hundurzek library "$work/a folder"
+for folder in "$work/a folder" "$work/moved folder"; do
+    [ -d "$folder" ] || mv "$work/a folder" "$folder"
+    escaped=$(printf '%s' "$folder" | sed 's/ /\\ /g')
+    says 'hundurzek.pc' '' --validate --print-errors
+    says 'the flags to compile' "-I$escaped" --cflags
+    says 'the flags to link' "-L$escaped -lhundurzek" --libs
+    says 'a version' 0 --modversion
+    if [ "$(ls "$folder")" = "$(printf 'hundurzek.h\nhundurzek.pc\nlibhundurzek.a')" ]; then
+        judge 'the files' yes
+    else
+        judge "the files in $folder" no
+    fi
+done
+
+echo "$passed passed, $failed failed"
+[ "$failed" -eq 0 ]
