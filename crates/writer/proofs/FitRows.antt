@@ -2,7 +2,7 @@
 -- Assumes nothing.
 use mathlib.Core.Path.{_≡_, refl, sym, ap, ap₂, subst, _∙_}
 use mathlib.Core.Bool.{Bool, true, false, false≢true}
-use mathlib.Core.List.{List, [], _∷_, _++_, append-nil}
+use mathlib.Core.List.{List, [], _∷_, _++_, append-assoc}
 use Prim.Native.Nat.{ℕ, suc, _+_, _-_, _*_, _^_, _≤_, _<_}
 use native.Mathlib.Decide.{decLt}
 use native.Mathlib.Nat.{mod-eq-of-lt}
@@ -49,3 +49,57 @@ values-fit (c ∷ cs) l room =
     let rest : shapeWidth cs ≤ length (drop w l) = rw length-drop (omega arith) in
     true-and (column-fits c (number (take w l)) (field-lt w (take w l) whole)) (values-fit cs (drop w l) rest)
 
+-- keys before values
+row-fits : (n : Line) (vs : List ℤ) → length (n .keys) ≡ 3 → valuesFit (n .shape) vs ≡ true → rowFits n (n .keys ++ vs) ≡ true
+unfolding rowFits
+row-fits n vs three fits = rw (take-at (n .keys) vs 3 three, drop-at (n .keys) vs 3 three) (true-and (sameList-refl sameℤ sameℤ-refl (n .keys)) fits)
+
+pub rows-fit : (lines : List Line) → Threes lines → (l : List Bool) → bodyWidth lines ≤ length l → rowsFit lines (rowsOf lines l) ≡ true
+unfolding bodyWidth rowsOf rowsFit
+rows-fit [] none l room = refl
+rows-fit (n ∷ ns) (more three threes) l room =
+    let w : ℕ = shapeWidth (n .shape) in
+    let rest : bodyWidth ns ≤ length (drop w l) = rw length-drop (omega arith) in
+    true-and (row-fits n (valuesOf (n .shape) l) three (values-fit (n .shape) l (omega arith))) (rows-fit ns threes (drop w l) rest)
+
+-- ---- what fits reads back
+
+-- what a column makes of a value's bits
+column-back : (c : Column) (v : ℤ) → columnFits c v ≡ true → valueOf c (number (spell (widthOf c) (unsigned (widthOf c) v))) ≡ v
+unfolding columnFits valueOf widthOf unsigned
+column-back gap v fits = sym (sameℤ-sound v absent fits)
+column-back (plain w) (pos n) fits = ap pos (number-spell w n ∙ mod-eq-of-lt (ltb-true n (2 ^ w) fits))
+column-back (plain w) (negsuc n) fits = absurd (false≢true fits)
+column-back (counts w) (pos n) fits =
+    let half : n * 2 < 2 ^ w = ltb-true (n * 2) (2 ^ w) fits in
+    ap (signed w) (number-spell w n ∙ mod-eq-of-lt (omega arith)) ∙ signed-pos w n half
+column-back (counts w) (negsuc n) fits =
+    let half : suc n * 2 ≤ 2 ^ w = leb-true (suc n * 2) (2 ^ w) fits in
+    ap (signed w) (number-spell w (2 ^ w - suc n) ∙ mod-eq-of-lt (omega arith)) ∙ signed-neg w (2 ^ w - suc n) (omega arith) (omega arith) ∙ ap negsuc (omega arith)
+
+pub fit-values : (cs : List Column) (vs : List ℤ) (more : List Bool) → valuesFit cs vs ≡ true → valuesOf cs (spellValues cs vs ++ more) ≡ vs
+unfolding valuesFit valuesOf spellValues
+fit-values [] [] rest fits = refl
+fit-values [] (v ∷ vs) rest fits = absurd (false≢true fits)
+fit-values (c ∷ cs) [] rest fits = absurd (false≢true fits)
+fit-values (c ∷ cs) (v ∷ vs) rest fits =
+    let w : ℕ = widthOf c in
+    let b : List Bool = spell w (unsigned w v) in
+    let later : List Bool = spellValues cs vs ++ rest in
+    let whole : length b ≡ w = length-spell w (unsigned w v) in
+    let both = and-true (columnFits c v) (valuesFit cs vs) fits in
+    let first : take w ((b ++ spellValues cs vs) ++ rest) ≡ b = ap (take w) (append-assoc b (spellValues cs vs) rest) ∙ take-at b later w whole in
+    let behind : drop w ((b ++ spellValues cs vs) ++ rest) ≡ later = ap (drop w) (append-assoc b (spellValues cs vs) rest) ∙ drop-at b later w whole in
+    ap₂ _∷_ (ap (λ (x : List Bool). valueOf c (number x)) first ∙ column-back c v (both .0))
+    (ap (valuesOf cs) behind ∙ fit-values cs vs rest (both .1))
+
+-- and is as wide as its shape
+pub fit-width : (cs : List Column) (vs : List ℤ) → valuesFit cs vs ≡ true → length (spellValues cs vs) ≡ shapeWidth cs
+unfolding valuesFit spellValues shapeWidth
+fit-width [] [] fits = refl
+fit-width [] (v ∷ vs) fits = absurd (false≢true fits)
+fit-width (c ∷ cs) [] fits = absurd (false≢true fits)
+fit-width (c ∷ cs) (v ∷ vs) fits =
+    let both = and-true (columnFits c v) (valuesFit cs vs) fits in
+    length-append (spell (widthOf c) (unsigned (widthOf c) v)) (spellValues cs vs)
+    ∙ ap₂ _+_ (length-spell (widthOf c) (unsigned (widthOf c) v)) (fit-width cs vs (both .1))
