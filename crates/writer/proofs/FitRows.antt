@@ -103,3 +103,37 @@ fit-width (c ∷ cs) (v ∷ vs) fits =
     let both = and-true (columnFits c v) (valuesFit cs vs) fits in
     length-append (spell (widthOf c) (unsigned (widthOf c) v)) (spellValues cs vs)
     ∙ ap₂ _+_ (length-spell (widthOf c) (unsigned (widthOf c) v)) (fit-width cs vs (both .1))
+
+-- one row's bits, whatever is behind them
+row-back : (n : Line) (r : List ℤ) (more : List Bool) → rowFits n r ≡ true → n .keys ++ valuesOf (n .shape) (spellValues (n .shape) (drop 3 r) ++ more) ≡ r
+unfolding rowFits
+row-back n r rest fits =
+    let both = and-true (sameList sameℤ (take 3 r) (n .keys)) (valuesFit (n .shape) (drop 3 r)) fits in
+    let front : n .keys ≡ take 3 r = sym (sameList-sound sameℤ sameℤ-sound (take 3 r) (n .keys) (both .0)) in
+    ap₂ _++_ front (fit-values (n .shape) (drop 3 r) rest (both .1)) ∙ take-append-drop 3 r
+
+row-width : (n : Line) (r : List ℤ) → rowFits n r ≡ true → length (spellValues (n .shape) (drop 3 r)) ≡ shapeWidth (n .shape)
+unfolding rowFits
+row-width n r fits = fit-width (n .shape) (drop 3 r) (and-true (sameList sameℤ (take 3 r) (n .keys)) (valuesFit (n .shape) (drop 3 r)) fits .1)
+
+pub fit-rows : (lines : List Line) (rows : List (List ℤ)) → rowsFit lines rows ≡ true
+    → (rowsOf lines (spellRows lines rows) ≡ rows) × (length (spellRows lines rows) ≡ bodyWidth lines)
+unfolding rowsFit rowsOf spellRows bodyWidth
+fit-rows [] [] fits = (refl, refl)
+fit-rows [] (r ∷ rs) fits = absurd (false≢true fits)
+fit-rows (n ∷ ns) [] fits = absurd (false≢true fits)
+fit-rows (n ∷ ns) (r ∷ rs) fits =
+    let both = and-true (rowFits n r) (rowsFit ns rs) fits in
+    let b : List Bool = spellValues (n .shape) (drop 3 r) in
+    let whole : length b ≡ shapeWidth (n .shape) = row-width n r (both .0) in
+    let others = fit-rows ns rs (both .1) in
+    let behind : drop (shapeWidth (n .shape)) (b ++ spellRows ns rs) ≡ spellRows ns rs = drop-at b (spellRows ns rs) (shapeWidth (n .shape)) whole in
+    let back : rowsOf (n ∷ ns) (b ++ spellRows ns rs) ≡ r ∷ rs = ap₂ _∷_ (row-back n r (spellRows ns rs) (both .0)) (ap (rowsOf ns) behind ∙ others .0) in
+    (back, length-append b (spellRows ns rs) ∙ ap₂ _+_ whole (others .1))
+
+-- ---- hence rows fit just where what they spell is as wide as the body and reads back to them
+
+pub rows-exact : (lines : List Line) → Threes lines → (rows : List (List ℤ)) → length (spellRows lines rows) ≡ bodyWidth lines
+    → rowsOf lines (spellRows lines rows) ≡ rows → rowsFit lines rows ≡ true
+rows-exact lines threes rows whole back =
+    subst (λ (rs : List (List ℤ)). rowsFit lines rs ≡ true) back (rows-fit lines threes (spellRows lines rows) (omega arith))
