@@ -8,7 +8,6 @@ use native.Mathlib.Decide.{decLt}
 use native.Mathlib.Nat.{mod-eq-of-lt}
 use native.Mathlib.Omega.{arith}
 use borrow.Author.Tests.{ltb-true, leb-true, lt-ltb, le-leb}
-use lib.Dec.{ltb, leb}
 use lib.IntN.{ℤ, pos, negsuc}
 use lib.ListN.{length, take, drop, length-append, length-drop, take-append-drop}
 use lib.Seq.{take-at, drop-at, length-take-le}
@@ -22,45 +21,6 @@ use Rattle.format.proofs.Steps.{field-lt}
 use Rattle.format.specs.Rows.{absent, Column, gap, plain, counts, Line, widthOf, valueOf, shapeWidth, valuesOf, bodyWidth, rowsOf, spellValues, spellRows}
 use Rattle.format.specs.Same.{sameList, sameℤ}
 use Rattle.writer.specs.Fits.{columnFits, valuesFit, rowFits, rowsFit}
-
--- ---- what is read fits
-
--- what w bits mean in two's complement
-signed-fits : (w n : ℕ) → n < 2 ^ w → columnFits (counts w) (signed w n) ≡ true
-unfolding columnFits
-signed-fits w n small = go (decLt (n * 2) (2 ^ w))
-  where
-    go : Dec (n * 2 < 2 ^ w) → columnFits (counts w) (signed w n) ≡ true
-    go (yes h) = rw (signed-pos w n h) (lt-ltb (n * 2) (2 ^ w) h)
-    go (no h) = rw (signed-neg w n (omega arith) small) (le-leb (suc (2 ^ w - suc n) * 2) (2 ^ w) (omega arith))
-
-column-fits : (c : Column) (n : ℕ) → n < 2 ^ widthOf c → columnFits c (valueOf c n) ≡ true
-unfolding columnFits valueOf widthOf
-column-fits gap n small = sameℤ-refl absent
-column-fits (plain w) n small = lt-ltb n (2 ^ w) small
-column-fits (counts w) n small = signed-fits w n small
-
-pub values-fit : (cs : List Column) (l : List Bool) → shapeWidth cs ≤ length l → valuesFit cs (valuesOf cs l) ≡ true
-unfolding shapeWidth valuesOf valuesFit
-values-fit [] l room = refl
-values-fit (c ∷ cs) l room =
-    let w : ℕ = widthOf c in
-    let whole : length (take w l) ≡ w = length-take-le w l (omega arith) in
-    let rest : shapeWidth cs ≤ length (drop w l) = rw length-drop (omega arith) in
-    true-and (column-fits c (number (take w l)) (field-lt w (take w l) whole)) (values-fit cs (drop w l) rest)
-
--- keys before values
-row-fits : (n : Line) (vs : List ℤ) → length (n .keys) ≡ 3 → valuesFit (n .shape) vs ≡ true → rowFits n (n .keys ++ vs) ≡ true
-unfolding rowFits
-row-fits n vs three fits = rw (take-at (n .keys) vs 3 three, drop-at (n .keys) vs 3 three) (true-and (sameList-refl sameℤ sameℤ-refl (n .keys)) fits)
-
-pub rows-fit : (lines : List Line) → Threes lines → (l : List Bool) → bodyWidth lines ≤ length l → rowsFit lines (rowsOf lines l) ≡ true
-unfolding bodyWidth rowsOf rowsFit
-rows-fit [] none l room = refl
-rows-fit (n ∷ ns) (more three threes) l room =
-    let w : ℕ = shapeWidth (n .shape) in
-    let rest : bodyWidth ns ≤ length (drop w l) = rw length-drop (omega arith) in
-    true-and (row-fits n (valuesOf (n .shape) l) three (values-fit (n .shape) l (omega arith))) (rows-fit ns threes (drop w l) rest)
 
 -- ---- what fits reads back
 
@@ -130,6 +90,45 @@ fit-rows (n ∷ ns) (r ∷ rs) fits =
     let behind : drop (shapeWidth (n .shape)) (b ++ spellRows ns rs) ≡ spellRows ns rs = drop-at b (spellRows ns rs) (shapeWidth (n .shape)) whole in
     let back : rowsOf (n ∷ ns) (b ++ spellRows ns rs) ≡ r ∷ rs = ap₂ _∷_ (row-back n r (spellRows ns rs) (both .0)) (ap (rowsOf ns) behind ∙ others .0) in
     (back, length-append b (spellRows ns rs) ∙ ap₂ _+_ whole (others .1))
+
+-- ---- what is read fits
+
+-- what w bits mean in two's complement
+signed-fits : (w n : ℕ) → n < 2 ^ w → columnFits (counts w) (signed w n) ≡ true
+unfolding columnFits
+signed-fits w n small = go (decLt (n * 2) (2 ^ w))
+  where
+    go : Dec (n * 2 < 2 ^ w) → columnFits (counts w) (signed w n) ≡ true
+    go (yes h) = rw (signed-pos w n h) (lt-ltb (n * 2) (2 ^ w) h)
+    go (no h) = rw (signed-neg w n (omega arith) small) (le-leb (suc (2 ^ w - suc n) * 2) (2 ^ w) (omega arith))
+
+column-fits : (c : Column) (n : ℕ) → n < 2 ^ widthOf c → columnFits c (valueOf c n) ≡ true
+unfolding columnFits valueOf widthOf
+column-fits gap n small = sameℤ-refl absent
+column-fits (plain w) n small = lt-ltb n (2 ^ w) small
+column-fits (counts w) n small = signed-fits w n small
+
+pub values-fit : (cs : List Column) (l : List Bool) → shapeWidth cs ≤ length l → valuesFit cs (valuesOf cs l) ≡ true
+unfolding shapeWidth valuesOf valuesFit
+values-fit [] l room = refl
+values-fit (c ∷ cs) l room =
+    let w : ℕ = widthOf c in
+    let whole : length (take w l) ≡ w = length-take-le w l (omega arith) in
+    let rest : shapeWidth cs ≤ length (drop w l) = rw length-drop (omega arith) in
+    true-and (column-fits c (number (take w l)) (field-lt w (take w l) whole)) (values-fit cs (drop w l) rest)
+
+-- keys before values
+row-fits : (n : Line) (vs : List ℤ) → length (n .keys) ≡ 3 → valuesFit (n .shape) vs ≡ true → rowFits n (n .keys ++ vs) ≡ true
+unfolding rowFits
+row-fits n vs three fits = rw (take-at (n .keys) vs 3 three, drop-at (n .keys) vs 3 three) (true-and (sameList-refl sameℤ sameℤ-refl (n .keys)) fits)
+
+pub rows-fit : (lines : List Line) → Threes lines → (l : List Bool) → bodyWidth lines ≤ length l → rowsFit lines (rowsOf lines l) ≡ true
+unfolding bodyWidth rowsOf rowsFit
+rows-fit [] none l room = refl
+rows-fit (n ∷ ns) (more three threes) l room =
+    let w : ℕ = shapeWidth (n .shape) in
+    let rest : bodyWidth ns ≤ length (drop w l) = rw length-drop (omega arith) in
+    true-and (row-fits n (valuesOf (n .shape) l) three (values-fit (n .shape) l (omega arith))) (rows-fit ns threes (drop w l) rest)
 
 -- ---- hence rows fit just where what they spell is as wide as the body and reads back to them
 

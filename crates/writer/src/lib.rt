@@ -1,1 +1,1 @@
-// Writes a message: which rows a message can have (specs/Fits.antt), told without spelling and reading them.
+// Which rows a message can carry, told without spelling and reading them: definitions in specs/, laws in proofs/.
