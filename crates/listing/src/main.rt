@@ -6,8 +6,6 @@ mod input;
 mod output;
 mod pour;
 
-ghost use Prim.Native.Nat.{_≤_};
-ghost use lib.ListN.{length};
 use crate::asked::arguments;
 use crate::input::list;
 use crate::output::Sink;
