@@ -1,1 +1,2 @@
 pub mod FitRows
+pub mod FitHeads
