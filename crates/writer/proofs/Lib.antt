@@ -1,2 +1,3 @@
 pub mod FitRows
 pub mod FitHeads
+pub mod FitFlagged
