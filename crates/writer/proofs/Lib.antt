@@ -1,3 +1,4 @@
 pub mod FitRows
 pub mod FitHeads
 pub mod FitFlagged
+pub mod FitMasks
