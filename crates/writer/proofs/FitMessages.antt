@@ -2,7 +2,7 @@
 -- Assumes nothing.
 use mathlib.Core.Path.{_≡_, refl, sym, ap, subst, _∙_}
 use mathlib.Core.Bool.{Bool, true, false, false≢true}
-use mathlib.Core.List.{List, [], _∷_, _++_}
+use mathlib.Core.List.{List, [], _∷_, _++_, append-nil}
 use Prim.Native.Nat.{ℕ, zero, suc, _+_, _^_, _<_}
 use native.Mathlib.Nat.{add-zero, zero-add}
 use native.Mathlib.Omega.{arith}
@@ -176,3 +176,60 @@ pub fits-exact : (held : Held) → good held ≡ true → (h : Head) (rows : Lis
 fits-exact held fine h rows passes =
     let it = message-reads held fine h rows passes in
     read-exact held fine (it .bits) (record { content = record { head = h; rows = rows }; after = held }) (length (it .bits)) (it .whole .reads)
+
+-- and what it spells is read to it alone
+pub fits-reads : (held : Held) → good held ≡ true → (h : Head) (rows : List (List ℤ)) → fits held h rows ≡ true
+    → run (message held) (spelled held h rows) ≡ well (record { content = record { head = h; rows = rows }; after = held }) (length (spelled held h rows))
+fits-reads held fine h rows passes = rw append-nil at (exact-reads held h rows (fits-exact held fine h rows passes) [])
+
+-- ---- what is read fits
+
+-- behind the common head, which is that of the mask's issue
+under-fits : (n : ℕ) (m : Mask) (test : Sky → Head → List (List ℤ) → Bool) (front : Common) (h : Head) (rows : List (List ℤ))
+    → ((k : ℕ) (a b c : ℤ) → commonFits 12 (headOf k front a b c) ≡ true) → eqb (front .iod) (m .iod) ≡ true → h ≡ headOf n front (h .a) (h .b) (h .c)
+    → test (skyOf m) h rows ≡ true → fitsAs (underIssue test) (mask m) h rows ≡ true
+unfolding fitsAs headOf sameℤ
+under-fits n m test front h rows fit issue same passes =
+    let head : commonFits 12 h ≡ true = ap (commonFits 12) same ∙ fit n (h .a) (h .b) (h .c) in
+    let own : sameℤ (h .iod) (pos (m .iod)) ≡ true = ap (λ (g : Head). sameℤ (g .iod) (pos (m .iod))) same ∙ issue in
+    true-and head (true-and own passes)
+
+kind-fits : (n : ℕ) (k : Kind) (test : Asks) → Told n k test → (held : Held) → good held ≡ true
+    → Gives (byKind k held) (λ m b. (m .content .head .subtype ≡ pos n) × (fitsAs test (m .after) (m .content .head) (m .content .rows) ≡ true))
+unfolding fitsAs byKind headOf skyOf
+kind-fits n other never neither held fine = gives-refuse SubType
+kind-fits n (free k) (freely test) (told-free _ _ law) held fine = keeping-gives held law λ d b l it whole. (it .0, it .1 l whole)
+kind-fits n (masked k) (underIssue test) (told-masked _ _ law) nothing fine =
+    keeping-gives {P = λ d b. ⊥} nothing (under-nothing k) λ d b l nobody whole. absurd nobody
+kind-fits n (masked k) (underIssue test) (told-masked _ _ law) (mask m) fine =
+    keeping-gives {P = λ d b. (d .head .subtype ≡ pos n) × Fitting (fitsAs (underIssue test) (mask m)) d} (mask m)
+    (under-gives k m (common-fit 12) λ front a fit issue.
+    gives-so (law (skyOf m) (satellites-distinct m fine) front) λ d b it.
+    (ap (λ (g : Head). g .subtype) (it .0), λ l whole. under-fits n m test front (d .head) _ fit issue (it .0) (it .1 l whole)))
+    λ d b l it whole. (it .0, it .1 l whole)
+kind-fits n (adopts k) (ofMask test) (told-mask _ _ law) held fine =
+    gives-bind law λ d b it.
+    gives-done (it .0, true-and (it .1) (true-and (ap (λ (z : ℤ). sameℤ z (pos (d .made .iod))) (it .2) ∙ sameℤ-refl (pos (d .made .iod))) (it .3)))
+
+message-fits : (held : Held) → good held ≡ true → Gives (message held) (λ m b. fits (m .after) (m .content .head) (m .content .rows) ≡ true)
+unfolding fits
+message-fits held fine =
+    gives-message table held λ n _.
+    gives-so (kind-fits n (table n) (askedBy (pos n)) (told-at n) held fine) λ m b it.
+    subst (λ (z : ℤ). fitsAs (askedBy z) (m .after) (m .content .head) (m .content .rows) ≡ true) (sym (it .0)) (it .1)
+
+-- so what is written exactly fits
+pub exact-fits : (held : Held) → good held ≡ true → (h : Head) (rows : List (List ℤ)) → exact held h rows ≡ true → fits held h rows ≡ true
+exact-fits held fine h rows e =
+    message-fits held fine .gives (spelled held h rows ++ []) (record { content = record { head = h; rows = rows }; after = held })
+    (length (spelled held h rows)) (exact-reads held h rows e [])
+
+-- ---- hence refusal 12's test is this one
+
+same-test : (a b : Bool) → (a ≡ true → b ≡ true) → (b ≡ true → a ≡ true) → a ≡ b
+same-test true b there back = sym (there refl)
+same-test false true there back = back refl
+same-test false false there back = refl
+
+pub exact-is-fits : (held : Held) → good held ≡ true → (h : Head) (rows : List (List ℤ)) → exact held h rows ≡ fits held h rows
+exact-is-fits held fine h rows = same-test (exact held h rows) (fits held h rows) (exact-fits held fine h rows) (fits-exact held fine h rows)
