@@ -1,28 +1,28 @@
 -- Sub type 11: a head and rows that fit are what its program reads some bits to, and what it reads fits.
 -- Assumes nothing.
 use mathlib.Core.Path.{_≡_, refl, sym, ap, subst, _∙_}
-use mathlib.Core.Bool.{Bool, true, false, cond, not, _&&_, false≢true}
+use mathlib.Core.Bool.{Bool, true, false, cond, not, false≢true}
 use mathlib.Core.List.{List, [], _∷_, _++_}
-use Prim.Native.Nat.{ℕ, zero, suc, _^_, _≤_, _<_}
+use Prim.Native.Nat.{ℕ, zero, suc, _^_, _<_}
 use native.Mathlib.Omega.{arith}
 use borrow.Author.Tests.{ltb-true, lt-ltb, ne-eqb}
-use lib.Dec.{eqb, ltb}
+use lib.Dec.{eqb}
 use lib.IntN.{ℤ, pos, negsuc}
 use lib.ListN.{length, take}
 use Rattle.bits.specs.BitLists.{spell}
-use Rattle.format.proofs.Sames.{and-true, true-and, sameℤ-sound, sameℤ-refl}
+use Rattle.format.proofs.Sames.{and-true, true-and, sameℤ-sound}
 use Rattle.format.proofs.Selections.{Distinct, Keyed, rows-keyed, marks-pick}
 use Rattle.format.proofs.Spells.{satellite-threes}
 use Rattle.format.proofs.Steps.{Gives, gives-done, gives-require, gives-taking, gives-numbered, gives-bind, Reads, reads-done, reads-require, reads-taking, reads-numbered, reads-bind}
 use Rattle.format.specs.declared.Head.{Head}
-use Rattle.format.specs.Masks.{Satellite, Sky, pick}
-use Rattle.format.specs.Messages.{Common, headOf, Selected, selection, flagged, satelliteLines}
+use Rattle.format.specs.Masks.{Satellite, Sky}
+use Rattle.format.specs.Messages.{Common, headOf, selection, flagged, satelliteLines}
 use Rattle.format.specs.Rows.{absent, Column, Line, rowsOf}
 use Rattle.format.specs.Same.{sameℤ, sameList}
 use Rattle.format.specs.Spelling.{marks, chosenBy}
 use Rattle.writer.specs.Fits.{rowsFit}
 use Rattle.writer.specs.FitHeads.{numberFits, networkFits, flaggedFits}
-use Rattle.writer.proofs.FitHeads.{Number, number-fits, Carried, Fitting}
+use Rattle.writer.proofs.FitHeads.{number-fits, Carried, Fitting}
 use Rattle.writer.proofs.FitRows.{rows-fit}
 
 -- ---- what fits is read

@@ -1,9 +1,9 @@
 -- A head and rows that fit their sub type are what its program reads some bits to, and what it reads fits: one pair of laws for each kind of message.
 -- Assumes nothing.
-use mathlib.Core.Path.{_≡_, refl, sym, ap, subst, _∙_}
-use mathlib.Core.Bool.{Bool, true, false, _&&_, false≢true}
-use mathlib.Core.List.{List, [], _∷_, _++_}
-use Prim.Native.Nat.{ℕ, zero, suc, _^_, _≤_, _<_}
+use mathlib.Core.Path.{_≡_, refl, sym, subst, _∙_}
+use mathlib.Core.Bool.{Bool, true, false≢true}
+use mathlib.Core.List.{List, [], _++_}
+use Prim.Native.Nat.{ℕ, zero, suc, _^_, _<_}
 use native.Mathlib.Omega.{arith}
 use borrow.Author.Tests.{ltb-true, lt-ltb}
 use lib.Dec.{ltb}
@@ -15,13 +15,13 @@ use Rattle.format.proofs.Sames.{and-true, true-and, sameℤ-sound, sameℤ-refl
 use Rattle.format.proofs.Steps.{Gives, gives-done, gives-numbered, Reads, reads-done, reads-taking, reads-numbered, reads-bind, reads-end}
 use Rattle.format.specs.declared.Head.{Head}
 use Rattle.format.specs.Masks.{Held, Sky}
-use Rattle.format.specs.Messages.{Common, Heading, common, headOf, body, bodied, rowsAlone, packet, packetLines, packetHeading, packetType}
-use Rattle.format.specs.Programs.{Program, done, field, _>>=_, taking}
+use Rattle.format.specs.Messages.{Common, Heading, headOf, body, bodied, rowsAlone, packet, packetLines, packetHeading, packetType}
+use Rattle.format.specs.Programs.{Program, done, _>>=_, taking}
 use Rattle.format.specs.Rows.{absent, Line, bodyWidth, rowsOf, spellRows}
 use Rattle.format.specs.Same.{sameℤ}
 use Rattle.format.specs.Table.{keeping}
 use Rattle.writer.specs.Fits.{rowsFit}
-use Rattle.writer.specs.FitHeads.{numberFits, commonFits, aloneFits, partsFit, packetFits}
+use Rattle.writer.specs.FitHeads.{numberFits, aloneFits, partsFit, packetFits}
 use Rattle.writer.proofs.FitRows.{fit-rows, rows-fit}
 
 -- ---- numbers

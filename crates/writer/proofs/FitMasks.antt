@@ -1,9 +1,9 @@
 -- The common head, and sub type 1: a head that fits is what some bits are read to, and what is read fits.
 -- Assumes nothing.
 use mathlib.Core.Path.{_≡_, refl, sym, ap, subst, _∙_}
-use mathlib.Core.Bool.{Bool, true, false, _&&_, false≢true}
+use mathlib.Core.Bool.{Bool, true, false≢true}
 use mathlib.Core.List.{List, [], _∷_, _++_}
-use Prim.Native.Nat.{ℕ, zero, suc, _+_, _^_, _≤_, _<_}
+use Prim.Native.Nat.{ℕ, zero, suc, _+_, _^_, _<_}
 use native.Mathlib.Omega.{arith}
 use borrow.Author.Tests.{lt-ltb}
 use lib.IntN.{ℤ, pos}
@@ -20,7 +20,7 @@ use Rattle.format.specs.Rows.{absent}
 use Rattle.format.specs.Same.{sameℤ}
 use Rattle.format.specs.Spelling.{putMask}
 use Rattle.writer.specs.FitHeads.{numberFits, commonFits, rowless, maskFits}
-use Rattle.writer.proofs.FitHeads.{Number, number-fits}
+use Rattle.writer.proofs.FitHeads.{number-fits}
 
 -- ---- the common head
 
@@ -50,7 +50,14 @@ common-fronted w n h type fits =
       indicator = j .small;
       issue = k .small;
       same = λ t. record {
-        subtype = type t; epoch = e .same t; interval = i .same t; indicator = j .same t; iod = k .same t; a = h .a; b = h .b; c = h .c;
+        subtype = type t;
+        epoch = e .same t;
+        interval = i .same t;
+        indicator = j .same t;
+        iod = k .same t;
+        a = h .a;
+        b = h .b;
+        c = h .c;
       };
     }
 

@@ -10,7 +10,6 @@ use borrow.Author.Tests.{eq-eqb}
 use lib.Dec.{eqb}
 use lib.IntN.{ℤ, pos, negsuc}
 use lib.ListN.{length, getD}
-use lib.Seq.{take-length}
 use Rattle.bits.specs.BitLists.{spell}
 use Rattle.format.proofs.Bodies.{Threes}
 use Rattle.format.proofs.MakesBack.{common-reads}
@@ -29,7 +28,7 @@ use Rattle.format.specs.Programs.{Program, well, run}
 use Rattle.format.specs.Rows.{absent, Column, Line}
 use Rattle.format.specs.Same.{sameℤ}
 use Rattle.format.specs.Spelling.{putCommon, putFlagged, putPacket, putMask}
-use Rattle.format.specs.Table.{Message, Kind, FreeKind, MaskedKind, AdoptedKind, other, free, masked, adopts, alone, kinds, table, gate, underMask, keeping, byKind, opening, messageBy, message, spelled}
+use Rattle.format.specs.Table.{Kind, FreeKind, MaskedKind, AdoptedKind, other, free, masked, adopts, alone, kinds, table, gate, underMask, keeping, byKind, opening, messageBy, message, spelled}
 use Rattle.format.specs.Writing.{exact}
 use Rattle.writer.specs.FitHeads.{commonFits, aloneFits, flaggedFits, packetFits, maskFits, Asks, never, freely, underIssue, ofMask, asked, askedBy, fitsAs, fits}
 use Rattle.writer.proofs.FitHeads.{Carried, carried-reads, Fitting, alone-carried, alone-fits, packet-carried, packet-fits}

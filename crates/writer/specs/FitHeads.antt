@@ -1,6 +1,6 @@
 -- Which head and rows a message can carry under a mask, sub type by sub type: document 01, "What is handed out", and refusal 12.
 -- Nothing is spelled or read here.
-use mathlib.Core.Bool.{Bool, true, false, cond, _&&_}
+use mathlib.Core.Bool.{Bool, true, false, _&&_}
 use mathlib.Core.List.{List, [], _∷_}
 use Prim.Native.Nat.{ℕ, zero, suc, _^_}
 use lib.Dec.{ltb}
@@ -64,7 +64,7 @@ maskFits m h rows = sameℤ (h .a) (pos (length (m .systems))) && (sameℤ (h .b
 
 -- ---- the table of sub types
 
--- what a sub type asks: none of ours; free of the holding; under the mask of its issue, behind the common head; a mask, with the epoch's width
+-- what a sub type asks: none of ours; free of the holding; behind the common head, under the mask of its issue; behind a mask's head, of the mask itself
 pub data Asks : Type 0 where
   never : Asks
   freely : (Head → List (List ℤ) → Bool) → Asks
