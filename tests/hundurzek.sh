@@ -3,11 +3,10 @@
 # other folders and through links; and, with a kit that only notes its calls, when it builds.
 set -eu
 cd "$(dirname "$0")/.."
+. tests/lib/judge.sh
 home=$PWD
 work=$(mktemp -d)
 trap 'rm -rf "$work"' EXIT
-passed=0
-failed=0
 
 # Document 01's example: its listing, its saved mask; its clock message alone, listed with that mask and without.
 listing=crates/listing/stdout
@@ -17,16 +16,6 @@ sed -n 2p training/06-no-mask/accepted.txt >"$work/clock"
 sed -n '3,$p' training/06-no-mask/accepted.listing >"$work/clock.listing"
 sed -n 1p training/06-no-mask/accepted.txt >"$work/mask file"
 : >"$work/nothing"
-
-judge() {
-    if [ "$2" = yes ]; then
-        passed=$((passed + 1))
-    else
-        failed=$((failed + 1))
-        echo "FAILED $1" | cut -c 1-200
-        head -n 3 "$work/out" "$work/err"
-    fi
-}
 
 # ran COMMAND..: its status is left in $status, what it prints in $work/out and $work/err
 ran() {
@@ -43,6 +32,7 @@ prints() {
         judge "$*" yes
     else
         judge "status $status: $*" no
+        head -n 3 "$work/out" "$work/err"
     fi
 }
 
@@ -56,6 +46,7 @@ refuses() {
         judge "$*" yes
     else
         judge "status $status: $*" no
+        head -n 3 "$work/out" "$work/err"
     fi
 }
 

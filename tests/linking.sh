@@ -5,22 +5,11 @@
 set -eu
 cd "$(dirname "$0")/.."
 . tests/lib/tools.sh
+. tests/lib/judge.sh
 need pkg-config pkg-config
 home=$PWD
 work=$(mktemp -d)
 trap 'rm -rf "$work"' EXIT
-passed=0
-failed=0
-
-judge() {
-    if [ "$2" = yes ]; then
-        passed=$((passed + 1))
-    else
-        failed=$((failed + 1))
-        echo "FAILED $1"
-    fi
-}
-
 # On another processor README.md's cc is one that compiles for x86-64, and runs what it made under the emulator.
 if [ -n "$RUN" ]; then
     mkdir "$work/shims"

@@ -5,13 +5,12 @@
 set -eu
 cd "$(dirname "$0")/.."
 . tests/lib/tools.sh
+. tests/lib/judge.sh
 second
 $CC $FLAGS tests/lib/pieces.c -o target/tests/pieces
 work=target/tests/listing
 rm -rf "$work"
 mkdir -p "$work"
-passed=0
-failed=0
 
 # The proved program: the listing of the standard input, and the saved mask after it.
 PROVED=${PROVED:-./hundurzek}
@@ -22,15 +21,6 @@ other() { target/tests/second listing; }
 other_mask() { target/tests/second mask; }
 
 pieces() { $RUN target/tests/pieces "$@"; }
-
-judge() {
-    if [ "$2" = yes ]; then
-        passed=$((passed + 1))
-    else
-        failed=$((failed + 1))
-        echo "FAILED $1"
-    fi
-}
 
 # same WHAT GOT WANT: whether two files are; tells the first lines that differ
 same() {
