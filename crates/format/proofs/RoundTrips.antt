@@ -81,7 +81,7 @@ kind-again (masked k) held = keeps held (underMask k held) λ c b. refl
 kind-again (adopts k) held = gives-so (gives-itself (byKind (adopts k) held)) λ m b _. refl
 
 -- the number and the sub type
-opening-reads : (n : ℕ) → n < 2 ^ 4 → Reads opening (spell 12 4073 ++ spell 4 n) n
+pub opening-reads : (n : ℕ) → n < 2 ^ 4 → Reads opening (spell 12 4073 ++ spell 4 n) n
 unfolding opening
 opening-reads n small =
     reads-numbered _ 12 4073 (omega arith) (reads-require _ _ _ refl (reads-end (spell 4 n) (reads-numbered _ 4 n small reads-done)))

@@ -127,3 +127,10 @@ pub sameHeld-refl : (h : Held) → sameHeld h h ≡ true
 unfolding sameHeld
 sameHeld-refl nothing = refl
 sameHeld-refl (mask m) = simp (eqb-refl, sameList-refl sameSystem sameSystem-refl)
+
+-- two tests each of which holds where the other does
+pub same-test : (a b : Bool) → (a ≡ true → b ≡ true) → (b ≡ true → a ≡ true) → a ≡ b
+same-test false false f g = refl
+same-test false true f g = g refl
+same-test true false f g = cc (f refl)
+same-test true true f g = refl

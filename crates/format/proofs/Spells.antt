@@ -30,7 +30,7 @@ pub cell-threes : (shape : ℕ → List Column) (cs : List Cell) → Threes (cel
 unfolding cellLines
 cell-threes shape cs = all-map _ cs (λ c. refl)
 
-packet-threes : (k n : ℕ) → Threes (packetLines k n)
+pub packet-threes : (k n : ℕ) → Threes (packetLines k n)
 unfolding packetLines
 packet-threes k zero = none
 packet-threes k (suc n) = more refl (packet-threes (suc k) n)

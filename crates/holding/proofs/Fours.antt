@@ -8,7 +8,7 @@ use Rattle.bits.proofs.Lists.{elements, taken}
 use Rattle.holding.specs.Bounds.{every}
 use Rattle.format.proofs.Sames.{and-true, true-and}
 use Rattle.holding.specs.Testing.{four, stripFits, emptyStrips, stripsFit}
-use Rattle.holding.proofs.Tests.{same-test}
+use Rattle.format.proofs.Sames.{same-test}
 
 -- ---- the four
 

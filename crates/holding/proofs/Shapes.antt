@@ -11,7 +11,7 @@ use Rattle.holding.specs.Pictures.{sound}
 use Rattle.holding.specs.Testing.{tested}
 use Rattle.holding.proofs.SoundTested.{sound-tested}
 use Rattle.holding.proofs.Sounds.{Shaped}
-use Rattle.holding.proofs.Tests.{same-test}
+use Rattle.format.proofs.Sames.{same-test}
 use Rattle.holding.proofs.TestedSound.{tested-sound}
 
 -- the struct's lists stand there as copies of themselves

@@ -29,13 +29,6 @@ and-again false b c = refl
 and-again true false c = refl
 and-again true true c = refl
 
--- two tests each of which holds where the other does
-pub same-test : (a b : Bool) → (a ≡ true → b ≡ true) → (b ≡ true → a ≡ true) → a ≡ b
-same-test false false f g = refl
-same-test false true f g = g refl
-same-test true false f g = cc (f refl)
-same-test true true f g = refl
-
 -- ---- of each number of a list
 
 module _ (test : ℕ → Bool) where

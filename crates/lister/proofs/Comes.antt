@@ -5,7 +5,6 @@ use Prim.Native.Nat.{ℕ, _+_, _≤_, _<_}
 use native.Mathlib.Omega.{arith}
 use lib.IntN.{ℤ}
 use lib.ListN.{length}
-use Rattle.format.specs.declared.Answer.{Answer}
 use Rattle.format.specs.declared.Answer.the-variants as Answers
 use Rattle.format.specs.declared.Head.{Head}
 use Rattle.format.specs.Answers.{Said, stop, saidAt}

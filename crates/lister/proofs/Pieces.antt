@@ -1,13 +1,12 @@
 -- What taking a piece answers, by how many of its bytes belong to the line. Assumes nothing.
-use mathlib.Core.Path.{_≡_, refl, sym, ap, _∙_}
-use mathlib.Core.Bool.{Bool, true, false, cond}
-use mathlib.Core.List.{List, [], _∷_}
+use mathlib.Core.Path.{_≡_, refl, sym, _∙_}
+use mathlib.Core.Bool.{cond}
+use mathlib.Core.List.{List}
 use Prim.Native.Nat.{ℕ, zero, suc, _-_, _<_}
 use native.Mathlib.Omega.{arith}
 use lib.Dec.{eqb}
 use lib.ListN.{length, getD, take}
 use lib.Seq.{length-take-le, sets}
-use borrow.Author.Tests.{eq-eqb, ne-eqb}
 use Rattle.format.specs.Text.{lineFeed}
 use Rattle.lister.specs.declared.gather.Gathered.{Gathered}
 use Rattle.lister.specs.declared.Work.{Work}

@@ -1,5 +1,5 @@
 -- What is loaded is sound, and what is saved lies within the buffer. Assumes nothing.
-use mathlib.Core.Path.{_≡_, refl, sym, ap, _∙_}
+use mathlib.Core.Path.{_≡_, refl}
 use mathlib.Core.Bool.{Bool, true, false}
 use mathlib.Core.List.{List, [], _∷_}
 use Prim.Native.Nat.{ℕ, _≤_}
@@ -16,7 +16,6 @@ use Rattle.format.proofs.SavedForm.{line-load}
 use Rattle.holding.specs.declared.Holding.{Holding}
 use Rattle.holding.specs.Pictures.{pictureOf, sound}
 use Rattle.holding.proofs.Pictured.{sound-picture}
-use Rattle.saved.specs.declared.Saving.{Saving}
 use Rattle.saved.specs.declared.Saving.the-variants as Savings
 use Rattle.saved.specs.Loads.{loadingBy}
 use Rattle.saved.specs.Saves.{savingBy}

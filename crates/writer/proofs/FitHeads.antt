@@ -3,15 +3,16 @@
 use mathlib.Core.Path.{_≡_, refl, sym, subst, _∙_}
 use mathlib.Core.Bool.{Bool, true, false≢true}
 use mathlib.Core.List.{List, [], _++_}
-use Prim.Native.Nat.{ℕ, zero, suc, _^_, _<_}
+use Prim.Native.Nat.{ℕ, suc, _^_, _<_}
 use native.Mathlib.Omega.{arith}
 use borrow.Author.Tests.{ltb-true, lt-ltb}
 use lib.Dec.{ltb}
 use lib.IntN.{ℤ, pos, negsuc}
 use lib.ListN.{length}
 use Rattle.bits.specs.BitLists.{spell}
-use Rattle.format.proofs.Bodies.{none, more, Threes}
+use Rattle.format.proofs.Bodies.{Threes}
 use Rattle.format.proofs.Sames.{and-true, true-and, sameℤ-sound, sameℤ-refl}
+use Rattle.format.proofs.Spells.{packet-threes}
 use Rattle.format.proofs.Steps.{Gives, gives-done, gives-numbered, Reads, reads-done, reads-taking, reads-numbered, reads-bind, reads-end}
 use Rattle.format.specs.declared.Head.{Head}
 use Rattle.format.specs.Masks.{Held, Sky}
@@ -104,11 +105,6 @@ parts-fit (pos n) rows fits =
     let both = and-true (ltb n 4) _ fits in
     record { size = n; same = refl; small = ltb-true n 4 (both .0); rowed = both .1 }
 parts-fit (negsuc n) rows fits = absurd (false≢true fits)
-
-packet-threes : (k n : ℕ) → Threes (packetLines k n)
-unfolding packetLines
-packet-threes k zero = none
-packet-threes k (suc n) = more refl (packet-threes (suc k) n)
 
 pub packet-carried : (h : Head) (rows : List (List ℤ)) → h .subtype ≡ pos packetType → packetFits h rows ≡ true → Carried packet h rows
 unfolding packet packetHeading packetFits

@@ -1,7 +1,7 @@
 -- A head and rows fit under a held mask just where the message that they spell reads back to exactly them: refusal 12 by direct tests.
 -- Assumes nothing.
 use mathlib.Core.Path.{_≡_, refl, sym, ap, subst, _∙_}
-use mathlib.Core.Bool.{Bool, true, false, false≢true}
+use mathlib.Core.Bool.{Bool, true, false≢true}
 use mathlib.Core.List.{List, [], _∷_, _++_, append-nil}
 use Prim.Native.Nat.{ℕ, zero, suc, _+_, _^_, _<_}
 use native.Mathlib.Nat.{add-zero, zero-add}
@@ -13,11 +13,11 @@ use lib.ListN.{length, getD}
 use Rattle.bits.specs.BitLists.{spell}
 use Rattle.format.proofs.Bodies.{Threes}
 use Rattle.format.proofs.MakesBack.{common-reads}
-use Rattle.format.proofs.RoundTrips.{read-exact, exact-reads}
-use Rattle.format.proofs.Sames.{and-true, true-and, sameℤ-sound, sameℤ-refl}
+use Rattle.format.proofs.RoundTrips.{opening-reads, read-exact, exact-reads}
+use Rattle.format.proofs.Sames.{and-true, true-and, sameℤ-sound, sameℤ-refl, same-test}
 use Rattle.format.proofs.Selections.{Distinct, satellites-distinct}
 use Rattle.format.proofs.Spells.{satellite-threes, cell-threes}
-use Rattle.format.proofs.Steps.{Gives, gives-done, gives-refuse, gives-bind, gives-so, Reads, reads-done, reads-require, reads-numbered, reads-bind, reads-end}
+use Rattle.format.proofs.Steps.{Gives, gives-done, gives-refuse, gives-bind, gives-so, Reads, reads-done, reads-require, reads-bind}
 use Rattle.format.proofs.Tables.{gives-message, keeping-gives, under-nothing, under-gives}
 use Rattle.format.specs.declared.Head.{Head}
 use Rattle.format.specs.declared.Refusal.the-variants.{SubType}
@@ -28,7 +28,7 @@ use Rattle.format.specs.Programs.{Program, well, run}
 use Rattle.format.specs.Rows.{absent, Column, Line}
 use Rattle.format.specs.Same.{sameℤ}
 use Rattle.format.specs.Spelling.{putCommon, putFlagged, putPacket, putMask}
-use Rattle.format.specs.Table.{Kind, FreeKind, MaskedKind, AdoptedKind, other, free, masked, adopts, alone, kinds, table, gate, underMask, keeping, byKind, opening, messageBy, message, spelled}
+use Rattle.format.specs.Table.{Kind, FreeKind, MaskedKind, AdoptedKind, other, free, masked, adopts, alone, kinds, table, gate, underMask, keeping, byKind, messageBy, message, spelled}
 use Rattle.format.specs.Writing.{exact}
 use Rattle.writer.specs.FitHeads.{commonFits, aloneFits, flaggedFits, packetFits, maskFits, Asks, never, freely, underIssue, ofMask, asked, askedBy, fitsAs, fits}
 use Rattle.writer.proofs.FitHeads.{Carried, carried-reads, Fitting, alone-carried, alone-fits, packet-carried, packet-fits}
@@ -152,12 +152,6 @@ kind-reads n (adopts k) (ofMask test) (told-mask small makes _) (mask m) fine h 
     let it = makes m fine h rows f (front-issue 20 n h (m .iod) f (issue .0)) (issue .1) in
     (small, record { bits = it .bits ++ []; whole = reads-bind _ (it .makes) (rw (it .empty) reads-done) })
 
--- the number and the sub type
-opening-reads : (n : ℕ) → n < 2 ^ 4 → Reads opening (spell 12 4073 ++ spell 4 n) n
-unfolding opening
-opening-reads n small =
-    reads-numbered _ 12 4073 (omega arith) (reads-require _ _ _ refl (reads-end (spell 4 n) (reads-numbered _ 4 n small reads-done)))
-
 message-reads : (held : Held) → good held ≡ true → (h : Head) (rows : List (List ℤ)) → fits held h rows ≡ true
     → Readable (message held) (record { content = record { head = h; rows = rows }; after = held })
 unfolding fits fitsAs askedBy messageBy
@@ -224,11 +218,6 @@ exact-fits held fine h rows e =
     (length (spelled held h rows)) (exact-reads held h rows e [])
 
 -- ---- hence refusal 12's test is this one
-
-same-test : (a b : Bool) → (a ≡ true → b ≡ true) → (b ≡ true → a ≡ true) → a ≡ b
-same-test true b there back = sym (there refl)
-same-test false true there back = back refl
-same-test false false there back = refl
 
 pub exact-is-fits : (held : Held) → good held ≡ true → (h : Head) (rows : List (List ℤ)) → exact held h rows ≡ fits held h rows
 exact-is-fits held fine h rows = same-test (exact held h rows) (fits held h rows) (exact-fits held fine h rows) (fits-exact held fine h rows)

@@ -1,5 +1,5 @@
 -- `lister::onward::onward` meets its contract. Assumes nothing.
-use mathlib.Core.Path.{_≡_, refl, sym, ap, _∙_}
+use mathlib.Core.Path.{_≡_, sym, ap, _∙_}
 use mathlib.Core.List.{List}
 use Prim.Native.Nat.{ℕ, _+_, _^_, _≤_, _<_}
 use native.Mathlib.Omega.{arith}
@@ -7,13 +7,8 @@ use lib.IntN.{ℤ}
 use lib.ListN.{length}
 use lib.Seq.{sets}
 use borrow.Author.Needs.{needs}
-use denote.Enum.Declared.{tagOf}
-use Rattle.format.specs.declared.Answer.{Answer}
-use Rattle.format.specs.declared.Answer.the-variants as Answers
 use Rattle.format.specs.declared.Head.{Head}
-use Rattle.format.specs.declared.Refusal.{Refusal}
-use Rattle.format.specs.Answers.{numberOf, Said, stop, saidAt}
-use Rattle.format.proofs.Answer.{the-type}
+use Rattle.format.specs.Answers.{stop, saidAt}
 use Rattle.lister.specs.declared.State.{State}
 use Rattle.lister.specs.declared.Step.{Step}
 use Rattle.lister.specs.declared.Work.the-variants.{Walking}
@@ -23,7 +18,6 @@ use Rattle.lister.proofs.Comes.{MessageListed, message-listed, StopList
 use Rattle.format.proofs.Numbered.{number-small}
 use Rattle.lister.proofs.onward.onward.Statement.{statement}
 use Rattle.lister.proofs.onward.onward.Tie as tie
-use Rattle.walk.specs.declared.Tally.{Tally}
 use Rattle.walk.specs.Standing.{standAt, Stands}
 
 -- what was read
