@@ -3,3 +3,4 @@ pub mod FitHeads
 pub mod FitFlagged
 pub mod FitMasks
 pub mod FitMessages
+pub mod Pens

@@ -1,1 +1,2 @@
-// Which head and rows a message can carry, told without spelling and reading it: definitions in specs/, laws in proofs/.
+// The writer of one message (document 01, "Writer").
+pub mod pen;
