@@ -1,3 +1,5 @@
 pub mod Fits
 pub mod FitHeads
 pub mod Pens
+pub mod Numbers
+pub mod Fronts

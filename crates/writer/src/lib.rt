@@ -1,2 +1,4 @@
 // The writer of one message (document 01, "Writer").
+pub mod front;
+pub mod number;
 pub mod pen;
