@@ -7,3 +7,4 @@ pub mod Pens
 pub mod Numbers
 pub mod Gathered
 pub mod Fronts
+pub mod Plans

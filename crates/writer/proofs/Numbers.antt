@@ -18,12 +18,12 @@ use Rattle.writer.specs.Numbers.{wordOf}
 pub halved : {v : ℤ} → SFits w32 v → mag v * 2 < 2 ^ 32
 halved {v} fits = omega (arith, fits .sfits)
 
--- as it stands in a struct
-pub in-struct : (z : ℤ) → mag z < 2 ^ 31 → {r : ℕ} → r ≡ wordOf (toZ w32 (ofZ w32 z)) → r ≡ wordOf z
-in-struct z small e = rw (toZ-ofZ {w = w32} {z = z} (record { sfits = small })) at e
+abbrev pub isAbsent : ℤ → Bool
+isAbsent z = sameℤ z absent
 
-pub tested : (w : ℕ) (z : ℤ) → mag z < 2 ^ 31 → {b : Bool} → b ≡ numberFits w (toZ w32 (ofZ w32 z)) → b ≡ numberFits w z
-tested w z small e = rw (toZ-ofZ {w = w32} {z = z} (record { sfits = small })) at e
+-- what is found of one that stands in a struct
+pub of-struct : {A : Type 0} (f : ℤ → A) (z : ℤ) → mag z < 2 ^ 31 → {r : A} → r ≡ f (toZ w32 (ofZ w32 z)) → r ≡ f z
+of-struct f z small e = rw (toZ-ofZ {w = w32} {z = z} (record { sfits = small })) at e
 
 -- one that fits is what its bits say
 pub fits-small : (w : ℕ) (v : ℤ) → numberFits w v ≡ true → wordOf v < 2 ^ w

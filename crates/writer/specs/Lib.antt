@@ -3,3 +3,4 @@ pub mod FitHeads
 pub mod Pens
 pub mod Numbers
 pub mod Fronts
+pub mod Plans

@@ -2,3 +2,4 @@
 pub mod front;
 pub mod number;
 pub mod pen;
+pub mod plan;

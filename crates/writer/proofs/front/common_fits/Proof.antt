@@ -2,22 +2,22 @@
 use Rattle.bits.proofs.Words.{_≡_, sym, _∙_, true, false, arith, needs}
 use borrow.Author.Tests.{not-true, not-false}
 use Rattle.writer.specs.FitHeads.{numberFits, commonFits}
-use Rattle.writer.proofs.Numbers.{tested}
+use Rattle.writer.proofs.Numbers.{of-struct}
 use Rattle.writer.proofs.front.common_fits.Statement.{statement}
 use Rattle.writer.proofs.front.common_fits.Tie as tie
 
 -- what each test found
 epoch : (c : tie.After-fits2) → c .fits2 .result ≡ numberFits (c .before .before .args .epoch) (c .before .before .args .head .epoch)
-epoch c = tested _ _ (c .before .struct-told .given .1 .0 .1) (c .fits2 .ensures)
+epoch c = of-struct (numberFits _) _ (c .before .struct-told .given .1 .0 .1) (c .fits2 .ensures)
 
 interval : (c : tie.After-fits3) → c .fits3 .result ≡ numberFits 4 (c .before .before .before .before .before .args .head .interval)
-interval c = tested 4 _ (c .before .struct-told2 .given .1 .1 .0 .1) (c .fits3 .ensures)
+interval c = of-struct (numberFits 4) _ (c .before .struct-told2 .given .1 .1 .0 .1) (c .fits3 .ensures)
 
 indicator : (c : tie.After-fits4) → c .fits4 .result ≡ numberFits 1 (c .before .before .before .before .before .before .before .before .args .head .indicator)
-indicator c = tested 1 _ (c .before .struct-told3 .given .1 .1 .1 .0 .1) (c .fits4 .ensures)
+indicator c = of-struct (numberFits 1) _ (c .before .struct-told3 .given .1 .1 .1 .0 .1) (c .fits4 .ensures)
 
 iod : (c : tie.After-fits5) → c .fits5 .result ≡ numberFits 4 (c .before .before .before .before .before .before .before .before .before .before .before .args .head .iod)
-iod c = tested 4 _ (c .before .struct-told4 .given .1 .1 .1 .1 .0 .1) (c .fits5 .ensures)
+iod c = of-struct (numberFits 4) _ (c .before .struct-told4 .given .1 .1 .1 .1 .0 .1) (c .fits5 .ensures)
 
 returns : tie.Need-returns
 unfolding commonFits

@@ -5,7 +5,7 @@ use Rattle.writer.specs.Fronts.{penAt, frontFields, maskFront, openingFi
 use Rattle.writer.specs.Numbers.{wordOf}
 use Rattle.writer.proofs.Fronts.{common-smalls}
 use Rattle.writer.proofs.Gathered.{joinedTo, all-join}
-use Rattle.writer.proofs.Numbers.{in-struct, fits-small}
+use Rattle.writer.proofs.Numbers.{of-struct, fits-small}
 use Rattle.writer.proofs.front.mask.Statement.{statement}
 use Rattle.writer.proofs.front.mask.Tie as tie
 
@@ -15,7 +15,7 @@ module _ (c : tie.After-last) where
   s = c .before .before .before .before
 
   epoch : c .before .word .result ≡ wordOf (s .args .head .epoch)
-  epoch = in-struct _ (c .before .before .struct-told .given .1 .0 .1) (c .before .word .ensures .0)
+  epoch = of-struct wordOf _ (c .before .before .struct-told .given .1 .0 .1) (c .before .word .ensures .0)
 
   front-small : (c .before .before .before .opening .result * 1048576 + c .before .word .result) * 512 + c .last .result < 2 ^ 45
   unfolding openingField lastField
@@ -29,7 +29,7 @@ unfolding maskFront frontFields joinedTo total openingField lastField
 returns c =
     let t = c .before .before in
     let x = s t .args in
-    let a : c .word2 .result ≡ wordOf (x .head .a) = in-struct _ (c .before .struct-told2 .given .1 .1 .1 .1 .1 .0 .1) (c .word2 .ensures .0) in
+    let a : c .word2 .result ≡ wordOf (x .head .a) = of-struct wordOf _ (c .before .struct-told2 .given .1 .1 .1 .1 .1 .0 .1) (c .word2 .ensures .0) in
     ap (λ (g : ℕ). record { place = x .start; width = 49; gathered = g }) (omega (arith, epoch t)) ∙ sym (all-join (maskFront (x .head)) (penAt (x .start)) (omega arith))
 
 pub mask-spec : {M : Type 1} → statement M
