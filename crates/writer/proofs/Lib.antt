@@ -8,3 +8,4 @@ pub mod Numbers
 pub mod Gathered
 pub mod Fronts
 pub mod Plans
+pub mod FrontBits
