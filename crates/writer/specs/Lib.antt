@@ -4,3 +4,5 @@ pub mod Pens
 pub mod Numbers
 pub mod Fronts
 pub mod Plans
+pub mod Kinds
+pub mod Stages

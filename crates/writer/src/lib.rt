@@ -1,5 +1,14 @@
 // The writer of one message (document 01, "Writer").
 pub mod front;
+pub mod gate;
 pub mod number;
 pub mod pen;
 pub mod plan;
+
+use format::Refusal;
+
+// How writing ends: done, with the place after the message, or refused.
+pub enum Writing {
+    Done(usize),
+    Refused(Refusal),
+}
