@@ -4,3 +4,6 @@ pub mod FitFlagged
 pub mod FitMasks
 pub mod FitMessages
 pub mod Pens
+pub mod MaskFields
+pub mod MaskPens
+pub mod MaskLengths
