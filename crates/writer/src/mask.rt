@@ -95,7 +95,7 @@ pub fn put_systems(holding: Holding, bytes: &mut [u8], pen: Pen) -> Pen
 // How many bits a system has beside its cell mask.
 const FIXED: usize = ID + Holding::SATELLITE_MASK + Holding::SIGNAL_MASK + FLAG;
 
-// How many bits they are.
+// How many bits they are: at most so many for each of five systems, and 16 of a cell mask for each of 64 satellites.
 pub fn mask_bits(holding: Holding) -> usize
     requires { ⌜ sound holding ≡ true ⌝ }
     ensures { λ r. ⌜ r ≡ length (flatMap putSystem (maskOr (maskOf holding) .systems)) ⌝ }
