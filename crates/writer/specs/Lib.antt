@@ -6,3 +6,4 @@ pub mod Fronts
 pub mod Plans
 pub mod Kinds
 pub mod Stages
+pub mod MaskFields

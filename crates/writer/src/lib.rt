@@ -2,6 +2,7 @@
 pub mod front;
 pub mod gate;
 pub mod number;
+pub mod mask;
 pub mod pen;
 pub mod plan;
 
