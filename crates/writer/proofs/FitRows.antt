@@ -91,6 +91,14 @@ fit-rows (n ∷ ns) (r ∷ rs) fits =
     let back : rowsOf (n ∷ ns) (b ++ spellRows ns rs) ≡ r ∷ rs = ap₂ _∷_ (row-back n r (spellRows ns rs) (both .0)) (ap (rowsOf ns) behind ∙ others .0) in
     (back, length-append b (spellRows ns rs) ∙ ap₂ _+_ whole (others .1))
 
+-- as many rows as lines
+pub fit-count : (lines : List Line) (rows : List (List ℤ)) → rowsFit lines rows ≡ true → length rows ≡ length lines
+unfolding rowsFit
+fit-count [] [] fits = refl
+fit-count [] (r ∷ rs) fits = absurd (false≢true fits)
+fit-count (n ∷ ns) [] fits = absurd (false≢true fits)
+fit-count (n ∷ ns) (r ∷ rs) fits = ap suc (fit-count ns rs (and-true (rowFits n r) (rowsFit ns rs) fits .1))
+
 -- ---- what is read fits
 
 -- what w bits mean in two's complement

@@ -10,6 +10,10 @@ pub mod Fronts
 pub mod Plans
 pub mod SubTypes
 pub mod Order
+pub mod PlanBits
+pub mod PlanFlagged
+pub mod PlanPacket
+pub mod PlanMask
 pub mod FrontBits
 pub mod MaskFields
 pub mod MaskPens

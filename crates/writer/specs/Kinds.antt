@@ -1,9 +1,8 @@
 -- The sub types as the code has them: what each asks of head and rows, and the gate before it; and what a plan comes to.
 use mathlib.Core.Bool.{Bool, true, false, cond, _&&_}
 use mathlib.Core.List.{List, _++_}
-use Prim.Native.Nat.{ℕ}
+use Prim.Native.Nat.{ℕ, _-_, _/_, _^_}
 use lib.IntN.{ℤ, pos, negsuc}
-use lib.ListN.{take}
 use Rattle.bits.specs.BitLists.{spell}
 use Rattle.format.specs.declared.Head.{Head}
 use Rattle.format.specs.declared.Refusal.the-variants.{SubType, NoMask, OtherIssue, Network}
@@ -44,4 +43,4 @@ gateBy (Masked l) held iod h = issueGate held iod h (cond (l .flagged && sameℤ
 
 -- a plan's bits with rows under what a holding shows: what is gathered, the selection, the body
 unfoldable pub planBits : View → Plan → List (List ℤ) → List Bool
-planBits v p rows = spell (p .pen .width) (p .pen .gathered) ++ (take (p .marked) (spell 64 (p .chosen)) ++ spellRows (linesIn v (p .body)) rows)
+planBits v p rows = spell (p .pen .width) (p .pen .gathered) ++ (spell (p .marked) (p .chosen / 2 ^ (64 - p .marked)) ++ spellRows (linesIn v (p .body)) rows)

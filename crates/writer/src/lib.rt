@@ -1,8 +1,8 @@
 // The writer of one message (document 01, "Writer").
 pub mod front;
 pub mod gate;
-pub mod number;
 pub mod mask;
+pub mod number;
 pub mod pen;
 pub mod plan;
 
