@@ -1,0 +1,75 @@
+// Sub type 11's selection, "told by which satellites have rows".
+ghost use mathlib.Core.Path.{_≡_};
+ghost use Prim.Native.Nat.{_+_, _*_, _%_, _^_, _≤_, _<_};
+ghost use lib.ListN.{length};
+ghost use Rattle.body.specs.Lent.{Slots};
+ghost use Rattle.format.specs.Writing.{rowsIn};
+ghost use Rattle.holding.specs.Held.{satellitesIn, slotSatellites};
+ghost use Rattle.writer.specs.Marking.{hasRow, toldAfter, Tells, marksWord};
+use body::FIRST;
+use holding::set_places;
+
+// How far a selection is told: where the next row stands, the bit of the next satellite, and the bits of those that have
+// a row.
+pub struct Told {
+    pub at: usize,
+    pub next: u64,
+    pub word: u64,
+}
+
+// How many numbers a row has.
+const ROW: usize = 8;
+
+// Whether the row at a place, if one is left, is this satellite's.
+fn has_row(rows: &[i32], at: usize, system: u8, number: usize) -> bool
+    requires { ⌜ (at % 8 ≡ 0) × (length (now rows) % 8 ≡ 0) × (number < 2 ^ 31) ⌝ }
+    ensures { λ r. ⌜ r ≡ hasRow (now (rows .entry)) at (record { system = system; number = number }) ⌝ }
+{
+    if at >= rows.len() {
+        return false;
+    }
+    if rows[at] != system as i32 {
+        return false;
+    }
+    rows[at + 1] == number as i32
+}
+
+// The satellites of one system, whose mask begins at the highest of 64 bits.
+fn slot(id: u8, mask: u64, rows: &[i32], told: Told) -> Told
+    requires { ⌜ Tells (now rows) told ⌝ }
+    ensures { λ r. ⌜ r ≡ toldAfter (now (rows .entry)) (satellitesIn 64 id mask) told ⌝ }
+{
+    let mut left = mask;
+    let mut at = told.at;
+    let mut next = told.next;
+    let mut word = told.word;
+    while left > 0 {
+        if has_row(rows, at, id, set_places::first(left) + 1) {
+            word += next;
+            at += ROW;
+        }
+        next = next >> 1;
+        left = set_places::rest(left);
+    }
+    Told { at, next, word }
+}
+
+// Which satellites have a row, the rows standing in their order: the first satellite's bit is the highest of 64.
+pub fn marked(ids: &[u8], masks: &[u64], rows: &[i32], count: usize) -> u64
+    requires { ⌜ Slots (now ids) (now masks) × (length (slotSatellites (now ids) (now masks)) ≤ 64) × (8 * count ≤ length (now rows)) ⌝ }
+    ensures { λ r. ⌜ r ≡ marksWord (slotSatellites (now (ids .entry)) (now (masks .entry))) (rowsIn count (now (rows .entry))) ⌝ }
+{
+    let end = ROW * count;
+    let counted = &rows[..end];
+    let mut told = Told {
+        at: 0,
+        next: FIRST,
+        word: 0,
+    };
+    let mut i = 0;
+    while i < ids.len() {
+        told = slot(ids[i], masks[i] << 24, counted, told);
+        i += 1;
+    }
+    told.word
+}
