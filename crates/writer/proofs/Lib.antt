@@ -6,3 +6,4 @@ pub mod FitMessages
 pub mod Pens
 pub mod Marking
 pub mod MarkWords
+pub mod MarkFields

@@ -6,11 +6,12 @@ use native.Mathlib.Decide.{decLt}
 use native.Mathlib.Nat.{add-mul, mul-assoc, pow-suc, suc-add}
 use borrow.Author.Tests.{lt-ltb, le-ltb}
 use lib.ListN.{replicate, length-replicate, length-drop}
-use lib.Pow.{pow-add}
+use lib.Pow.{pow-add, shl-shr}
 use lib.Seq.{drop-cons, drop-drop, take-take, take-add, take-at, drop-at, length-take-le}
-use Rattle.bits.proofs.BitLists.{number-append}
-use Rattle.bits.specs.BitLists.{digit, number}
-use Rattle.format.specs.Masks.{Satellite}
+use Rattle.bits.proofs.BitLists.{number-append, spell-number}
+use Rattle.bits.specs.BitLists.{digit, number, spell}
+use Rattle.format.proofs.Picks.{pick-front}
+use Rattle.format.specs.Masks.{Satellite, pick}
 use Rattle.format.specs.Same.{sameList, sameℤ}
 use Rattle.format.specs.Spelling.{marks}
 use Rattle.format.specs.Writing.{rowsIn}
@@ -158,3 +159,21 @@ rows-counted (suc n) numbers room =
     ∙ ap (λ (l : List ℤ). l ∷ rowsIn n (drop 8 (take 8 numbers ++ take (8 * n) (drop 8 numbers)))) (take-at (take 8 numbers) _ 8 first)
     ∙ ap (λ (l : List ℤ). take 8 numbers ∷ rowsIn n l) (drop-at (take 8 numbers) _ 8 first)
     ∙ ap (λ (ls : List (List ℤ)). take 8 numbers ∷ ls) (rows-counted n (drop 8 numbers) (omega (arith, length-drop 8 numbers)))
+
+-- ---- what it picks, and its first bits
+
+module _ (sats : List Satellite) (rows : List (List ℤ)) where
+  marks-spelled : spell (length sats) (number (marks sats rows)) ≡ marks sats rows
+  marks-spelled = ap (λ (n : ℕ). spell n (number (marks sats rows))) (sym (marks-count sats rows)) ∙ spell-number (marks sats rows)
+
+  pub word-picks : length sats ≤ 64 → pick (spell 64 (marksWord sats rows)) sats ≡ pick (marks sats rows) sats
+  word-picks few =
+      ap (λ (n : ℕ). pick (spell 64 n) sats) (word-number sats rows)
+      ∙ pick-front (length sats) (number (marks sats rows)) sats few
+      ∙ ap (λ (l : List Bool). pick l sats) marks-spelled
+
+  pub word-top : spell (length sats) (marksWord sats rows / 2 ^ (64 - length sats)) ≡ marks sats rows
+  word-top =
+      ap (λ (n : ℕ). spell (length sats) (n / 2 ^ (64 - length sats))) (word-number sats rows)
+      ∙ ap (spell (length sats)) (shl-shr (number (marks sats rows)) (64 - length sats))
+      ∙ marks-spelled

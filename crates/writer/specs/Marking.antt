@@ -2,7 +2,7 @@
 use mathlib.Core.Path.{_≡_}
 use mathlib.Core.Bool.{Bool, true, false, _&&_}
 use mathlib.Core.List.{List, [], _∷_}
-use Prim.Native.Nat.{ℕ, _+_, _*_, _/_, _%_, _^_, _≤_, _<_}
+use Prim.Native.Nat.{ℕ, _+_, _-_, _*_, _/_, _%_, _^_, _≤_, _<_, min}
 use lib.Dec.{ltb}
 use lib.IntN.{ℤ, pos}
 use lib.ListN.{length, getD}
@@ -12,6 +12,7 @@ use Rattle.format.specs.Same.{sameℤ}
 use Rattle.format.specs.Spelling.{marks}
 use Rattle.holding.specs.Pictures.{filled}
 use Rattle.writer.specs.declared.marks.Told.{Told}
+use Rattle.writer.specs.declared.pen.Field.{Field}
 
 unfoldable pub marksWord : List Satellite → List (List ℤ) → ℕ
 marksWord sats rows = number (filled 64 false (marks sats rows))
@@ -37,3 +38,13 @@ pub record Tells (numbers : List ℤ) (t : Told) : Type 0 where
   pub place : t .at % 8 ≡ 0
   pub small : t .word < 2 ^ 64
   pub room : t .word + 2 * t .next ≤ 2 ^ 64
+
+-- ---- its bits, put out
+
+-- so many bits of half a word, from its highest on
+abbrev pub topField : ℕ → ℕ → Field
+topField half width = record { width = width; value = half / 2 ^ (32 - width) }
+
+-- the first n bits of a word, in two fields
+unfoldable pub selectionFields : ℕ → ℕ → List Field
+selectionFields chosen n = topField (chosen / 2 ^ 32) (min n 32) ∷ topField (chosen % 2 ^ 32) (n - min n 32) ∷ []

@@ -1,11 +1,15 @@
-// Sub type 11's selection, "told by which satellites have rows".
+// Sub type 11's selection, "told by which satellites have rows": as a word of 64 bits, and those bits put out.
 ghost use mathlib.Core.Path.{_≡_};
-ghost use Prim.Native.Nat.{_+_, _*_, _%_, _^_, _≤_, _<_};
+ghost use Prim.Native.Nat.{_*_, _%_, _^_, _≤_, _<_, min};
 ghost use lib.ListN.{length};
 ghost use Rattle.body.specs.Lent.{Slots};
 ghost use Rattle.format.specs.Writing.{rowsIn};
 ghost use Rattle.holding.specs.Held.{satellitesIn, slotSatellites};
-ghost use Rattle.writer.specs.Marking.{hasRow, toldAfter, Tells, marksWord};
+ghost use Rattle.writer.specs.Marking.{hasRow, toldAfter, Tells, marksWord, topField, selectionFields};
+ghost use Rattle.writer.specs.Pens.{penAfter, inkAfter, Ready};
+use crate::pen::Field;
+use crate::pen::Pen;
+use crate::pen::push;
 use body::FIRST;
 use holding::set_places;
 
@@ -72,4 +76,41 @@ pub fn marked(ids: &[u8], masks: &[u64], rows: &[i32], count: usize) -> u64
         i += 1;
     }
     told.word
+}
+
+// How many bits half a word has, and the numbers that they spell.
+const HALF: usize = 32;
+
+const HALVES: u64 = 0x1_0000_0000;
+
+// How many of a word's first n bits its first half has.
+fn in_first(n: usize) -> usize
+    ensures { λ r. ⌜ r ≡ min n 32 ⌝ }
+{
+    if n < HALF {
+        return n;
+    }
+    HALF
+}
+
+// So many bits of half a word, from its highest on.
+fn top(half: u64, width: usize) -> Field
+    requires { ⌜ width ≤ 32 ⌝ }
+    ensures { λ r. ⌜ r ≡ topField half width ⌝ }
+{
+    Field {
+        width,
+        value: half >> (HALF - width),
+    }
+}
+
+// The selection's bits: those of the first n satellites, in two fields.
+pub fn select(bytes: &mut [u8], pen: Pen, chosen: u64, n: usize) -> Pen
+    requires { ⌜ (n ≤ 64) × Ready pen (selectionFields chosen n) (now bytes) ⌝ }
+    ensures { λ r. ⌜ r ≡ penAfter pen (selectionFields chosen n) ⌝ }
+    ensures { λ _. ⌜ now (bytes .exit) ≡ inkAfter pen (selectionFields chosen n) (now (bytes .entry)) ⌝ }
+{
+    let first = in_first(n);
+    let ahead = push(bytes, pen, top(chosen / HALVES, first));
+    push(bytes, ahead, top(chosen % HALVES, n - first))
 }
