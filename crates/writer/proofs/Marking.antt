@@ -39,14 +39,10 @@ pub telling-start : {numbers : List ℤ} {t : Told} (sats : List Satellite) → 
 telling-start sats k = record { tells = k; same = refl }
 
 module _ {numbers : List ℤ} {all : Told} {left : List Satellite} {t : Told} (g : Telling numbers all left t) where
-  -- one satellite, which has a row or none
-  pub telling-next : (s : Satellite) (ss : List Satellite) → left ≡ s ∷ ss → (b : Bool) → hasRow numbers (t .at) s ≡ b → Telling numbers all ss (toldBy b t)
+  -- one satellite
+  pub telling-next : (s : Satellite) (ss : List Satellite) → left ≡ s ∷ ss → Telling numbers all ss (toldBy (hasRow numbers (t .at) s) t)
   unfolding toldAfter
-  telling-next s ss e b tested =
-      record {
-        tells = tells-next b (g .tells);
-        same = ap (λ (x : Bool). toldAfter numbers ss (toldBy x t)) (sym tested) ∙ ap (λ (l : List Satellite). toldAfter numbers l t) (sym e) ∙ g .same;
-      }
+  telling-next s ss e = record { tells = tells-next (hasRow numbers (t .at) s) (g .tells); same = ap (λ (l : List Satellite). toldAfter numbers l t) (sym e) ∙ g .same }
 
   -- none is left
   pub telling-end : left ≡ [] → t ≡ all

@@ -5,7 +5,7 @@ ghost use lib.ListN.{length};
 ghost use Rattle.body.specs.Lent.{Slots};
 ghost use Rattle.format.specs.Writing.{rowsIn};
 ghost use Rattle.holding.specs.Held.{satellitesIn, slotSatellites};
-ghost use Rattle.writer.specs.Marking.{hasRow, toldAfter, Tells, marksWord, topField, selectionFields};
+ghost use Rattle.writer.specs.Marking.{hasRow, toldBy, toldAfter, Tells, marksWord, topField, selectionFields};
 ghost use Rattle.writer.specs.Pens.{penAfter, inkAfter, Ready};
 use crate::pen::Field;
 use crate::pen::Pen;
@@ -13,8 +13,8 @@ use crate::pen::push;
 use body::FIRST;
 use holding::set_places;
 
-// How far a selection is told: where the next row stands, the bit of the next satellite, and the bits of those that have
-// a row.
+// How far a selection is told: where the next row stands, the bit of the next satellite, and the bits of those before it
+// that have a row.
 pub struct Told {
     pub at: usize,
     pub next: u64,
@@ -38,24 +38,39 @@ fn has_row(rows: &[i32], at: usize, system: u8, number: usize) -> bool
     rows[at + 1] == number as i32
 }
 
+// One satellite more.
+fn satellite(rows: &[i32], told: Told, system: u8, number: usize) -> Told
+    requires { ⌜ Tells (now rows) told × (number < 2 ^ 31) ⌝ }
+    ensures { λ r. ⌜ r ≡ toldBy (hasRow (now (rows .entry)) (told .at) (record { system = system; number = number })) told ⌝ }
+{
+    let at = told.at;
+    let next = told.next >> 1;
+    if !has_row(rows, at, system, number) {
+        return Told {
+            at,
+            next,
+            word: told.word,
+        };
+    }
+    Told {
+        at: at + ROW,
+        next,
+        word: told.word + told.next,
+    }
+}
+
 // The satellites of one system, whose mask begins at the highest of 64 bits.
 fn slot(id: u8, mask: u64, rows: &[i32], told: Told) -> Told
     requires { ⌜ Tells (now rows) told ⌝ }
     ensures { λ r. ⌜ r ≡ toldAfter (now (rows .entry)) (satellitesIn 64 id mask) told ⌝ }
 {
     let mut left = mask;
-    let mut at = told.at;
-    let mut next = told.next;
-    let mut word = told.word;
+    let mut on = told;
     while left > 0 {
-        if has_row(rows, at, id, set_places::first(left) + 1) {
-            word += next;
-            at += ROW;
-        }
-        next = next >> 1;
+        on = satellite(rows, on, id, set_places::first(left) + 1);
         left = set_places::rest(left);
     }
-    Told { at, next, word }
+    on
 }
 
 // Which satellites have a row, the rows standing in their order: the first satellite's bit is the highest of 64.
