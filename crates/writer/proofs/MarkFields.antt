@@ -13,7 +13,7 @@ use Rattle.writer.specs.declared.pen.Field.{Field}
 use Rattle.writer.specs.declared.pen.Pen.{Pen}
 use Rattle.writer.specs.Marking.{marksWord, topField, selectionFields}
 use Rattle.writer.specs.Pens.{pushed, inkedBy, penAfter, inkAfter, spellFields, Fine, Fines, none, more, Ready}
-use Rattle.writer.proofs.MarkWords.{word-top}
+use Rattle.writer.proofs.MarkWords.{word-small, word-top}
 use Rattle.writer.proofs.Pens.{ready-next, ready-first}
 
 -- ---- they are numbers of so many bits
@@ -74,6 +74,9 @@ selection-spelled chosen n few = go (decLe n 32)
 
 pub selection-marks : (sats : List Satellite) (rows : List (List ℤ)) → length sats ≤ 64 → spellFields (selectionFields (marksWord sats rows) (length sats)) ≡ marks sats rows
 selection-marks sats rows few = selection-spelled (marksWord sats rows) (length sats) few ∙ word-top sats rows
+
+pub marks-fines : (sats : List Satellite) (rows : List (List ℤ)) → length sats ≤ 64 → Fines (selectionFields (marksWord sats rows) (length sats))
+marks-fines sats rows few = selection-fines (marksWord sats rows) (length sats) (word-small sats rows few) few
 
 -- ---- two fields are pushed, one after the other
 

@@ -1,14 +1,14 @@
 -- The marks of satellites that have rows, as a word of 64 bits: what code tells satellite by satellite is that word, and its first bits are the marks.
 -- Assumes nothing.
-use Rattle.bits.proofs.Words.{_≡_, refl, sym, ap, _∙_, Bool, true, false, cond, List, [], _∷_, _++_, ℕ, zero, suc, _+_, _-_, _*_, _/_, _%_, _^_, _≤_, _<_, add-one, arith, length, getD, take, drop, ℤ, pos}
+use Rattle.bits.proofs.Words.{_≡_, refl, sym, ap, subst, _∙_, Bool, true, false, cond, List, [], _∷_, _++_, ℕ, zero, suc, _+_, _-_, _*_, _/_, _%_, _^_, _≤_, _<_, add-one, arith, length, getD, take, drop, ℤ, pos}
 use mathlib.Core.Bool.{and-true}
 use native.Mathlib.Decide.{decLt}
 use native.Mathlib.Nat.{add-mul, mul-assoc, pow-suc, suc-add}
 use borrow.Author.Tests.{lt-ltb, le-ltb}
-use lib.ListN.{replicate, length-replicate, length-drop}
+use lib.ListN.{replicate, length-append, length-replicate, length-drop}
 use lib.Pow.{pow-add, shl-shr}
 use lib.Seq.{drop-cons, drop-drop, take-take, take-add, take-at, drop-at, length-take-le}
-use Rattle.bits.proofs.BitLists.{number-append, spell-number}
+use Rattle.bits.proofs.BitLists.{number-lt, number-append, spell-number}
 use Rattle.bits.specs.BitLists.{digit, number, spell}
 use Rattle.format.proofs.Picks.{pick-front}
 use Rattle.format.specs.Masks.{Satellite, pick}
@@ -134,6 +134,14 @@ word-number sats rows =
     let more : ℕ = 64 - length l in
     number-append l (replicate more false)
     ∙ rw (zeros more, length-replicate more false, marks-count sats rows) (omega arith)
+
+pub word-small : (sats : List Satellite) (rows : List (List ℤ)) → length sats ≤ 64 → marksWord sats rows < 2 ^ 64
+unfolding marksWord filled
+word-small sats rows few =
+    let l : List Bool = marks sats rows in
+    let more : List Bool = replicate (64 - length l) false in
+    let long : length (l ++ more) ≡ 64 = omega (arith, length-append l more, length-replicate (64 - length l) false, marks-count sats rows) in
+    subst (λ (n : ℕ). number (l ++ more) < 2 ^ n) long (number-lt (l ++ more))
 
 -- all of it, from the first satellite's bit on
 pub told-word : (numbers : List ℤ) (sats : List Satellite) (count : ℕ) → length sats ≤ 64 → length numbers ≡ 8 * count

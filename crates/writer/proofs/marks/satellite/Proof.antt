@@ -1,5 +1,5 @@
 -- `writer::marks::satellite` meets its contract. Assumes nothing.
-use Rattle.bits.proofs.Words.{_≡_, sym, ap, _∙_, Bool, true, false, arith, needs}
+use Rattle.bits.proofs.Words.{_≡_, sym, ap, _∙_, Bool, true, false, _+_, _^_, _<_, arith, needs}
 use borrow.Author.Tests.{not-true, not-false}
 use Rattle.format.specs.Masks.{Satellite}
 use Rattle.writer.specs.Marking.{hasRow, toldBy}
@@ -17,17 +17,17 @@ module _ (c : tie.After-has-row) where
   told : (b : Bool) → c .has-row .result ≡ b → toldBy b (start .args .told) ≡ toldBy (hasRow (start .args .rows .now) (start .args .told .at) sat) (start .args .told)
   told b e = ap (λ (x : Bool). toldBy x (start .args .told)) (sym e ∙ c .has-row .ensures)
 
+  -- a row that is left has room
+  room : c .has-row .result ≡ true → start .args .told .at + 8 < 2 ^ 64
+  room there =
+      omega (arith, row-left (start .args .rows .now) (start .args .told .at) sat (sym (c .has-row .ensures) ∙ there), start .pre .0 .whole, start .pre .0 .place)
+
 returns : tie.Need-returns
 returns c = told (c .before) false (not-true _ (c .if1 .taken))
-
-add-t9 : tie.Need-add-t9
-add-t9 c =
-    let h = c .before in
-    let s = start h in
-    omega (arith, row-left (s .args .rows .now) (s .args .told .at) (sat h) (sym (h .has-row .ensures) ∙ not-false _ (c .if1 .left)), s .pre .0 .whole, s .pre .0 .place)
 
 returns-2 : tie.Need-returns-2
 returns-2 c = told (c .before .before) true (not-false _ (c .before .if1 .left))
 
 pub satellite-spec : {M : Type 1} → statement M
-satellite-spec = tie.close (tie.spec (λ c κs. search needs) returns add-t9 (λ c. search needs) returns-2)
+satellite-spec =
+    tie.close (tie.spec (λ c κs. search needs) returns (λ c. record { fits = room (c .before) (not-false _ (c .if1 .left)) }) (λ c. search needs) returns-2)
