@@ -7,3 +7,7 @@ pub mod Pens
 pub mod Marking
 pub mod MarkWords
 pub mod MarkFields
+pub mod Numbers
+pub mod Gathered
+pub mod Fronts
+pub mod Plans

@@ -1,0 +1,34 @@
+-- `writer::plan::flagged` meets its contract. Assumes nothing.
+use Rattle.bits.proofs.Words.{_≡_, _+_, _*_, needs}
+use Rattle.format.specs.Rows.{absent}
+use Rattle.format.specs.Same.{sameℤ}
+use mathlib.Core.Bool.{cond}
+use Prim.Native.Nat.{ℕ}
+use lib.IntN.{ℤ}
+use Rattle.table.specs.declared.Keys.the-variants.{Satellites}
+use Rattle.writer.specs.Numbers.{wordOf}
+use Rattle.writer.specs.Plans.{flaggedPlan}
+use Rattle.writer.proofs.Numbers.{of-struct}
+use Rattle.writer.proofs.plan.flagged.Statement.{statement}
+use Rattle.writer.proofs.plan.flagged.Tie as tie
+
+returns : tie.Need-returns
+unfolding flaggedPlan
+returns c =
+    let w2 = c .before .before .before in
+    let w1 = w2 .before .before in
+    let x = w1 .before .before .args in
+    let a : w1 .word .result ≡ wordOf (x .head .a) = of-struct wordOf _ (w1 .before .struct-told .given .1 .1 .1 .1 .1 .0 .1) (w1 .word .ensures .0) in
+    let b : w2 .word2 .result ≡ wordOf (x .head .b) = of-struct wordOf _ (w2 .before .struct-told2 .given .1 .1 .1 .1 .1 .1 .0 .1) (w2 .word2 .ensures .0) in
+    let marked = of-struct (λ (z : ℤ). cond {A = ℕ} (sameℤ z absent) 0 (x .n)) _ (c .before .struct-told3 .given .1 .1 .1 .1 .1 .1 .1 .0 .1) (c .marks-of .ensures) in
+    λ i. record {
+      pen = c .before .before .flagged .ensures i;
+      marked = marked i;
+      chosen = x .chosen;
+      body = record { keys = Satellites (x .chosen); shape = x .shape + (a i * 2 + b i) };
+    }
+
+pub flagged-spec : {M : Type 1} → statement M
+flagged-spec =
+    tie.close
+    (tie.spec (λ c κs. search needs) (λ c. search needs) (λ c κs. search needs) (λ c. search needs) (λ c κs. search needs) (λ c κs. search needs) (λ c. search needs) returns)

@@ -1,0 +1,171 @@
+// What is planned of a message with rows before the first bit is set, as far as its head goes.
+ghost use mathlib.Core.Path.{_≡_};
+ghost use mathlib.Core.Bool.{true, cond};
+ghost use Prim.Native.Nat.{_≤_};
+ghost use Rattle.format.specs.Rows.{absent};
+ghost use Rattle.format.specs.Same.{sameℤ};
+ghost use Rattle.writer.specs.FitHeads.{networkFits};
+ghost use Rattle.writer.specs.Plans.{aloneHead, alonePlan, flaggedHead, flaggedPlan, packetBare, packetHead, packetPlan};
+use crate::front;
+use crate::number::fits;
+use crate::number::is;
+use crate::number::is_absent;
+use crate::number::word;
+use crate::pen::Pen;
+use format::Head;
+use rows::shapes;
+use table::ALL;
+use table::Body;
+use table::Keys;
+use table::Layout;
+
+// What stands before selection and body is gathered in the pen; the selection of a network has a bit for each of so
+// many satellites, none without one; then the body.
+pub struct Plan {
+    pub pen: Pen,
+    pub marked: usize,
+    pub chosen: u64,
+    pub body: Body,
+}
+
+// How many bits these have in a head: a flag, a network, a packet's counter and data size.
+const FLAG: usize = 1;
+
+const NETWORK: usize = 5;
+
+const COUNTER: usize = 3;
+
+const SIZE: usize = 2;
+
+// Rows alone after the common head: whether its numbers fit.
+pub fn alone_fits(head: Head) -> bool
+    ensures { λ r. ⌜ r ≡ aloneHead head ⌝ }
+{
+    if !front::common_fits(head, front::EPOCH) {
+        return false;
+    }
+    if !is_absent(head.a) {
+        return false;
+    }
+    if !is_absent(head.b) {
+        return false;
+    }
+    is_absent(head.c)
+}
+
+// Their plan.
+pub fn alone(head: Head, layout: Layout, start: usize) -> Plan
+    ensures { λ r. ⌜ r ≡ alonePlan head layout start ⌝ }
+{
+    Plan {
+        pen: front::common(head, start),
+        marked: 0,
+        chosen: ALL,
+        body: Body {
+            keys: table::over(layout.cells, ALL),
+            shape: layout.shape,
+        },
+    }
+}
+
+// Whether there is no network, or one from 1 to 31.
+fn network_fits(network: i32) -> bool
+    ensures { λ r. ⌜ r ≡ networkFits network ⌝ }
+{
+    if is_absent(network) {
+        return true;
+    }
+    if is(network, 0) {
+        return false;
+    }
+    fits(network, NETWORK)
+}
+
+// Behind flags: whether the head's numbers fit.
+pub fn flagged_fits(head: Head) -> bool
+    ensures { λ r. ⌜ r ≡ flaggedHead head ⌝ }
+{
+    if !front::common_fits(head, front::EPOCH) {
+        return false;
+    }
+    if !fits(head.a, FLAG) {
+        return false;
+    }
+    if !fits(head.b, FLAG) {
+        return false;
+    }
+    network_fits(head.c)
+}
+
+// How many bits a selection has: one for each of n satellites, none without a network.
+fn marks_of(network: i32, n: usize) -> usize
+    ensures { λ r. ⌜ r ≡ cond (sameℤ network absent) 0 n ⌝ }
+{
+    if is_absent(network) { 0 } else { n }
+}
+
+// Their plan, the first of four shapes being for neither flag.
+pub fn flagged(head: Head, shape: usize, start: usize, chosen: u64, n: usize) -> Plan
+    requires { ⌜ (flaggedHead head ≡ true) × (shape ≤ 255) ⌝ }
+    ensures { λ r. ⌜ r ≡ flaggedPlan head shape start chosen n ⌝ }
+{
+    let flags = word(head.a) * 2 + word(head.b);
+    Plan {
+        pen: front::flagged(head, start),
+        marked: marks_of(head.c, n),
+        chosen,
+        body: Body {
+            keys: Keys::Satellites(chosen),
+            shape: shape + (flags as usize),
+        },
+    }
+}
+
+// What a packet's part does not have.
+fn packet_bare(head: Head) -> bool
+    ensures { λ r. ⌜ r ≡ packetBare head ⌝ }
+{
+    if !is_absent(head.epoch) {
+        return false;
+    }
+    if !is_absent(head.interval) {
+        return false;
+    }
+    if !is_absent(head.iod) {
+        return false;
+    }
+    is_absent(head.c)
+}
+
+// A packet's part: whether the head's numbers fit.
+pub fn packet_fits(head: Head) -> bool
+    ensures { λ r. ⌜ r ≡ packetHead head ⌝ }
+{
+    if !packet_bare(head) {
+        return false;
+    }
+    if !fits(head.indicator, front::INDICATOR) {
+        return false;
+    }
+    if !fits(head.a, COUNTER) {
+        return false;
+    }
+    fits(head.b, SIZE)
+}
+
+// Its plan: a row more than the data size says.
+pub fn packet(head: Head, start: usize) -> Plan
+    requires { ⌜ packetHead head ≡ true ⌝ }
+    ensures { λ r. ⌜ r ≡ packetPlan head start ⌝ }
+{
+    let parts = (word(head.b) as usize) + 1;
+    Plan {
+        pen: front::packet(head, start),
+        marked: 0,
+        chosen: ALL,
+        body: Body {
+            keys: Keys::Parts(parts),
+            shape: shapes::PACKET,
+        },
+    }
+}
