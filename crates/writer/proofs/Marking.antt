@@ -1,23 +1,10 @@
--- The selection of sub type 11: satellite by satellite it comes to the word of its marks, and the word's first bits are the marks. Assumes nothing.
-use Rattle.bits.proofs.Words.{_≡_, refl, sym, ap, _∙_, Bool, true, false, List, [], _∷_, _++_, ℕ, suc, _-_, _^_, _<_, arith, eqb, ltb, length, ℤ, pos}
-use borrow.Author.Tests.{ltb-true, ne-eqb}
-use lib.IntN.{negsuc}
-use lib.Signed.{mag}
-use mir.Syntax.{w32}
-use mir.Val.{ofZ}
+-- A selection told satellite by satellite: what the loops over slots and their satellites keep. Assumes nothing.
+use Rattle.bits.proofs.Words.{_≡_, refl, sym, ap, _∙_, Bool, true, false, List, [], _∷_, _++_, ℕ, _<_, arith, ltb, length, ℤ}
+use borrow.Author.Tests.{ltb-true}
 use Rattle.format.proofs.Sames.{and-true}
 use Rattle.format.specs.Masks.{Satellite}
-use Rattle.format.specs.Same.{sameℤ}
 use Rattle.writer.specs.declared.marks.Told.{Told}
 use Rattle.writer.specs.Marking.{hasRow, toldBy, toldAfter, Tells}
-
--- ---- a key as the code compares it
-
--- by the bits
-pub same-key : (v : ℤ) (n : ℕ) → mag v < 2 ^ 31 → n < 2 ^ 31 → sameℤ v (pos n) ≡ eqb (ofZ w32 v) n
-unfolding sameℤ
-same-key (pos m) n small low = refl
-same-key (negsuc m) n small low = sym (ne-eqb (2 ^ 32 - suc m) n (λ e. omega arith))
 
 -- ---- a loop over satellites
 

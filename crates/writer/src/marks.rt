@@ -1,12 +1,13 @@
 // Sub type 11's selection, "told by which satellites have rows": as a word of 64 bits, and those bits put out.
 ghost use mathlib.Core.Path.{_≡_};
-ghost use Prim.Native.Nat.{_*_, _%_, _^_, _≤_, _<_, min};
+ghost use Prim.Native.Nat.{_*_, _%_, _≤_, min};
 ghost use lib.ListN.{length};
 ghost use Rattle.body.specs.Lent.{Slots};
 ghost use Rattle.format.specs.Writing.{rowsIn};
 ghost use Rattle.holding.specs.Held.{satellitesIn, slotSatellites};
 ghost use Rattle.writer.specs.Marking.{hasRow, toldBy, toldAfter, Tells, marksWord, topField, selectionFields};
 ghost use Rattle.writer.specs.Pens.{penAfter, inkAfter, Ready};
+use crate::number::is;
 use crate::pen::Field;
 use crate::pen::Pen;
 use crate::pen::push;
@@ -24,23 +25,26 @@ pub struct Told {
 // How many numbers a row has.
 const ROW: usize = 8;
 
+// How far a mask of 40 bits is moved up, to begin at the highest of 64.
+const UP: usize = 24;
+
 // Whether the row at a place, if one is left, is this satellite's.
 fn has_row(rows: &[i32], at: usize, system: u8, number: usize) -> bool
-    requires { ⌜ (at % 8 ≡ 0) × (length (now rows) % 8 ≡ 0) × (number < 2 ^ 31) ⌝ }
+    requires { ⌜ (at % 8 ≡ 0) × (length (now rows) % 8 ≡ 0) × (number ≤ 255) ⌝ }
     ensures { λ r. ⌜ r ≡ hasRow (now (rows .entry)) at (record { system = system; number = number }) ⌝ }
 {
     if at >= rows.len() {
         return false;
     }
-    if rows[at] != system as i32 {
+    if !is(rows[at], system as u64) {
         return false;
     }
-    rows[at + 1] == number as i32
+    is(rows[at + 1], number as u64)
 }
 
 // One satellite more.
 fn satellite(rows: &[i32], told: Told, system: u8, number: usize) -> Told
-    requires { ⌜ Tells (now rows) told × (number < 2 ^ 31) ⌝ }
+    requires { ⌜ Tells (now rows) told × (number ≤ 255) ⌝ }
     ensures { λ r. ⌜ r ≡ toldBy (hasRow (now (rows .entry)) (told .at) (record { system = system; number = number })) told ⌝ }
 {
     let at = told.at;
@@ -87,15 +91,16 @@ pub fn marked(ids: &[u8], masks: &[u64], rows: &[i32], count: usize) -> u64
     };
     let mut i = 0;
     while i < ids.len() {
-        told = slot(ids[i], masks[i] << 24, counted, told);
+        told = slot(ids[i], masks[i] << UP, counted, told);
         i += 1;
     }
     told.word
 }
 
-// How many bits half a word has, and the numbers that they spell.
+// How many bits half a word has.
 const HALF: usize = 32;
 
+// And how many numbers they spell.
 const HALVES: u64 = 0x1_0000_0000;
 
 // How many of a word's first n bits its first half has.

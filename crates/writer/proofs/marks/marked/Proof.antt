@@ -52,4 +52,4 @@ pub marked-spec : {M : Type 1} → statement M
 marked-spec =
     tie.close
     (tie.spec Inv-loop μ-loop (λ c. omega arith) (λ c. sym (long (c .before .before .before))) loop-holds (λ c. search needs) (λ c. search needs)
-    (λ c. slot (c .before .before) .inside) (λ c κs. c .before .before .before .loop .inv .tells) (λ c. omega arith) (λ c. omega arith) loop-again returns)
+    (λ c. slot (c .before .before) .inside) (λ c. search needs) (λ c κs. c .before .before .before .loop .inv .tells) (λ c. omega arith) (λ c. omega arith) loop-again returns)

@@ -1,5 +1,5 @@
 -- `writer::marks::slot` meets its contract. The loop's invariant: the satellites that are left come to the same from here. Assumes nothing.
-use Rattle.bits.proofs.Words.{_≡_, refl, ℕ, suc, _+_, _-_, _^_, _<_, arith, needs}
+use Rattle.bits.proofs.Words.{_≡_, refl, ℕ, suc, _+_, _-_, _^_, _≤_, _<_, arith, needs}
 use lib.Count.{leadingZeros}
 use Rattle.body.proofs.Slots.{Next, next, next-in, none-in}
 use Rattle.holding.specs.Held.{satellitesIn}
@@ -19,7 +19,7 @@ module _ (c : tie.In-loop Inv-loop μ-loop) (rest : ℕ) (e : rest ≡ c .before
   fewer = next (c .before .loop .left) rest (c .loop-test .taken) (c .before .loop .inv .0) e
 
 -- its number is small
-near : (c : tie.After-first Inv-loop μ-loop) → c .first .result + 1 < 2 ^ 31
+near : (c : tie.After-first Inv-loop μ-loop) → c .first .result + 1 ≤ 255
 near c = omega (arith, fewer (c .before) _ refl .inside, c .first .ensures)
 
 loop-again : tie.Need-loop-again Inv-loop μ-loop
