@@ -20,7 +20,7 @@ kindsBy n [] = []
 kindsBy n (k ∷ ks) = kindBy n k ∷ kindsBy (suc n) ks
 
 -- the four shapes by two flags
-combined-shapes : shapesFrom 0 ≡ combinedShape
+pub combined-shapes : shapesFrom 0 ≡ combinedShape
 unfolding shapesFrom shapeAt listed shapes
 combined-shapes = λ i a b. each a b i
   where

@@ -11,3 +11,6 @@ pub mod Numbers
 pub mod Gathered
 pub mod Fronts
 pub mod Plans
+pub mod SubTypes
+pub mod Order
+pub mod FrontBits

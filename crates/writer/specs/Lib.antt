@@ -5,3 +5,5 @@ pub mod Marking
 pub mod Numbers
 pub mod Fronts
 pub mod Plans
+pub mod Kinds
+pub mod Stages

@@ -1,6 +1,15 @@
 // The writer of one message (document 01, "Writer").
 pub mod front;
+pub mod gate;
 pub mod marks;
 pub mod number;
 pub mod pen;
 pub mod plan;
+
+use format::Refusal;
+
+// How writing ends: done, with the place after the message, or refused.
+pub enum Writing {
+    Done(usize),
+    Refused(Refusal),
+}

@@ -1,26 +1,24 @@
 -- `heads::heading::gated` meets its contract. Assumes nothing.
-use Rattle.bits.proofs.Words.{_≡_, sym, subst, Bool, true, false, cond, ℕ, _-_, _^_, arith, needs}
+use Rattle.bits.proofs.Words.{_≡_, sym, subst, true, false, ℕ, arith, needs}
 use borrow.Author.Tests.{eq-eqb, ne-eqb, not-true, not-false}
 use Rattle.format.specs.Masks.{Sky}
 use Rattle.format.specs.Messages as Messages
-use Rattle.format.specs.Messages.{rowsAlone, flagged, overSatellites, overCells}
+use Rattle.format.specs.Messages.{rowsAlone, flagged}
 use Rattle.format.proofs.Ends.{done-end}
 use Rattle.format.specs.Ends.{endFrom}
 use Rattle.format.specs.Programs.{_>>=_, _>>_, require, later, run}
 use Rattle.heads.specs.declared.CommonHead.{CommonHead}
 use Rattle.heads.specs.declared.heading.Under.{Under}
 use Rattle.heads.specs.Heads.{commonOf}
-use Rattle.heads.specs.Headings.{headWith, Shows, saidBy, FitsHeading, HasBody, Bodied, maskedBody, gateBy, gatedBy}
-use Rattle.format.proofs.Picks.{pick-all}
+use Rattle.heads.specs.Headings.{headWith, saidBy, FitsHeading, HasBody, Bodied, maskedBody, gateBy, gatedBy}
 use Rattle.heads.proofs.heading.gated.Statement.{statement}
 use Rattle.heads.proofs.heading.gated.Tie as tie
-use Rattle.holding.specs.Held.{View, skyIn}
-use Rattle.rows.specs.Table.{shapeAt}
-use Rattle.table.specs.declared.Keys.the-variants.{Satellites, Cells}
+use Rattle.holding.specs.Held.{skyIn}
 use Rattle.table.specs.declared.Body.{Body}
 use Rattle.table.specs.declared.Layout.{Layout}
-use Rattle.table.specs.Bodies.{linesIn, linesOver}
-use Rattle.table.specs.Kinds.{keysFor, overBy, programBy}
+use Rattle.table.proofs.Overs.{alone-lines}
+use Rattle.table.specs.Bodies.{linesIn}
+use Rattle.table.specs.Kinds.{overBy, programBy}
 
 -- past the gate
 passed : (u : Under) (h : CommonHead) (sky : Sky) → u .held ≡ true → h .iod ≡ u .iod → gatedBy u sky (commonOf h) ≡ programBy (u .subtype) (u .layout) sky (commonOf h)
@@ -31,16 +29,6 @@ passed u h sky e same = rw (e, eq-eqb (h .iod) (u .iod) same)
 alone : (n : ℕ) (l : Layout) (sky : Sky) (h : Messages.Common) → l .flagged ≡ false → programBy n l sky h ≡ rowsAlone n (overBy l) sky h
 unfolding programBy
 alone n l sky h e = rw e
-
-alone-lines : (l : Layout) (v : View) (n : ℕ) → Shows v n → linesOver v (keysFor (l .cells) (2 ^ 64 - 1)) (l .shape) ≡ overBy l (skyIn v)
-unfolding keysFor overBy linesOver overSatellites overCells skyIn
-alone-lines l v n shows = go (l .cells)
-  where
-    go : (b : Bool)
-        → linesOver v (cond b (Cells (2 ^ 64 - 1)) (Satellites (2 ^ 64 - 1))) (l .shape)
-        ≡ cond b (overCells (shapeAt (l .shape))) (overSatellites (shapeAt (l .shape))) (skyIn v)
-    go true = rw (pick-all (v .satellites) (omega (arith, shows .count, shows .few)), pick-all (v .strips) (shows .strips))
-    go false = rw (pick-all (v .satellites) (omega (arith, shows .count, shows .few)))
 
 returns-2 : tie.Need-returns-2
 unfolding gatedBy gateBy commonOf require _>>_ _>>=_ saidBy FitsHeading HasBody endFrom run later
@@ -70,7 +58,7 @@ returns-4 c =
             alone (x .under .subtype) (x .under .layout) (skyIn v) (commonOf (x .h)) (o .before .before .if3 .left),
             o .before .head .ensures,
             o .over .ensures,
-            alone-lines (x .under .layout) v (x .under .n) shows,
+            alone-lines (x .under .layout) v (omega (arith, shows .count, shows .few)) (shows .strips),
             done-end,
           ),
       record { fits = rw (o .over .ensures) (s .pre .2 .fits _); this = rw (o .before .before .if3 .left) (λ i. record { keys = o .over .ensures i; shape = x .under .layout .shape }) },
