@@ -31,7 +31,7 @@ cell-most n k few = go (eqb n 0)
     go false = omega arith
 
 -- a satellite has a bit for each signal
-cells-most : (s : Slot) → s .signals < 2 ^ 16 → cellCount s ≤ 16 * ones (s .satellites)
+pub cells-most : (s : Slot) → s .signals < 2 ^ 16 → cellCount s ≤ 16 * ones (s .satellites)
 cells-most s narrow = go (s .flag)
   where
     go : (flag : Bool) → cond flag (ones (s .satellites) * ones (s .signals)) 0 ≤ 16 * ones (s .satellites)

@@ -25,7 +25,7 @@ use Rattle.saved.proofs.Gathers.{length-strip}
 
 -- ---- the cell mask
 
-length-cells : (signals : ℕ) → signals < 2 ^ 16 → (strips : List ℕ) → length (cellBits signals strips) ≡ length strips * ones signals
+pub length-cells : (signals : ℕ) → signals < 2 ^ 16 → (strips : List ℕ) → length (cellBits signals strips) ≡ length strips * ones signals
 unfolding flatMap
 length-cells signals small [] = omega arith
 length-cells signals small (strip ∷ strips) =
@@ -44,7 +44,7 @@ some-cells [] e = absurd (e refl)
 some-cells (b ∷ l) e = refl
 
 module _ (s : Slot) (strips : List ℕ) (low : s .satellites < 2 ^ 40) (small : s .signals < 2 ^ 16) (room : ones (s .satellites) ≤ length strips) where
-  cells-are : systemIn s strips .cells ≡ cond (s .flag) (cellBits (s .signals) (take (ones (s .satellites)) strips)) []
+  pub cells-are : systemIn s strips .cells ≡ cond (s .flag) (cellBits (s .signals) (take (ones (s .satellites)) strips)) []
   unfolding systemOf
   cells-are = rw (← (ones-places 40 (s .satellites) 0 low))
 

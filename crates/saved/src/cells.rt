@@ -15,7 +15,7 @@ use text::put;
 pub const DIGIT: usize = 4;
 
 // One satellite's part of the cell mask: the bits of its strip at the places of the signal mask.
-fn gather(signals: u16, strip: u16) -> u64
+pub fn gather(signals: u16, strip: u16) -> u64
     ensures { λ r. ⌜ r ≡ number (stripBits signals strip) ⌝ }
 {
     let mut bits: u64 = 0;

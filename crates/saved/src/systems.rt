@@ -38,7 +38,7 @@ pub fn slot_at(h: Holding, i: usize) -> Slot
 }
 
 // How many bits its cell mask has.
-fn cell_count(s: Slot) -> usize
+pub fn cell_count(s: Slot) -> usize
     ensures { λ r. ⌜ r ≡ cellCount s ⌝ }
     ensures { λ r. ⌜ r ≤ 64 * 64 ⌝ }
 {

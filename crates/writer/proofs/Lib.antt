@@ -14,3 +14,6 @@ pub mod Plans
 pub mod SubTypes
 pub mod Order
 pub mod FrontBits
+pub mod MaskFields
+pub mod MaskPens
+pub mod MaskLengths

@@ -32,7 +32,7 @@ set-part bs p w v small room new e =
 
 -- ---- one field more
 
-first-fine : {f : Field} {fs : List Field} → Fines (f ∷ fs) → Fine (f .width) (f .value)
+pub first-fine : {f : Field} {fs : List Field} → Fines (f ∷ fs) → Fine (f .width) (f .value)
 first-fine (more fine fines) = fine
 
 other-fines : {f : Field} {fs : List Field} → Fines (f ∷ fs) → Fines fs

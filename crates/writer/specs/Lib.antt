@@ -7,3 +7,4 @@ pub mod Fronts
 pub mod Plans
 pub mod Kinds
 pub mod Stages
+pub mod MaskFields

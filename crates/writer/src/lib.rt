@@ -3,6 +3,7 @@ pub mod front;
 pub mod gate;
 pub mod marks;
 pub mod number;
+pub mod mask;
 pub mod pen;
 pub mod plan;
 
