@@ -6,7 +6,7 @@ pub mod FitMessages
 pub mod Pens
 pub mod Marking
 pub mod MarkWords
-pub mod MarkFields
+pub mod SelectionFields
 pub mod Numbers
 pub mod Gathered
 pub mod Fronts

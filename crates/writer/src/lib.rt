@@ -2,8 +2,8 @@
 pub mod front;
 pub mod gate;
 pub mod marks;
-pub mod number;
 pub mod mask;
+pub mod number;
 pub mod pen;
 pub mod plan;
 

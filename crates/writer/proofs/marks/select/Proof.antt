@@ -3,7 +3,7 @@ use Rattle.bits.proofs.Words.{_≡_, ap, _∙_, ℕ, _-_, _/_, _%_, _^_, needs,
 use Prim.Native.Nat.{min}
 use Rattle.writer.specs.Marking.{topField, selectionFields}
 use Rattle.writer.specs.Pens.{inkAfter}
-use Rattle.writer.proofs.MarkFields.{first-ready, second-ready, both-put, both-inked}
+use Rattle.writer.proofs.SelectionFields.{first-ready, second-ready, both-put, both-inked}
 use Rattle.writer.proofs.Pens.{length-ink}
 use Rattle.writer.proofs.marks.select.Statement.{statement}
 use Rattle.writer.proofs.marks.select.Tie as tie
