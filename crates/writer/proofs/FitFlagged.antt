@@ -28,7 +28,7 @@ use Rattle.writer.proofs.FitRows.{rows-fit}
 -- ---- what fits is read
 
 -- a bit for each satellite
-marks-count : (sats : List Satellite) (rows : List (List ℤ)) → length (marks sats rows) ≡ length sats
+pub marks-count : (sats : List Satellite) (rows : List (List ℤ)) → length (marks sats rows) ≡ length sats
 unfolding marks
 marks-count [] rows = refl
 marks-count (s ∷ ss) [] = ap suc (marks-count ss [])

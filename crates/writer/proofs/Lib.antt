@@ -4,6 +4,9 @@ pub mod FitFlagged
 pub mod FitMasks
 pub mod FitMessages
 pub mod Pens
+pub mod Marking
+pub mod MarkWords
+pub mod SelectionFields
 pub mod Numbers
 pub mod Gathered
 pub mod Fronts

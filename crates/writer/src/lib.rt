@@ -1,6 +1,7 @@
 // The writer of one message (document 01, "Writer").
 pub mod front;
 pub mod gate;
+pub mod marks;
 pub mod mask;
 pub mod number;
 pub mod pen;
