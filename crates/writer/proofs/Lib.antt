@@ -3,3 +3,7 @@ pub mod FitHeads
 pub mod FitFlagged
 pub mod FitMasks
 pub mod FitMessages
+pub mod Matching
+pub mod ColumnTests
+pub mod RowTests
+pub mod Lines
