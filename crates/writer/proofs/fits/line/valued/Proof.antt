@@ -18,16 +18,14 @@ first : (c : tie.After-column-fits) → let s = c .before .before in c .column-f
 first c = let s = c .before .before in c .column-fits .ensures ∙ ap (columnFits (columnOf (s .args .s .v1))) (toZ-ofZ (record { sfits = c .before .column-fits-arg .given }))
 
 second : (c : tie.After-column-fits2) → let s = c .before .before .before .before .before in c .column-fits2 .result ≡ fits s (s .args .s .v2) 4
-second c = let s = c .before .before .before .before .before in c .column-fits2 .ensures ∙ ap (columnFits (columnOf (s .args .s .v2))) (toZ-ofZ (record { sfits = c .before .column-fits-arg2 .given }))
+second c =
+    let s = c .before .before .before .before .before in
+    c .column-fits2 .ensures ∙ ap (columnFits (columnOf (s .args .s .v2))) (toZ-ofZ (record { sfits = c .before .column-fits-arg2 .given }))
 
-third : (c : tie.After-column-fits3) → let s = c .before .before .before .before .before .before .before .before in c .column-fits3 .result ≡ fits s (s .args .s .v3) 5
-third c = let s = c .before .before .before .before .before .before .before .before in c .column-fits3 .ensures ∙ ap (columnFits (columnOf (s .args .s .v3))) (toZ-ofZ (record { sfits = c .before .column-fits-arg3 .given }))
-
-fourth : (c : tie.After-column-fits4) → let s = c .before .before .before .before .before .before .before .before .before .before .before in c .column-fits4 .result ≡ fits s (s .args .s .v4) 6
-fourth c = let s = c .before .before .before .before .before .before .before .before .before .before .before in c .column-fits4 .ensures ∙ ap (columnFits (columnOf (s .args .s .v4))) (toZ-ofZ (record { sfits = c .before .column-fits-arg4 .given }))
-
-fifth : (c : tie.After-column-fits5) → let s = c .before .before .before .before .before .before .before .before .before .before .before .before .before .before in c .column-fits5 .result ≡ fits s (s .args .s .v5) 7
-fifth c = let s = c .before .before .before .before .before .before .before .before .before .before .before .before .before .before in c .column-fits5 .ensures ∙ ap (columnFits (columnOf (s .args .s .v5))) (toZ-ofZ (record { sfits = c .before .column-fits-arg5 .given }))
+fifth : (c : tie.After-column-fits3) → let s = c .before .before .before .before .before .before .before .before .before .before in c .column-fits3 .result ≡ fits s (s .args .s .v5) 7
+fifth c =
+    let s = c .before .before .before .before .before .before .before .before .before .before in
+    c .column-fits3 .ensures ∙ ap (columnFits (columnOf (s .args .s .v5))) (toZ-ofZ (record { sfits = c .before .column-fits-arg3 .given }))
 
 returns : tie.Need-returns
 returns c =
@@ -42,48 +40,32 @@ returns-2 c =
 
 returns-3 : tie.Need-returns-3
 returns-3 c =
-    let f = c .before .before .before in
+    let f = c .before .before in
     let e = f .before .before .before in
     let s = e .before .before .before in
     rw (
       values-by (s .args .row .now) (s .pre .0) (s .args .s),
       sym (first (e .before)) ∙ not-false _ (e .if1 .left),
       sym (second (f .before)) ∙ not-false _ (f .if2 .left),
-      sym (third (c .before)) ∙ not-true _ (c .if3 .taken),
+      sym (c .before .middle .ensures) ∙ not-true _ (c .if3 .taken),
     )
 
 returns-4 : tie.Need-returns-4
 returns-4 c =
-    let g = c .before .before .before in
-    let f = g .before .before .before in
+    let g = c .before .before in
+    let f = g .before .before in
     let e = f .before .before .before in
     let s = e .before .before .before in
     rw (
       values-by (s .args .row .now) (s .pre .0) (s .args .s),
       sym (first (e .before)) ∙ not-false _ (e .if1 .left),
       sym (second (f .before)) ∙ not-false _ (f .if2 .left),
-      sym (third (g .before)) ∙ not-false _ (g .if3 .left),
-      sym (fourth (c .before)) ∙ not-true _ (c .if4 .taken),
-    )
-
-returns-5 : tie.Need-returns-5
-returns-5 c =
-    let h = c .before .before in
-    let g = h .before .before .before in
-    let f = g .before .before .before in
-    let e = f .before .before .before in
-    let s = e .before .before .before in
-    rw (
-      values-by (s .args .row .now) (s .pre .0) (s .args .s),
-      sym (first (e .before)) ∙ not-false _ (e .if1 .left),
-      sym (second (f .before)) ∙ not-false _ (f .if2 .left),
-      sym (third (g .before)) ∙ not-false _ (g .if3 .left),
-      sym (fourth (h .before)) ∙ not-false _ (h .if4 .left),
+      sym (g .before .middle .ensures) ∙ not-false _ (g .if3 .left),
     )
     (fifth c)
 
 pub valued-spec : {M : Type 1} → statement M
 valued-spec =
     tie.close
-    (tie.spec (λ c. search needs) (λ c κs. search needs) returns (λ c. search needs) (λ c κs. search needs) returns-2 (λ c. search needs) (λ c κs. search needs) returns-3
-    (λ c. search needs) (λ c κs. search needs) returns-4 (λ c. search needs) (λ c κs. search needs) returns-5)
+    (tie.spec (λ c. search needs) (λ c κs. search needs) returns (λ c. search needs) (λ c κs. search needs) returns-2 (λ c κs. search needs) returns-3
+    (λ c. search needs) (λ c κs. search needs) returns-4)
