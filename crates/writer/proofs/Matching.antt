@@ -19,15 +19,15 @@ use Rattle.writer.proofs.fits.Matched as Declared
 abbrev pub fitsAt : Line → List ℤ → ℕ → Bool
 fitsAt n numbers k = leb (k + 8) (length numbers) && rowFits n (take 8 (drop k numbers))
 
+-- not all fit, by the tag that code tests
+pub is-not : (far : Matched) → tagOf Declared.the-type far ≡ 0 → far ≡ Not
+is-not Not e = refl
+is-not (To k) e = absurd (omega arith)
+
 row-there : (n : Line) (numbers : List ℤ) (k : ℕ) → fitsAt n numbers k ≡ true → k + 8 ≤ length numbers
 row-there n numbers k there = leb-true (k + 8) (length numbers) (and-true (leb (k + 8) (length numbers)) _ there .0)
 
 -- ---- the lines in two parts
-
--- by the tag that code tests
-pub is-not : (far : Matched) → tagOf Declared.the-type far ≡ 0 → far ≡ Not
-is-not Not e = refl
-is-not (To k) e = absurd (omega arith)
 
 -- from where the first part ends on
 unfoldable onward : Matched → (ℕ → Matched) → Matched
