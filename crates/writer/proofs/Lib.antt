@@ -21,3 +21,7 @@ pub mod FrontBits
 pub mod MaskFields
 pub mod MaskPens
 pub mod MaskLengths
+pub mod Matching
+pub mod ColumnTests
+pub mod RowTests
+pub mod Lines

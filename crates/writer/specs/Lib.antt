@@ -8,3 +8,4 @@ pub mod Plans
 pub mod Kinds
 pub mod Stages
 pub mod MaskFields
+pub mod Matching

@@ -14,3 +14,5 @@ pub enum Writing {
     Done(usize),
     Refused(Refusal),
 }
+// Which head and rows a message can carry, told without spelling and reading it: definitions in specs/, laws in proofs/.
+pub mod fits;
