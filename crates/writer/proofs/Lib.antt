@@ -4,3 +4,5 @@ pub mod FitFlagged
 pub mod FitMasks
 pub mod FitMessages
 pub mod Pens
+pub mod ColumnBits
+pub mod RowFields

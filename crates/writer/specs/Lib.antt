@@ -1,3 +1,4 @@
 pub mod Fits
 pub mod FitHeads
 pub mod Pens
+pub mod Putting

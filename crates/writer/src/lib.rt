@@ -1,2 +1,3 @@
 // The writer of one message (document 01, "Writer").
+pub mod column;
 pub mod pen;
