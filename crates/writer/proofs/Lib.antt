@@ -6,3 +6,7 @@ pub mod FitMessages
 pub mod Pens
 pub mod ColumnBits
 pub mod RowFields
+pub mod RowBits
+pub mod FirstColumns
+pub mod RowPens
+pub mod RowLoops

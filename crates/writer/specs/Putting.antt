@@ -1,16 +1,20 @@
 -- The rows of a body as fields for a pen: two for each row, the first four of its values together and the fifth; document 01, "Message layouts".
 use mathlib.Core.Path.{_≡_}
-use mathlib.Core.Bool.{true}
+use mathlib.Core.Bool.{Bool, true, not, _&&_}
 use mathlib.Core.List.{List, [], _∷_, _++_}
-use Prim.Native.Nat.{ℕ}
+use Prim.Native.Nat.{ℕ, _+_, _*_, _≤_}
+use lib.Dec.{eqb}
 use lib.IntN.{ℤ, pos, negsuc}
-use lib.ListN.{take, drop}
+use lib.ListN.{length, take, drop}
 use Rattle.bits.specs.BitLists.{number}
 use Rattle.format.specs.Rows.{Column, Line, shapeWidth, spellValues}
+use Rattle.format.specs.Writing.{rowsIn}
 use Rattle.rows.specs.declared.shape.Shape.{Shape}
-use Rattle.rows.specs.Shapes.{columnsIn}
+use Rattle.rows.specs.Shapes.{columnsIn, FormedShape}
 use Rattle.writer.specs.declared.pen.Field.{Field}
+use Rattle.writer.specs.declared.pen.Pen.{Pen}
 use Rattle.writer.specs.Fits.{valuesFit}
+use Rattle.writer.specs.Pens.{Ready}
 
 -- ---- the fields
 
@@ -48,6 +52,24 @@ rowFields s (r ∷ rs) = fieldsOf s r ++ rowFields s rs
 pub data Fitting (s : Shape) : List (List ℤ) → Type 0 where
   none : Fitting s []
   more : {r : List ℤ} {rs : List (List ℤ)} → valuesFit (rowColumns s r) (drop 3 r) ≡ true → Fitting s rs → Fitting s (r ∷ rs)
+
+-- one row, for a pen
+pub record PutsRow (s : Shape) (row : List ℤ) (pen : Pen) (bytes : List ℕ) : Type 0 where
+  pub formed : FormedShape s
+  pub eight : length row ≡ 8
+  pub fits : valuesFit (rowColumns s row) (drop 3 row) ≡ true
+  pub ready : Ready pen (fieldsOf s row) bytes
+
+-- so many rows of a row buffer
+pub record PutsRows (s : Shape) (rows : List ℤ) (count : ℕ) (pen : Pen) (bytes : List ℕ) : Type 0 where
+  pub formed : FormedShape s
+  pub whole : 8 * count ≤ length rows
+  pub fitting : Fitting s (rowsIn count rows)
+  pub ready : Ready pen (rowFields s (rowsIn count rows)) bytes
+
+-- rows of two columns and three gaps
+unfoldable pub pairs : Shape → Bool
+pairs s = not (s .iode) && eqb (s .v3 .width + s .v4 .width + s .v5 .width) 0
 
 -- ---- lines of one shape
 
