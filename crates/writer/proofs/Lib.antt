@@ -25,3 +25,9 @@ pub mod Matching
 pub mod ColumnTests
 pub mod RowTests
 pub mod Lines
+pub mod ColumnBits
+pub mod RowFields
+pub mod RowBits
+pub mod FirstColumns
+pub mod RowPens
+pub mod RowLoops

@@ -9,3 +9,4 @@ pub mod Kinds
 pub mod Stages
 pub mod MaskFields
 pub mod Matching
+pub mod Putting

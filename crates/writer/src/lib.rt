@@ -16,3 +16,6 @@ pub enum Writing {
 }
 // Which head and rows a message can carry, told without spelling and reading it: definitions in specs/, laws in proofs/.
 pub mod fits;
+pub mod column;
+pub mod pen;
+pub mod row;
