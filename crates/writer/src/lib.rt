@@ -1,4 +1,6 @@
 // The writer of one message (document 01, "Writer").
+pub mod column;
+pub mod fits;
 pub mod front;
 pub mod gate;
 pub mod marks;
@@ -6,6 +8,7 @@ pub mod mask;
 pub mod number;
 pub mod pen;
 pub mod plan;
+pub mod row;
 
 use format::Refusal;
 
@@ -14,8 +17,3 @@ pub enum Writing {
     Done(usize),
     Refused(Refusal),
 }
-// Which head and rows a message can carry, told without spelling and reading it: definitions in specs/, laws in proofs/.
-pub mod fits;
-pub mod column;
-pub mod pen;
-pub mod row;
