@@ -1,6 +1,7 @@
 /* The answers that no stretch earns, only a call: 1 (room), 2 (place) and 12 (value), each beside the nearest call that
-   is not refused so; then the order of the tests, and rows after a refusal. A line for each call: what is lent, the
-   answer, the place, and whether holding and rows were kept as they were. training/README.md explains. */
+   is not refused so; then the order of the tests, and rows after a refusal; then the same answers to what is done with
+   lines of text. A line for each call: what is lent, the answer, the place, and whether what was lent was kept as it
+   was. training/README.md explains. */
 #include <inttypes.h>
 #include <stdio.h>
 #include <string.h>
@@ -103,6 +104,66 @@ static void late(void) {
   try("clocks of issue 3, mask of issue 3", c);
 }
 
+/* ---- lines of text */
+
+/* Document 01's mask as a saved line, and the number of its bytes. */
+static const char saved[] = "S\t3\t0\tA000000000\t8100\t1\tB\n";
+enum { SAVED = sizeof saved - 1 };
+
+/* A buffer full of sevens that is lent for text or for a stretch. */
+static uint8_t lent[HUNDURZEK_LINE], sevens[HUNDURZEK_LINE];
+
+static void lend(void) {
+  memset(sevens, '7', sizeof sevens);
+  memcpy(lent, sevens, sizeof lent);
+}
+
+static void tell(const char *what, const hundurzek_done *done) {
+  printf("%s\tanswer %" PRIu64 "\tplace %" PRIu64, what, done->answer, done->place);
+  printf("\tcount %" PRIu64 "\tbuffer %s\n", done->count, told(memcmp(lent, sevens, sizeof lent) == 0));
+}
+
+static void save(const char *what, const uint8_t *holding, uint64_t room) {
+  hundurzek_done done;
+  lend();
+  hundurzek_save(&done, holding, HUNDURZEK_HOLDING, lent, room);
+  tell(what, &done);
+}
+
+static const char *which(const uint8_t *holding) {
+  if (memcmp(holding, masked, sizeof masked) == 0) return "the mask";
+  return memcmp(holding, empty, sizeof empty) == 0 ? "the empty holding" : "another holding";
+}
+
+static void load(const char *what, const char *line, uint64_t count) {
+  hundurzek_loaded loaded;
+  hundurzek_load(&loaded, (const uint8_t *)line, count);
+  printf("%s\tanswer %" PRIu64 "\tbeside it %s\n", what, loaded.answer, which(loaded.holding));
+}
+
+static void line(const char *what, const char *text, uint64_t room) {
+  hundurzek_done done;
+  lend();
+  hundurzek_line(&done, (const uint8_t *)text, strlen(text), lent, room);
+  tell(what, &done);
+}
+
+/* The worked mask saved and loaded, and a line of the listing's input; each with its faults, 12 before 1. */
+static void lines(void) {
+  memcpy(spoilt, masked, sizeof spoilt);
+  spoilt[SATELLITES] ^= 1;
+  save("save into 25 bytes", masked, SAVED - 1);
+  save("save into 26 bytes", masked, SAVED);
+  save("save 3 satellites said, 2 named", spoilt, SAVED);
+  save("the same into 25 bytes", spoilt, SAVED - 1);
+  load("load the line", saved, SAVED);
+  load("load it without its line feed", saved, SAVED - 1);
+  load("load it with 0B for B", "S\t3\t0\tA000000000\t8100\t1\t0B\n", SAVED + 1);
+  line("12 bits of a stretch into 1 byte", "12\tFE9\n", 1);
+  line("12 bits of a stretch into 2 bytes", "12\tFE9\n", 2);
+  line("the same in small letters", "12\tfe9\n", 2);
+}
+
 int main(void) {
   static int32_t rows[HUNDURZEK_ROOM];
   hundurzek_reading reading;
@@ -114,5 +175,6 @@ int main(void) {
   value();
   order();
   late();
+  lines();
   return 0;
 }

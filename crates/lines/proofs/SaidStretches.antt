@@ -63,9 +63,6 @@ module _ (line : List ℕ) (filled : ℕ) (l : List Bool) (e : lineSays (take fi
         own = rw digits (hexBits-hex l);
       }
 
-  pub within : first + (length l + 3) / 4 ≤ filled
-  within = omega (arith, long, length-take filled line)
-
 -- ---- its bits as bytes
 
 pub length-said : (l : List Bool) → length (bytesSaid l) ≡ (length l + 7) / 8

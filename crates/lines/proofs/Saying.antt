@@ -1,13 +1,13 @@
 -- What a line of input is, by the tests that are made of it, each in its turn. Assumes nothing.
 use mathlib.Core.Path.{_≡_, refl, sym, ap, _∙_}
-use mathlib.Core.Bool.{Bool, true, false, _&&_, and-eq-true-iff, false≢true}
+use mathlib.Core.Bool.{Bool, true, false, and-eq-true-iff, false≢true}
 use mathlib.Core.List.{List, [], _∷_, _++_}
 use Prim.Native.Nat.{ℕ, suc, _+_, _-_, _≤_, _<_}
 use native.Mathlib.Omega.{arith}
 use lib.Dec.{eqb}
 use lib.ListN.{length, getD, take, drop}
 use borrow.Author.Tests.{eqb-true}
-use Rattle.format.specs.Listing.{stretchLine, lineSays, says, bad}
+use Rattle.format.specs.Listing.{stretchLine, lineSays, says}
 use Rattle.format.specs.Reading.{stretchLimit}
 use Rattle.format.specs.Same.{sameList}
 use Rattle.format.specs.Text.{tab, lineFeed, decimal, decimalValue, hex, hexBits}

@@ -1,24 +1,23 @@
 -- The line of some bits passes each test, and a line that passes them all is the line of the bits that it says. Assumes nothing.
 use mathlib.Core.Path.{_≡_, refl, sym, ap, _∙_}
-use mathlib.Core.Bool.{Bool, true, false}
-use mathlib.Core.List.{List, [], _∷_, _++_, append-assoc}
-use Prim.Native.Nat.{ℕ, zero, suc, _+_, _-_, _*_, _/_, _%_, _≤_, _<_}
+use mathlib.Core.Bool.{Bool, true}
+use mathlib.Core.List.{List, [], _∷_, _++_}
+use Prim.Native.Nat.{ℕ, zero, suc, _+_, _-_, _≤_}
 use native.Mathlib.Nat.{add-zero}
 use native.Mathlib.Numerals.{add-one}
 use native.Mathlib.Omega.{arith}
 use lib.Dec.{eqb}
 use lib.ListN.{length, getD, take, drop, length-append, take-append-drop, drop-of-length-le}
 use lib.Seq.{take-append-seam, drop-append-seam, take-at, getD-append-add, drop-cons, drop-drop}
-use borrow.Author.Tests.{eqb-true, eq-eqb, ne-eqb, leb-true}
-use Rattle.format.specs.Listing.{stretchLine, lineSays, says, bad}
+use borrow.Author.Tests.{ne-eqb}
+use Rattle.format.specs.Listing.{stretchLine}
 use Rattle.format.specs.Reading.{stretchLimit}
 use Rattle.format.specs.Same.{sameList}
-use Rattle.format.specs.Text.{tab, lineFeed, decimal, decimalValue, hex, hexBits}
-use Rattle.format.proofs.Bodies.{All, none, more}
-use Rattle.format.proofs.InputLines.{line-says, says-line, never-says}
-use Rattle.format.proofs.Sames.{sameList-sound, sameList-refl, eqb-refl}
-use Rattle.format.proofs.Texts.{decimalValue-decimal, hexBits-hex, Plain, plain-decimal, decimal-one, decimal-more}
-use Rattle.lines.specs.Counting.{tabWithin, opensWith}
+use Rattle.format.specs.Text.{tab, lineFeed, decimal, hex, hexBits}
+use Rattle.format.proofs.Bodies.{more}
+use Rattle.format.proofs.Sames.{sameList-refl, eqb-refl}
+use Rattle.format.proofs.Texts.{hexBits-hex, Plain, plain-decimal}
+use Rattle.lines.specs.Counting.{tabWithin}
 use Rattle.lines.specs.Digits.{hexSays}
 use Rattle.lines.proofs.HexDigits.{digits-say}
 use Rattle.text.proofs.Values.{decimal-long}

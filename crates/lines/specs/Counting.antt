@@ -1,9 +1,9 @@
 -- The bit count that opens a line of input, as it is tested.
-use mathlib.Core.Bool.{Bool, cond, _&&_}
+use mathlib.Core.Bool.{Bool, cond}
 use mathlib.Core.List.{List, [], _∷_}
 use Prim.Native.Nat.{ℕ, zero, suc}
 use lib.Dec.{eqb}
-use lib.ListN.{length, take}
+use lib.ListN.{take}
 use Rattle.format.specs.Same.{sameList}
 use Rattle.format.specs.Text.{tab, decimal}
 

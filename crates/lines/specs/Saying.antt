@@ -1,6 +1,6 @@
 -- What the code answers to a line of input, by crate format's meaning of it.
 use mathlib.Core.List.{List}
-use Prim.Native.Nat.{ℕ, suc}
+use Prim.Native.Nat.{suc}
 use lib.ListN.{length}
 use Rattle.format.specs.Listing as Listing
 use Rattle.format.specs.Text.{decimal}

@@ -7,7 +7,7 @@ use lib.ListN.{drop}
 use Rattle.holding.specs.declared.Holding.{Holding}
 use Rattle.lister.specs.declared.State.{State}
 use Rattle.lister.specs.declared.Work.the-variants.{Gathering}
-use Rattle.lister.specs.Steps.{Done, stepOf}
+use Rattle.lister.specs.Steps.{stepOf}
 
 -- before the first line
 abbrev pub first : Holding → State

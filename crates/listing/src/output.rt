@@ -2,6 +2,8 @@
 ghost use mathlib.Core.Path.{_≡_};
 ghost use Prim.Native.Nat.{_+_, _≤_};
 ghost use lib.ListN.{length};
+ghost use Rattle.format.specs.Saved.{saving, bufferAfter};
+ghost use Rattle.holding.specs.Pictures.{maskOf, lentBy};
 ghost use Rattle.lines.specs.Records.{messageRoom};
 use holding::Holding;
 use libc::STDOUT_FILENO;
@@ -48,8 +50,10 @@ pub fn make_room(out: &[u8], sink: Sink) -> Sink
     sink
 }
 
-// The mask that is held, as a saved line; whether it was written.
-pub fn print_mask(holding: Holding, out: &mut [u8]) -> bool {
+// The mask that is held, as a saved line that the buffer then begins with; whether it was written.
+pub fn print_mask(holding: Holding, out: &mut [u8]) -> bool
+    ensures { λ _. ⌜ now (out .exit) ≡ bufferAfter (saving (lentBy holding) (now (out .entry))) (maskOf holding) (now (out .entry)) ⌝ }
+{
     let saving = saved::save(holding, out);
     let Saving::Saved(n) = saving else {
         return false;

@@ -2,11 +2,11 @@
 -- gives, and no other run gives anything else. For any way in which a holding is passed. Assumes nothing.
 use mathlib.Core.Path.{_≡_, refl, subst}
 use mathlib.Core.Bool.{Bool, true, false, false≢true}
-use mathlib.Core.List.{List, [], flatten}
+use mathlib.Core.List.{List, []}
 use Prim.Native.Nat.{ℕ, _+_}
 use lib.Dec.{leb}
 use lib.IntN.{ℤ}
-use lib.ListN.{length, drop}
+use lib.ListN.{length}
 use Rattle.format.specs.declared.Head.{Head}
 use Rattle.format.specs.declared.Refusal.{Refusal}
 use Rattle.format.specs.declared.Refusal.the-variants.{Room, Place, Value}
@@ -14,7 +14,7 @@ use Rattle.format.specs.Answers.{Said, stop, message, saidAt}
 use Rattle.format.specs.Good.{good, isHolding}
 use Rattle.format.specs.Masks.{Held, Lent, lent, heldIn}
 use Rattle.format.specs.Programs.{well, run}
-use Rattle.format.specs.Reading.{rowRoom, Outcome, accepted, idle, refused, bitsFrom, placed, lentTests, readingBy, reading, lentAfter, over, rowsAfter, answerOf}
+use Rattle.format.specs.Reading.{rowRoom, Outcome, accepted, idle, refused, bitsFrom, placed, lentTests, readingBy, reading, lentAfter, rowsAfter, answerOf}
 use Rattle.format.specs.Table.{Message, table, messageBy}
 use Rattle.format.specs.Tests.{verdict}
 use Rattle.format.specs.Walking.{HandedOut, handedAt, Walk, hand, walk}

@@ -49,6 +49,13 @@ adopt-determined = says _ _ _ λ κs args x v p. (p, refl)
 
 -- ---- reader
 
+-- "the message's raw bytes as a part of the caller's own stretch"
+pub raw-determined : DeterminedBy reader.raw.raw.Kinds.ps reader.raw.raw.Kinds.r (λ κs x y. SamePart x y) reader.raw.raw.Reads.Learnt
+unfolding DeterminedBy SamePart
+raw-determined κs args x y v w p q = ((alike (p .bytes) (q .bytes), λ i. (alike (p .memory) (q .memory) i, alike (p .offset) (q .offset) i)), refl)
+
+-- ---- walk
+
 -- reading one message: the answer with the holding, and the row buffer
 pub read-determined : Determined walk.single.read.Kinds.ps walk.single.read.Kinds.r walk.single.read.Reads.Learnt
 read-determined = says _ _ _ λ κs args x v p. (p .0, λ i. (tt, (tt, (tt, (tt, (p .1 i, tt))))))
@@ -56,13 +63,6 @@ read-determined = says _ _ _ λ κs args x v p. (p .0, λ i. (tt, (tt, (tt, (tt,
 -- the same where a mask is left to be adopted: what is found, and the row buffer
 pub seek-determined : Determined walk.single.seek.Kinds.ps walk.single.seek.Kinds.r walk.single.seek.Reads.Learnt
 seek-determined = says _ _ _ λ κs args x v p. (p .0, λ i. (tt, (tt, (tt, (tt, (p .1 i, tt))))))
-
--- "the message's raw bytes as a part of the caller's own stretch"
-pub raw-determined : DeterminedBy reader.raw.raw.Kinds.ps reader.raw.raw.Kinds.r (λ κs x y. SamePart x y) reader.raw.raw.Reads.Learnt
-unfolding DeterminedBy SamePart
-raw-determined κs args x y v w p q = ((alike (p .bytes) (q .bytes), λ i. (alike (p .memory) (q .memory) i, alike (p .offset) (q .offset) i)), refl)
-
--- ---- walk
 
 -- reading a stretch: the stop with the counts and the holding, and the row buffer
 pub walk-determined : Determined walk.walk.Kinds.ps walk.walk.Kinds.r walk.walk.Reads.Learnt
@@ -84,11 +84,13 @@ load-determined = says _ _ _ λ κs args x v p. (p, refl)
 pub said-by-determined : Determined lines.said_by.Kinds.ps lines.said_by.Kinds.r lines.said_by.Reads.Learnt
 said-by-determined = says _ _ _ λ κs args x v p. (p, refl)
 
--- ---- host: "numbers and byte slices"
+-- ---- lister
 
 -- a step of the listing: the state after it with what it took and gave, the line, the row buffer, the text
 pub advance-determined : Determined lister.advance.Kinds.ps lister.advance.Kinds.r lister.advance.Reads.Learnt
 advance-determined = says _ _ _ λ κs args x v p. (p .0, λ i. (tt, (p .1 .0 i, (p .1 .1 .0 i, (tt, (p .1 .1 .1 .0 i, tt))))))
+
+-- ---- host: "numbers and byte slices"
 
 -- the empty holding over the lent bytes
 pub hundurzek-empty-determined : Determined host.hundurzek_empty.Kinds.ps host.hundurzek_empty.Kinds.r host.hundurzek_empty.Reads.Learnt

@@ -14,7 +14,7 @@ use Rattle.holding.specs.Pictures.{maskOf, sound}
 use Rattle.lister.specs.declared.State.{State}
 use Rattle.lister.specs.declared.Step.{Step}
 use Rattle.lister.specs.Runs.{first, Run, rests, steps}
-use Rattle.lister.specs.Steps.{Done, stepOf, answered, lineRoom}
+use Rattle.lister.specs.Steps.{Done, stepOf, lineRoom}
 use Rattle.lister.proofs.RunsList.{runs-list}
 use Rattle.promises.specs.Listings.{AdvanceCall, Listings, ends, goes}
 

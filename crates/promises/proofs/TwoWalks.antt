@@ -14,7 +14,7 @@ use Rattle.format.specs.Masks.{Held, Lent, lent, heldIn}
 use Rattle.format.specs.Messages.{Content}
 use Rattle.format.specs.Reading.{rowRoom, Outcome, accepted, bitsFrom, subTypeIn, lentAfter, rowsAfter}
 use Rattle.format.specs.Table.{Kind, Message}
-use Rattle.format.specs.Walking.{HandedOut, handedAt, Walk, hand, goOn, walkOn}
+use Rattle.format.specs.Walking.{handedAt, Walk, hand, goOn, walkOn}
 use Rattle.format.proofs.CutWalks.{over-long}
 use Rattle.format.proofs.Walks.{walk-step, Law, every-walk}
 use Rattle.promises.specs.LateJoiners.{IsIdle, OpeningPart, AtTheEnd, StoppedWith, TruthBut, heldAfter}

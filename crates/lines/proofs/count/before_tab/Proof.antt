@@ -5,7 +5,7 @@ use native.Mathlib.Nat.{add-zero}
 use native.Mathlib.Numerals.{add-one}
 use native.Mathlib.Omega.{arith}
 use borrow.Author.Needs.{needs}
-use lib.ListN.{length, drop}
+use lib.ListN.{drop}
 use Rattle.lines.specs.Counting.{tabWithin}
 use Rattle.lines.proofs.Counts.{tab-further, tab-here, tab-never}
 use Rattle.lines.proofs.count.before_tab.Statement.{statement}

@@ -5,7 +5,7 @@ use native.Mathlib.Nat.{pow-suc, one-le-pow, pow-le-pow-right}
 use native.Mathlib.Numerals.{add-one}
 use native.Mathlib.Omega.{arith}
 use borrow.Author.Needs.{needs}
-use lib.ListN.{length, getD, take}
+use lib.ListN.{getD, take}
 use Rattle.format.specs.Text.{decimalValue}
 use Rattle.text.proofs.Characters.{said-small}
 use Rattle.lines.proofs.Counts.{value-next}

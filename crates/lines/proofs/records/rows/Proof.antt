@@ -4,7 +4,7 @@ use mathlib.Core.List.{List, _++_}
 use Prim.Native.Nat.{ℕ, _+_, _-_, _*_, _≤_}
 use native.Mathlib.Omega.{arith}
 use borrow.Author.Needs.{needs}
-use lib.ListN.{length, take, drop}
+use lib.ListN.{take, drop}
 use Rattle.format.specs.Listing.{recordText, letterR}
 use Rattle.text.proofs.Stores.{Left, all-left, wrote, told, part-wrote, none-left}
 use Rattle.lines.specs.Records.{rowLong}

@@ -1,5 +1,4 @@
 -- `lister::onward::stop` meets its contract. Assumes nothing.
-use mathlib.Core.Path.{_≡_}
 use borrow.Author.Needs.{needs}
 use Rattle.format.specs.Listing.{stopValues}
 use Rattle.lister.proofs.onward.stop.Statement.{statement}

@@ -1,5 +1,4 @@
 -- `lister::open::next_line` meets its contract. Assumes nothing.
-use mathlib.Core.Path.{_≡_}
 use borrow.Author.Needs.{needs}
 use Rattle.lister.specs.declared.Work.the-variants.{Gathering}
 use Rattle.lister.proofs.open.next_line.Statement.{statement}
