@@ -170,11 +170,6 @@ fits-exact held fine h rows passes =
     let it = message-reads held fine h rows passes in
     read-exact held fine (it .bits) (record { content = record { head = h; rows = rows }; after = held }) (length (it .bits)) (it .whole .reads)
 
--- and what it spells is read to it alone
-pub fits-reads : (held : Held) → good held ≡ true → (h : Head) (rows : List (List ℤ)) → fits held h rows ≡ true
-    → run (message held) (spelled held h rows) ≡ well (record { content = record { head = h; rows = rows }; after = held }) (length (spelled held h rows))
-fits-reads held fine h rows passes = rw append-nil at (exact-reads held h rows (fits-exact held fine h rows passes) [])
-
 -- ---- what is read fits
 
 -- behind the common head, which is that of the mask's issue

@@ -137,10 +137,3 @@ rows-fit (n ∷ ns) (more three threes) l room =
     let w : ℕ = shapeWidth (n .shape) in
     let rest : bodyWidth ns ≤ length (drop w l) = rw length-drop (omega arith) in
     true-and (row-fits n (valuesOf (n .shape) l) three (values-fit (n .shape) l (omega arith))) (rows-fit ns threes (drop w l) rest)
-
--- ---- hence rows fit just where what they spell is as wide as the body and reads back to them
-
-pub rows-exact : (lines : List Line) → Threes lines → (rows : List (List ℤ)) → length (spellRows lines rows) ≡ bodyWidth lines
-    → rowsOf lines (spellRows lines rows) ≡ rows → rowsFit lines rows ≡ true
-rows-exact lines threes rows whole back =
-    subst (λ (rs : List (List ℤ)). rowsFit lines rs ≡ true) back (rows-fit lines threes (spellRows lines rows) (omega arith))

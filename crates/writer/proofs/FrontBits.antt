@@ -17,7 +17,7 @@ use Rattle.writer.specs.Fronts.{penAt, field, openingField, lastField, f
 use Rattle.writer.specs.Numbers.{wordOf}
 use Rattle.writer.specs.Pens.{penAfter, spellFields, Fine, Fines, none, more}
 use Rattle.writer.proofs.Fronts.{Smalls, common-smalls}
-use Rattle.writer.proofs.Gathered.{widths, joinedTo, all-join, spell-joined}
+use Rattle.writer.proofs.Gathered.{widths, joinedTo, all-join, joined-small, spell-joined}
 use Rattle.writer.proofs.Numbers.{fits-small}
 
 -- a number that fits is spelled by its bits
@@ -37,6 +37,12 @@ pen-place fs start few = ap (λ (p : Pen). p .place) (all-join fs (penAt start) 
 
 pub pen-width : (fs : List Field) (start : ℕ) → widths fs ≤ 56 → penAfter (penAt start) fs .width ≡ widths fs
 pen-width fs start few = ap (λ (p : Pen). p .width) (all-join fs (penAt start) (omega arith)) ∙ omega arith
+
+-- and is a number of so many bits
+pub pen-fine : (fs : List Field) (start : ℕ) → Fines fs → widths fs ≤ 56 → let p = penAfter (penAt start) fs in Fine (p .width) (p .gathered)
+pen-fine fs start fines few =
+    let number-of : joinedTo 0 fs < 2 ^ (0 + widths fs) = joined-small fs 0 0 (omega arith) fines in
+    rw (all-join fs (penAt start) (omega arith)) (record { narrow = omega arith; small = number-of })
 
 -- ---- the common head
 

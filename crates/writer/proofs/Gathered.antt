@@ -1,7 +1,9 @@
 -- Fields that all fit one setting are all gathered, and their bits are the number's. Assumes nothing.
-use Rattle.bits.proofs.Words.{_≡_, refl, sym, ap, ap₂, _∙_, Bool, List, [], _∷_, _++_, ℕ, _+_, _*_, _^_, _≤_, arith, length}
+use Rattle.bits.proofs.Words.{_≡_, refl, sym, ap, ap₂, _∙_, Bool, List, [], _∷_, _++_, ℕ, _+_, _*_, _^_, _≤_, _<_, arith, length}
 use mathlib.Core.List.{append-nil, append-assoc}
+use lib.Arith.{digits-lt}
 use lib.ListN.{length-append}
+use lib.Pow.{pow-add}
 use Rattle.bits.proofs.BitLists.{spell-append, length-spell}
 use Rattle.bits.specs.BitLists.{spell}
 use Rattle.format.specs.Lengths.{total}
@@ -32,6 +34,15 @@ all-join (f ∷ fs) p few =
     let same : p .width + f .width + widths fs ≡ p .width + (f .width + widths fs) = omega arith in
     ap (λ (q : Pen). penAfter q fs) here ∙ all-join fs one (omega arith)
     ∙ ap (λ (n : ℕ). record { place = p .place; width = n; gathered = joinedTo (p .gathered * 2 ^ f .width + f .value) fs }) same
+
+pub joined-small : (fs : List Field) (w g : ℕ) → g < 2 ^ w → Fines fs → joinedTo g fs < 2 ^ (w + widths fs)
+unfolding joinedTo total
+joined-small [] w g small fines =
+    let same : w + 0 ≡ w = omega arith in
+    rw same small
+joined-small (f ∷ fs) w g small (more fine fines) =
+    let regroup : w + (f .width + widths fs) ≡ w + f .width + widths fs = omega arith in
+    rw regroup (joined-small fs (w + f .width) (g * 2 ^ f .width + f .value) (rw (pow-add 2 w (f .width)) (digits-lt small (fine .small))) fines)
 
 pub spell-joined : (fs : List Field) (w g : ℕ) → Fines fs → spell (w + widths fs) (joinedTo g fs) ≡ spell w g ++ spellFields fs
 unfolding joinedTo spellFields total

@@ -13,6 +13,13 @@ pub mod Fronts
 pub mod Plans
 pub mod SubTypes
 pub mod Order
+pub mod Behind
+pub mod Rowed
+pub mod Masked
+pub mod Told
+pub mod PastGate
+pub mod WholeOrder
+pub mod Putting
 pub mod PlanBits
 pub mod PlanFlagged
 pub mod PlanPacket

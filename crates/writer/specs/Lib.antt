@@ -10,3 +10,5 @@ pub mod Stages
 pub mod MaskFields
 pub mod Matching
 pub mod Putting
+pub mod Written
+pub mod Writings

@@ -1,0 +1,88 @@
+-- A message with rows that fit: its length, and that it can be put out. Assumes nothing.
+use Rattle.bits.proofs.Words.{_≡_, refl, sym, ap, ap₂, _∙_, Bool, true, List, [], _∷_, _++_, ℕ, _+_, _-_, _*_, _/_, _^_, _≤_, _<_, arith, length, ℤ}
+use lib.ListN.{length-append}
+use Rattle.bits.proofs.BitLists.{length-spell}
+use Rattle.bits.specs.BitLists.{spell}
+use Rattle.format.specs.Masks.{pick}
+use Rattle.format.specs.Messages.{packetShape}
+use Rattle.format.specs.Rows.{Line, bodyWidth, spellRows}
+use Rattle.format.specs.Writing.{rowsIn}
+use Rattle.holding.specs.Held.{View, stripCells}
+use Rattle.rows.proofs.Table.{formed, columns-in}
+use Rattle.rows.specs.Shapes.{columnsIn}
+use Rattle.rows.specs.Table.{shapes, listed, shapeAt, shapeFor}
+use Rattle.table.specs.declared.Body.{Body}
+use Rattle.table.specs.declared.Keys.{Keys}
+use Rattle.table.specs.declared.Keys.the-variants.{Satellites, Cells, Parts}
+use Rattle.table.specs.Bodies.{linesOver, linesIn, FitsKeys, Fits}
+use Rattle.writer.specs.declared.plan.Plan.{Plan}
+use Rattle.writer.specs.Fits.{rowsFit}
+use Rattle.writer.specs.Kinds.{planBits}
+use Rattle.writer.specs.Marking.{selectionFields}
+use Rattle.writer.specs.Pens.{spellFields, Fines, Ready}
+use Rattle.writer.specs.Putting.{Shaped, rowFields}
+use Rattle.writer.specs.Written.{planFields, Puts, Made}
+use Rattle.writer.proofs.FitRows.{fit-rows}
+use Rattle.writer.proofs.Pens.{spell-fields-append, fines-append}
+use Rattle.writer.proofs.RowFields.{Putting, putting, satellites-shaped, cells-shaped, packet-shaped}
+use Rattle.writer.proofs.SelectionFields.{selection-spelled, selection-fines}
+
+packets : (shape system : ℕ) → shape ≡ 7 → shapeAt shape system ≡ packetShape
+unfolding shapeAt listed shapes
+packets shape system last = rw last
+
+-- the lines of a body have its shape
+body-shaped : (v : View) (keys : Keys) (shape : ℕ) → FitsKeys keys shape → Shaped (shapeFor shape) (linesOver v keys shape)
+unfolding linesOver FitsKeys
+body-shaped v (Satellites chosen) shape fits = satellites-shaped (shapeFor shape) (shapeAt shape) (λ system. columns-in system shape) (pick (spell 64 chosen) (v .satellites))
+body-shaped v (Cells chosen) shape fits =
+    cells-shaped (shapeFor shape) (shapeAt shape) (λ system. columns-in system shape) (stripCells (pick (spell 64 chosen) (v .satellites)) (pick (spell 64 chosen) (v .strips)))
+body-shaped v (Parts n) shape fits = packet-shaped (shapeFor shape) (λ system. columns-in system shape ∙ packets shape system (fits .1)) 1 n
+
+module _ (v : View) (p : Plan) (made : Made p) (numbers : List ℤ) (count : ℕ) (whole : 8 * count ≤ length numbers) where
+  abbrev rows : List (List ℤ)
+  rows = rowsIn count numbers
+
+  abbrev lines : List Line
+  lines = linesIn v (p .body)
+
+  module _ (fits : rowsFit lines rows ≡ true) where
+    rowed : Putting (shapeFor (p .body .shape)) lines rows
+    unfolding linesIn
+    rowed = putting (shapeFor (p .body .shape)) (formed (p .body .shape)) (body-shaped v (p .body .keys) (p .body .shape) (made .body)) rows fits
+
+    -- its bits are those gathered and those of its fields
+    pub plan-spelled : planBits v p rows ≡ spell (p .pen .width) (p .pen .gathered) ++ spellFields (planFields p rows)
+    unfolding planBits planFields
+    plan-spelled =
+        ap (λ (l : List Bool). spell (p .pen .width) (p .pen .gathered) ++ l)
+        (ap₂ _++_ (sym (selection-spelled (p .chosen) (p .marked) (made .marked))) (sym (rowed .spelled))
+        ∙ sym (spell-fields-append (selectionFields (p .chosen) (p .marked)) (rowFields (shapeFor (p .body .shape)) rows)))
+
+    pub plan-long : length (planBits v p rows) ≡ p .pen .width + p .marked + bodyWidth lines
+    unfolding planBits
+    plan-long =
+        length-append (spell (p .pen .width) (p .pen .gathered)) _
+        ∙ ap₂ _+_ (length-spell (p .pen .width) (p .pen .gathered))
+        (length-append (spell (p .marked) (p .chosen / 2 ^ (64 - p .marked))) (spellRows lines rows)
+        ∙ ap₂ _+_ (length-spell (p .marked) (p .chosen / 2 ^ (64 - p .marked))) (fit-rows lines rows fits .1))
+        ∙ omega arith
+
+    -- and there is room for them
+    pub plan-puts : (bytes : List ℕ) → p .pen .place + length (planBits v p rows) ≤ 8 * length bytes → p .pen .place + length (planBits v p rows) < 2 ^ 32 → Puts p numbers count bytes
+    unfolding planFields
+    plan-puts bytes room near =
+        let parts : length (planBits v p rows) ≡ p .pen .width + length (spellFields (planFields p rows)) =
+        ap length plan-spelled ∙ length-append (spell (p .pen .width) (p .pen .gathered)) _ ∙ ap (λ (n : ℕ). n + length (spellFields (planFields p rows))) (length-spell (p .pen .width) (p .pen .gathered)) in
+        record {
+          marked = made .marked;
+          whole = whole;
+          fitting = rowed .fitting;
+          ready =
+              record {
+                pen = made .pen;
+                fields = fines-append (selection-fines (p .chosen) (p .marked) (made .chosen) (made .marked)) (rowed .fines);
+                room = omega (arith, parts);
+                near = omega (arith, parts);
+              };
+        }

@@ -1,0 +1,102 @@
+-- `writer::message::of_mask` meets its contract. Assumes nothing.
+use Rattle.bits.proofs.Words.{_≡_, refl, sym, ap, ap₂, _∙_, Bool, true, false, List, ℕ, _+_, _≤_, arith, needs, length}
+use borrow.Author.Tests.{not-true, not-false}
+use Rattle.bits.specs.BitLists.{setBytes}
+use Rattle.format.specs.Writing.{limit, bytesAfter}
+use Rattle.holding.proofs.Sounds.{sounds}
+use Rattle.writer.specs.declared.pen.Pen.{Pen}
+use Rattle.writer.specs.declared.Writing.the-variants.{Done}
+use Rattle.writer.specs.Fronts.{penAt, maskFront}
+use Rattle.writer.specs.MaskFields.{maskFields}
+use Rattle.writer.specs.Pens.{penAfter, inkAfter, Ready}
+use Rattle.writer.specs.Stages.{answered}
+use Rattle.writer.specs.Written.{maskRight, maskSpelled, masked}
+use Rattle.writer.proofs.Behind.{unfit, roomless, done}
+use Rattle.writer.proofs.Masked.{right-common, right-count, mask-long, mask-parts, mask-ready, mask-place}
+use Rattle.writer.proofs.Putting.{ready-last, all-set}
+use Rattle.writer.proofs.message.of_mask.Statement.{statement}
+use Rattle.writer.proofs.message.of_mask.Tie as tie
+
+module _ (s : tie.Start) where
+  abbrev fit : Bool
+  fit = maskRight (s .args .head) (s .args .holding .count) (s .args .count)
+
+  abbrev bits : List Bool
+  bits = maskSpelled (s .args .holding) (s .args .head)
+
+returns : tie.Need-returns
+unfolding masked answered bytesAfter
+returns c =
+    let s = c .before .before .before in
+    let wrong : fit s ≡ false = sym (c .before .mask-fits .ensures) ∙ not-true _ (c .if1 .taken) in
+    rw (unfit (bits s) (s .args .bytes .now) (s .args .start) wrong) (refl, refl)
+
+-- head and count fit
+module _ (c : tie.After-mask-bits) where
+  abbrev st : tie.Start
+  st = c .before .before .before .before
+
+  right : fit st ≡ true
+  right = sym (c .before .before .mask-fits .ensures) ∙ not-false _ (c .before .if1 .left)
+
+  long : length (bits st) ≡ 49 + c .mask-bits .result
+  long = mask-long (st .args .holding) (st .pre .0) (st .args .head) (st .args .count) (st .pre .1) right ∙ ap (λ (n : ℕ). 49 + n) (sym (c .mask-bits .ensures .0))
+
+returns-2 : tie.Need-returns-2
+unfolding masked answered bytesAfter
+returns-2 c =
+    let l = c .before in
+    let z = l .before .before in
+    rw (roomless (bits (st z)) (st z .args .bytes .now) (st z .args .start) (right z) (omega (arith, long z, c .if2 .taken, l .limit .ensures .0))) (refl, refl)
+
+-- and there is room
+module _ (c : tie.Else2) where
+  abbrev z : tie.After-mask-bits
+  z = c .before .before .before
+
+  inside : st z .args .start + length (bits (st z)) ≤ limit (st z .args .bytes .now)
+  inside = omega (arith, long z, c .if2 .left, c .before .limit .ensures .0, st z .pre .2)
+
+  ready : Ready (penAfter (penAt (st z .args .start)) (maskFront (st z .args .head))) (maskFields (st z .args .holding)) (st z .args .bytes .now)
+  unfolding limit
+  ready =
+      mask-ready (st z .args .holding) (st z .pre .0) (st z .args .head) (st z .args .count) (st z .pre .1) (right z) (st z .args .start) (st z .args .bytes .now)
+      (omega (arith, inside)) (omega (arith, inside, c .before .limit .ensures))
+
+put-systems-requires : tie.Need-put-systems-requires
+put-systems-requires c κs =
+    let e = c .before .before in
+    (st (z e) .pre .0, rw (c .mask .ensures) (ready e))
+
+-- what the systems leave
+module _ (c : tie.After-put-systems) where
+  abbrev e : tie.Else2
+  e = c .before .before .before
+
+  pens : c .put-systems .result ≡ penAfter (penAfter (penAt (st (z e) .args .start)) (maskFront (st (z e) .args .head))) (maskFields (st (z e) .args .holding))
+  pens = c .put-systems .ensures .0 ∙ ap (λ (p : Pen). penAfter p (maskFields (st (z e) .args .holding))) (c .before .mask .ensures)
+
+  inks : c .put-systems .last .1 .0 ≡ inkAfter (penAfter (penAt (st (z e) .args .start)) (maskFront (st (z e) .args .head))) (maskFields (st (z e) .args .holding)) (st (z e) .args .bytes .now)
+  inks = c .put-systems .ensures .1 ∙ ap (λ (p : Pen). inkAfter p (maskFields (st (z e) .args .holding)) (st (z e) .args .bytes .now)) (c .before .mask .ensures)
+
+returns-3 : tie.Need-returns-3
+unfolding masked answered bytesAfter
+returns-3 c =
+    let p = c .before .before .before .before .before .before in
+    let x = e p in
+    let s = st (z x) in
+    let m = mask-place (s .args .holding) (s .pre .0) (s .args .head) (s .args .count) (s .pre .1) (right (z x)) (s .args .start) in
+    let parts = mask-parts (s .args .holding) (s .pre .0) (s .args .head) (s .args .count) (s .pre .1) (right (z x)) (s .args .start) in
+    rw (done (bits s) (s .args .bytes .now) (s .args .start) (right (z x)) (inside x)) (
+      ap Done (ap (λ (n : ℕ). s .args .start + n) (sym (long (z x)))),
+      all-set (maskFields (s .args .holding)) _ (s .args .bytes .now) (ready x) (pens p) (inks p) (c .before .before .set .ensures)
+          ∙ ap₂ (setBytes (s .args .bytes .now)) m (sym parts),
+    )
+
+pub of-mask-spec : {M : Type 1} → statement M
+of-mask-spec =
+    tie.close
+    (tie.spec (λ c κs. let s = c .before in omega (arith, sounds (s .args .holding) (s .pre .0) .few-systems)) returns (λ c κs. search needs) (λ c. search needs) (λ c κs. search needs) (λ c. search needs) (λ c. search needs) returns-2
+    (λ c κs. let x = c .before in let s = st (z x) in (right-common (s .args .holding) (s .pre .0) (s .args .head) (s .args .count) (s .pre .1) (right (z x)), s .pre .1, right-count (s .args .holding) (s .pre .0) (s .args .head) (s .args .count) (s .pre .1) (right (z x))))
+    put-systems-requires (λ c κs. let p = c .before .before .before in let x = e p in ready-last (maskFields (st (z x) .args .holding)) _ (st (z x) .args .bytes .now) (ready x) (pens p) (inks p))
+    (λ c. search needs) (λ c. search needs) returns-3)
