@@ -7,3 +7,4 @@ pub mod Matching
 pub mod ColumnTests
 pub mod RowTests
 pub mod Lines
+pub mod Passing
