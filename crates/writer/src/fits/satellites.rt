@@ -33,8 +33,8 @@ fn shape_in(s: Shape, system: u8) -> Shape
     s
 }
 
-// How far the rows from a number on fit the lines of one system's satellites that are chosen: its mask and the selection
-// each begin at the highest of 64 bits.
+// How far the rows from a number on fit the lines of one system's satellites that are chosen: its mask and the
+// selection each begin at the highest of 64 bits.
 fn slot(id: u8, word: u64, s: Shape, chosen: u64, rows: &[i32], from: usize) -> Passed
     requires { ⌜ FormedShape s × Laid s × (from ≤ length (now rows)) ⌝ }
     ensures { λ r. ⌜ r ≡ passedAt chosen (alone (columnsIn s) (satellitesIn 64 id word)) (now (rows .entry)) from ⌝ }
