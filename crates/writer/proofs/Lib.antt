@@ -38,3 +38,4 @@ pub mod RowBits
 pub mod FirstColumns
 pub mod RowPens
 pub mod RowLoops
+pub mod Passing

@@ -6,7 +6,7 @@ ghost use Rattle.body.specs.Chosen.{alone, chosenLines};
 ghost use Rattle.body.specs.Lent.{Slots};
 ghost use Rattle.holding.specs.Held.{satellitesIn, slotSatellites};
 ghost use Rattle.rows.specs.Shapes.{columnsIn, FormedShape, Laid};
-ghost use Rattle.writer.specs.Matching.{matchedAt, shapeOn};
+ghost use Rattle.writer.specs.Matching.{matchedAt, passedAt, shapeOn};
 use crate::fits::Matched;
 use crate::fits::line;
 use body::FIRST;
@@ -15,6 +15,13 @@ use holding::set_places;
 use rows::row::Key;
 use rows::shape::Shape;
 use rows::shapes;
+
+// How far the rows of a slot's satellites fit their lines: not all of them do, or they do up to that number of those
+// lent; and the selection of the satellites behind, whose first one's bit is the highest again.
+pub enum Passed {
+    Stopped,
+    On(usize, u64),
+}
 
 // The shape of a system's rows: an IODE is as wide as the system has it.
 fn shape_in(s: Shape, system: u8) -> Shape
@@ -26,11 +33,11 @@ fn shape_in(s: Shape, system: u8) -> Shape
     s
 }
 
-// How far the rows from a number on fit the lines of one system's satellites that are chosen: its mask and the selection
-// each begin at the highest of 64 bits.
-fn slot(id: u8, word: u64, s: Shape, chosen: u64, rows: &[i32], from: usize) -> Matched
+// How far the rows from a number on fit the lines of one system's satellites that are chosen: its mask and the
+// selection each begin at the highest of 64 bits.
+fn slot(id: u8, word: u64, s: Shape, chosen: u64, rows: &[i32], from: usize) -> Passed
     requires { ⌜ FormedShape s × Laid s × (from ≤ length (now rows)) ⌝ }
-    ensures { λ r. ⌜ r ≡ matchedAt (chosenLines chosen (alone (columnsIn s) (satellitesIn 64 id word))) (now (rows .entry)) from ⌝ }
+    ensures { λ r. ⌜ r ≡ passedAt chosen (alone (columnsIn s) (satellitesIn 64 id word)) (now (rows .entry)) from ⌝ }
 {
     let own = shape_in(s, id);
     let system = id as i32;
@@ -46,14 +53,14 @@ fn slot(id: u8, word: u64, s: Shape, chosen: u64, rows: &[i32], from: usize) -> 
                 signal: ABSENT,
             };
             if !line::fits(rows, k, key, own) {
-                return Matched::Not;
+                return Passed::Stopped;
             }
             k += 8;
         }
         left = set_places::rest(left);
         marks = marks << 1;
     }
-    Matched::To(k)
+    Passed::On(k, marks)
 }
 
 // How far the rows fit the lines of all systems' satellites that are chosen.
@@ -65,13 +72,12 @@ pub fn reach(ids: &[u8], masks: &[u64], s: Shape, chosen: u64, rows: &[i32]) -> 
     let mut k = 0;
     let mut i = 0;
     while i < ids.len() {
-        let mask = masks[i];
-        let far = slot(ids[i], mask << 24, s, marks, rows, k);
-        let Matched::To(next) = far else {
+        let passed = slot(ids[i], masks[i] << 24, s, marks, rows, k);
+        let Passed::On(next, behind) = passed else {
             return Matched::Not;
         };
         k = next;
-        marks = marks << set_places::count(mask);
+        marks = behind;
         i += 1;
     }
     Matched::To(k)

@@ -1,12 +1,13 @@
 -- `writer::fits::satellites::slot` meets its contract. The loop's invariant: how far the rows fit is told by the satellites that are left, chosen by the marks
 -- that are left. Assumes nothing.
-use Rattle.bits.proofs.Words.{_≡_, refl, ap, _∙_, List, [], _∷_, ℕ, suc, _+_, _-_, _*_, _%_, _^_, _≤_, _<_, arith, needs, pos}
+use Rattle.bits.proofs.Words.{_≡_, refl, ap, _∙_, List, [], _∷_, ℕ, suc, _+_, _-_, _*_, _%_, _^_, _≤_, _<_, arith, needs, length, pos}
 use mathlib.Core.Logic.{⊎-elim}
 use native.Mathlib.Nat.{mod-lt}
 use borrow.Author.Tests.{not-true, not-false}
 use lib.Count.{leadingZeros}
 use Rattle.body.proofs.Groups.{alone-nil, alone-next}
 use Rattle.body.proofs.Keys.{key}
+use Rattle.body.proofs.Marks.{Moved, moved-start, moved-next, moved-end}
 use Rattle.body.proofs.Slots.{Next, next, next-in, none-in}
 use Rattle.body.proofs.Walking.{chosen-nil, chosen-set, chosen-clear}
 use Rattle.body.specs.Chosen.{alone, chosenLines}
@@ -14,10 +15,11 @@ use Rattle.format.specs.Messages.{satelliteLines}
 use Rattle.format.specs.Rows.{Column, Line, absent}
 use Rattle.holding.specs.Held.{satellitesIn}
 use Rattle.rows.specs.Shapes.{columnsOf, columnsIn}
-use Rattle.writer.specs.declared.fits.Matched.{Matched}
-use Rattle.writer.specs.Matching.{matchedAt}
+use Rattle.writer.specs.declared.fits.satellites.Passed.{Passed}
+use Rattle.writer.specs.Matching.{passedAt}
 use Rattle.writer.proofs.Lines.{tested-by, own-lines, own-columns, own-formed}
 use Rattle.writer.proofs.Matching.{fitsAt, Tests, tests-start, tests-by, row-fits, row-fails, tests-end}
+use Rattle.writer.proofs.Passing.{goes-on, stops}
 use Rattle.writer.proofs.fits.satellites.slot.Statement.{statement}
 use Rattle.writer.proofs.fits.satellites.slot.Tie as tie
 
@@ -27,7 +29,8 @@ lines id word columns = alone (λ _. columns) (satellitesIn 64 id word)
 
 abbrev Inv-loop : tie.InvT-loop
 Inv-loop id word chosen rows from own system left₀ marks₀ k₀ left marks k =
-    (left < 2 ^ 64) × (marks < 2 ^ 64) × Tests (chosenLines chosen (lines id word (columnsOf own))) rows from (chosenLines marks (lines id left (columnsOf own))) k
+    (left < 2 ^ 64) × (marks < 2 ^ 64) × Moved chosen (length (lines id word (columnsOf own))) (length (lines id left (columnsOf own))) marks
+    × Tests (chosenLines chosen (lines id word (columnsOf own))) rows from (chosenLines marks (lines id left (columnsOf own))) k
 
 abbrev μ-loop : tie.MeasureT-loop
 μ-loop id word chosen rows from own system left₀ marks₀ k₀ left marks k = left
@@ -83,26 +86,27 @@ all-lines c =
     let s = c .before in
     own-lines _ (columnsIn (s .args .s)) (s .args .id) 64 (s .args .word) (ap columnsOf (c .shape-in .ensures) ∙ own-columns (s .args .s) (s .pre .1) (s .args .id))
 
-told : (c : tie.After-shape-in Inv-loop μ-loop) {far : Matched} → let x = c .before .args in
-    far ≡ matchedAt (chosenLines (x .chosen) (lines (x .id) (x .word) (columnsOf (c .shape-in .result)))) (x .rows .now) (x .from)
-    → far ≡ matchedAt (chosenLines (x .chosen) (alone (columnsIn (x .s)) (satellitesIn 64 (x .id) (x .word)))) (x .rows .now) (x .from)
-told c e = let x = c .before .args in e ∙ ap (λ (groups : List (List Line)). matchedAt (chosenLines (x .chosen) groups) (x .rows .now) (x .from)) (all-lines c)
+told : (c : tie.After-shape-in Inv-loop μ-loop) {passed : Passed} → let x = c .before .args in
+    passed ≡ passedAt (x .chosen) (lines (x .id) (x .word) (columnsOf (c .shape-in .result))) (x .rows .now) (x .from)
+    → passed ≡ passedAt (x .chosen) (alone (columnsIn (x .s)) (satellitesIn 64 (x .id) (x .word))) (x .rows .now) (x .from)
+told c e = let x = c .before .args in e ∙ ap (λ (groups : List (List Line)). passedAt (x .chosen) groups (x .rows .now) (x .from)) (all-lines c)
 
 fails : tie.Need-returns Inv-loop μ-loop
 fails c =
     let t = c .before in
     let h = t .before .before in
     let p = h .before in
-    told (p .before .before) (row-fails (p .before .loop .inv .2) (line p) _ (chosen p _ refl (omega (arith, h .if1 .taken))) (t .fits2 .result) (tested t) (not-true _ (c .if2 .taken)))
+    told (p .before .before) (stops _ _ _ _ (row-fails (p .before .loop .inv .3) (line p) _ (chosen p _ refl (omega (arith, h .if1 .taken))) (t .fits2 .result) (tested t) (not-true _ (c .if2 .taken))))
 
 loop-again : tie.Need-loop-again Inv-loop μ-loop
 loop-again c =
     let p = c .before .before in
-    let w = p .before .loop .inv .2 in
+    let w = p .before .loop .inv .3 in
     let r = c .rest .result in
     let e = c .rest .ensures in (
       omega (arith, fewer p r e .fewer, p .before .loop .inv .0),
       mod-lt _ (omega arith),
+      moved-next _ (ap length (both p r e)) (p .before .loop .inv .2),
       ⊎-elim
           (λ t.
           let h : tie.After-fits2 Inv-loop μ-loop = record { before = record { before = record { before = p; if1 = t .0 }; first = t .1 }; fits2 = t .2 } in
@@ -113,12 +117,13 @@ loop-again c =
 pub slot-spec : {M : Type 1} → statement M
 slot-spec =
     tie.close
-    (tie.spec Inv-loop μ-loop (λ c κs. search needs) (λ c. search needs) (λ c. let s = c .before in (omega arith, omega arith, tests-start (s .pre .2))) (λ c κs. search needs)
+    (tie.spec Inv-loop μ-loop (λ c κs. search needs) (λ c. search needs) (λ c. let s = c .before in (omega arith, omega arith, moved-start (s .args .chosen) _ (omega arith), tests-start (s .pre .2))) (λ c κs. search needs)
     (λ c. omega (arith, near c)) (λ c. record { sfits = near c })
-    (λ c κs. let p = c .before .before in (p .before .loop .inv .2 .within, rw (p .before .before .shape-in .ensures) (own-formed (start p .args .s) (start p .pre .1) (id p) (start p .pre .0)))) fails
-    (λ c. let p = c .before .before .before .before in omega (arith, p .before .loop .inv .2 .within, start p .good .1 .1 .1 .1 .0 .0))
+    (λ c κs. let p = c .before .before in (p .before .loop .inv .3 .within, rw (p .before .before .shape-in .ensures) (own-formed (start p .args .s) (start p .pre .1) (id p) (start p .pre .0)))) fails
+    (λ c. let p = c .before .before .before .before in omega (arith, p .before .loop .inv .3 .within, start p .good .1 .1 .1 .1 .0 .0))
     (λ c κs. search needs) (λ c. fewer (c .before .before) _ (c .rest .ensures) .fewer) loop-again
     (λ c.
     let l = c .before .loop in
     let x = c .before .before .before .args in
-    told (c .before .before) (tests-end (l .inv .2) (ap (chosenLines (l .marks)) (alone-nil _ (none-in (x .id) (omega arith))) ∙ chosen-nil (l .marks)))))
+    let none = alone-nil _ (none-in (x .id) (omega arith)) in
+    told (c .before .before) (goes-on _ _ _ _ (tests-end (l .inv .3) (ap (chosenLines (l .marks)) none ∙ chosen-nil (l .marks))) (moved-end (ap length none) (l .inv .2)))))
