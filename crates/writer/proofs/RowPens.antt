@@ -1,5 +1,5 @@
 -- A row's two fields, pushed one after the other. Assumes nothing.
-use Rattle.bits.proofs.Words.{_≡_, refl, sym, ap, ap₂, subst, _∙_, Bool, true, false, not, List, [], _∷_, _++_, ℕ, _+_, _^_, _≤_, _<_, arith, length, take, drop, getD, ℤ, pos}
+use Rattle.bits.proofs.Words.{_≡_, refl, sym, ap, ap₂, subst, _∙_, Bool, true, false, not, List, [], _∷_, ℕ, _+_, _^_, _<_, arith, take, drop, getD, ℤ, pos}
 use mathlib.Core.Bool.{false≢true}
 use borrow.Author.Tests.{eqb-true}
 use lib.ListN.{length-drop}
@@ -8,14 +8,14 @@ use Rattle.bits.proofs.Lists.{elements, taken}
 use Rattle.bits.specs.BitLists.{number}
 use Rattle.bits.specs.Signed.{unsigned}
 use Rattle.format.proofs.Sames.{and-true}
-use Rattle.format.specs.Rows.{Column, widthOf, shapeWidth, spellValues}
+use Rattle.format.specs.Rows.{Column, shapeWidth, spellValues}
 use Rattle.rows.proofs.Columns.{width-of}
 use Rattle.rows.specs.declared.shape.Column.{Column as CodeColumn}
 use Rattle.rows.specs.declared.shape.Shape.{Shape}
-use Rattle.rows.specs.Shapes.{columnOf, columnsIn, FormedShape}
-use Rattle.writer.proofs.FirstColumns.{First, first-known}
-use Rattle.writer.proofs.Pens.{Inks, inks-start, inks-field, inks-pen, inks-ink, ready-first, no-field, joined-ink}
-use Rattle.writer.proofs.RowBits.{Joined, joined-one, joined-gap}
+use Rattle.rows.specs.Shapes.{columnOf}
+use Rattle.writer.proofs.FirstColumns.{First}
+use Rattle.writer.proofs.Pens.{Inks, inks-start, inks-field, ready-first, no-field, joined-ink}
+use Rattle.writer.proofs.RowBits.{joined-one}
 use Rattle.writer.proofs.RowFields.{together-small, first-fit, others-fit}
 use Rattle.writer.specs.declared.pen.Field.{Field}
 use Rattle.writer.specs.declared.pen.Pen.{Pen}

@@ -1,5 +1,5 @@
 -- `writer::row::four` meets its contract. Assumes nothing.
-use Rattle.bits.proofs.Words.{_≡_, sym, ap, _∙_, List, [], _∷_, ℕ, _+_, _≤_, arith, needs, getD, ℤ, pos}
+use Rattle.bits.proofs.Words.{sym, ap, _∙_, List, [], _∷_, ℕ, _+_, _≤_, arith, needs, getD, ℤ, pos}
 use Rattle.bits.specs.BitLists.{number}
 use Rattle.format.specs.Rows.{Column, shapeWidth, spellValues}
 use Rattle.rows.proofs.Columns.{width-of}

@@ -5,7 +5,7 @@ use Rattle.format.specs.Rows.{Column, shapeWidth, spellValues}
 use Rattle.rows.proofs.Columns.{width-of}
 use Rattle.rows.specs.Shapes.{columnOf}
 use Rattle.writer.proofs.FirstColumns.{First, first-known}
-use Rattle.writer.proofs.Pens.{Inks, inks-pen, inks-ink}
+use Rattle.writer.proofs.Pens.{inks-pen, inks-ink}
 use Rattle.writer.proofs.RowBits.{Joined, joined-one, joined-more, joined-gap, joined-room, FourFit, four-values, four-fit, value-read, fits-read}
 use Rattle.writer.proofs.RowPens.{Pair, pair-shape, four, front, front-fits, front-same, last-none, row-inks, push-ready, push-inks, pass-inks}
 use Rattle.writer.proofs.row.put_pair.Statement.{statement}
