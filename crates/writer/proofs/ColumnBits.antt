@@ -1,5 +1,5 @@
 -- A value that fits its column: its bits as code makes them, and that they are so many. Assumes nothing.
-use Rattle.bits.proofs.Words.{_≡_, refl, ap, _∙_, subst, true, false, ℕ, suc, _+_, _-_, _*_, _%_, _^_, _≤_, _<_, arith, ℤ, pos}
+use Rattle.bits.proofs.Words.{_≡_, refl, _∙_, subst, true, ℕ, suc, _+_, _-_, _*_, _^_, _≤_, _<_, arith, ℤ, pos}
 use mathlib.Core.Bool.{false≢true}
 use native.Mathlib.Nat.{add-zero, mod-eq-of-lt, add-mod-right}
 use borrow.Author.Tests.{ltb-true, leb-true, le-ltb}

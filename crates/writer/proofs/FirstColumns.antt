@@ -1,12 +1,11 @@
 -- The first column of a row's own system. Assumes nothing.
-use Rattle.bits.proofs.Words.{_≡_, refl, ap, _∙_, Bool, true, false, cond, List, [], _∷_, ℕ, _+_, _≤_, arith, getD, ℤ, pos}
-use mathlib.Core.Logic.{_⊎_, inl, inr}
+use Rattle.bits.proofs.Words.{_≡_, refl, ap, Bool, true, false, cond, List, [], _∷_, ℕ, _+_, _≤_, arith, getD, ℤ, pos}
 use borrow.Author.Tests.{ne-eqb}
 use lib.IntN.{negsuc}
 use mir.Syntax.{w32}
 use mir.Val.{SFits, ofZ}
 use Rattle.format.specs.Messages.{iodeWidth}
-use Rattle.format.specs.Rows.{Column, plain}
+use Rattle.format.specs.Rows.{plain}
 use Rattle.rows.proofs.Columns.{fine-plain, formed-for, column-back}
 use Rattle.rows.proofs.Laid.{iode-some}
 use Rattle.rows.specs.declared.shape.Column.{Column as CodeColumn}

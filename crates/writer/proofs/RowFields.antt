@@ -1,5 +1,5 @@
 -- The fields of rows that fit: their bits are what the rows spell, and each is fine for a pen. Assumes nothing.
-use Rattle.bits.proofs.Words.{_≡_, refl, sym, ap, ap₂, subst, _∙_, Bool, true, false, cond, List, [], _∷_, _++_, ℕ, zero, suc, _+_, _^_, _≤_, _<_, arith, length, take, drop, ℤ}
+use Rattle.bits.proofs.Words.{_≡_, refl, sym, ap, ap₂, subst, _∙_, Bool, true, false, cond, List, [], _∷_, _++_, ℕ, zero, suc, _^_, _≤_, _<_, arith, take, drop, ℤ}
 use mathlib.Core.Bool.{false≢true}
 use mathlib.Core.List.{append-assoc, append-nil}
 use Rattle.bits.proofs.BitLists.{number-lt, spell-number}
@@ -16,10 +16,9 @@ use Rattle.rows.specs.declared.shape.Shape.{Shape}
 use Rattle.rows.specs.Shapes.{columnOf, columnsIn, FormedShape}
 use Rattle.writer.proofs.FitRows.{fit-width}
 use Rattle.writer.proofs.Pens.{spell-fields-append, fines-append}
-use Rattle.writer.specs.declared.pen.Field.{Field}
 use Rattle.writer.specs.Fits.{columnFits, valuesFit, rowFits, rowsFit}
 use Rattle.writer.specs.Pens as Pens
-use Rattle.writer.specs.Pens.{spellFields, Fine, Fines}
+use Rattle.writer.specs.Pens.{spellFields, Fines}
 use Rattle.writer.specs.Putting.{systemOf, rowSystem, rowColumns, together, twoFields, fieldsOf, rowFields, Fitting, none, more, Shaped, shaped-none, shaped-more}
 
 -- ---- values in their columns, as one field

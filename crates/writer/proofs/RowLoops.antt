@@ -1,5 +1,5 @@
 -- A loop that puts rows: what stands after some of them. Assumes nothing.
-use Rattle.bits.proofs.Words.{_≡_, refl, sym, ap, subst, _∙_, true, List, [], _∷_, _++_, ℕ, zero, suc, _+_, _-_, _*_, _≤_, _<_, arith, length, take, drop, ℤ}
+use Rattle.bits.proofs.Words.{_≡_, sym, ap, _∙_, true, List, [], _∷_, _++_, ℕ, suc, _+_, _-_, _*_, _≤_, _<_, arith, length, take, drop, ℤ}
 use native.Mathlib.Nat.{sub-zero}
 use lib.ListN.{length-drop}
 use lib.Seq.{drop-drop, length-take-le}
@@ -7,11 +7,10 @@ use Rattle.format.specs.Writing.{rowsIn}
 use Rattle.rows.specs.declared.shape.Shape.{Shape}
 use Rattle.rows.specs.Shapes.{FormedShape}
 use Rattle.writer.proofs.Pens.{Inks, inks-start, inks-call, inks-pen, inks-ink, ready-first}
-use Rattle.writer.specs.declared.pen.Field.{Field}
 use Rattle.writer.specs.declared.pen.Pen.{Pen}
 use Rattle.writer.specs.Fits.{valuesFit}
-use Rattle.writer.specs.Pens.{penAfter, inkAfter, Ready}
-use Rattle.writer.specs.Putting.{rowColumns, fieldsOf, rowFields, Fitting, none, more, PutsRow, PutsRows}
+use Rattle.writer.specs.Pens.{penAfter, inkAfter}
+use Rattle.writer.specs.Putting.{rowColumns, fieldsOf, rowFields, Fitting, more, PutsRow, PutsRows}
 
 -- ---- the rows from the i-th on
 

@@ -1,5 +1,5 @@
 -- A row's two fields, pushed one after the other. Assumes nothing.
-use Rattle.bits.proofs.Words.{_≡_, refl, sym, ap, ap₂, subst, _∙_, Bool, true, false, not, List, [], _∷_, _++_, ℕ, _+_, _^_, _≤_, _<_, arith, length, take, drop, getD, ℤ, pos}
+use Rattle.bits.proofs.Words.{_≡_, refl, sym, ap, ap₂, subst, _∙_, Bool, true, false, not, List, [], _∷_, ℕ, _+_, _^_, _<_, arith, take, drop, getD, ℤ, pos}
 use mathlib.Core.Bool.{false≢true}
 use borrow.Author.Tests.{eqb-true}
 use lib.ListN.{length-drop}
@@ -8,20 +8,20 @@ use Rattle.bits.proofs.Lists.{elements, taken}
 use Rattle.bits.specs.BitLists.{number}
 use Rattle.bits.specs.Signed.{unsigned}
 use Rattle.format.proofs.Sames.{and-true}
-use Rattle.format.specs.Rows.{Column, widthOf, shapeWidth, spellValues}
+use Rattle.format.specs.Rows.{Column, shapeWidth, spellValues}
 use Rattle.rows.proofs.Columns.{width-of}
 use Rattle.rows.specs.declared.shape.Column.{Column as CodeColumn}
 use Rattle.rows.specs.declared.shape.Shape.{Shape}
-use Rattle.rows.specs.Shapes.{columnOf, columnsIn, FormedShape}
-use Rattle.writer.proofs.FirstColumns.{First, first-known}
-use Rattle.writer.proofs.Pens.{Inks, inks-start, inks-field, inks-pen, inks-ink, ready-first, no-field, joined-ink}
-use Rattle.writer.proofs.RowBits.{Joined, joined-one, joined-gap}
+use Rattle.rows.specs.Shapes.{columnOf}
+use Rattle.writer.proofs.FirstColumns.{First}
+use Rattle.writer.proofs.Pens.{Inks, inks-start, inks-field, ready-first, no-field, joined-ink}
+use Rattle.writer.proofs.RowBits.{joined-one}
 use Rattle.writer.proofs.RowFields.{together-small, first-fit, others-fit}
 use Rattle.writer.specs.declared.pen.Field.{Field}
 use Rattle.writer.specs.declared.pen.Pen.{Pen}
 use Rattle.writer.specs.Fits.{columnFits, valuesFit}
 use Rattle.writer.specs.Pens.{pushed, inkedBy, Ready}
-use Rattle.writer.specs.Putting.{rowSystem, rowColumns, together, twoFields, fieldsOf, PutsRow, pairs}
+use Rattle.writer.specs.Putting.{rowSystem, rowColumns, together, twoFields, fieldsOf, fourColumns, PutsRow, pairs}
 
 -- ---- a field that code has in hand, of those that are left
 
@@ -44,10 +44,7 @@ module _ {p₀ : Pen} {all : List Field} {bytes₀ : List ℕ} {p : Pen} {next :
 -- ---- the fields of a row, as code makes them
 
 module _ {s : Shape} {row : List ℤ} {pen : Pen} {bytes : List ℕ} (puts : PutsRow s row pen bytes) {first : CodeColumn} (known : First s (rowSystem row) first) where
-  abbrev pub four : List Column
-  four = columnOf first ∷ columnOf (s .v2) ∷ columnOf (s .v3) ∷ columnOf (s .v4) ∷ []
-
-  pub front-fits : valuesFit four (take 4 (drop 3 row)) ≡ true
+  pub front-fits : valuesFit (fourColumns first s) (take 4 (drop 3 row)) ≡ true
   front-fits = rw (known .columns) at (first-fit 4 (rowColumns s row) (drop 3 row) (puts .fits))
 
   last-value : drop 4 (drop 3 row) ≡ getD row 7 (pos 0) ∷ []
@@ -66,11 +63,11 @@ module _ {s : Shape} {row : List ℤ} {pen : Pen} {bytes : List ℕ} (puts : Put
   abbrev pub last : Field
   last = together (drop 4 (rowColumns s row)) (drop 4 (drop 3 row))
 
-  pub front-same : {w v : ℕ} → w ≡ first .width + (s .v2 .width + s .v3 .width + s .v4 .width) → v ≡ number (spellValues four (take 4 (drop 3 row)))
+  pub front-same : {w v : ℕ} → w ≡ first .width + (s .v2 .width + s .v3 .width + s .v4 .width) → v ≡ number (spellValues (fourColumns first s) (take 4 (drop 3 row)))
       → record { width = w; value = v } ≡ front
   unfolding together shapeWidth
   front-same wide spelled =
-      let sum : shapeWidth four ≡ first .width + (s .v2 .width + s .v3 .width + s .v4 .width) =
+      let sum : shapeWidth (fourColumns first s) ≡ first .width + (s .v2 .width + s .v3 .width + s .v4 .width) =
       omega (arith, width-of first, width-of (s .v2), width-of (s .v3), width-of (s .v4)) in
       rw (known .columns) (λ i. record { width = (wide ∙ sym sum) i; value = spelled i })
 

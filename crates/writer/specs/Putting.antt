@@ -9,8 +9,9 @@ use lib.ListN.{length, take, drop}
 use Rattle.bits.specs.BitLists.{number}
 use Rattle.format.specs.Rows.{Column, Line, shapeWidth, spellValues}
 use Rattle.format.specs.Writing.{rowsIn}
+use Rattle.rows.specs.declared.shape.Column.{Column as CodeColumn}
 use Rattle.rows.specs.declared.shape.Shape.{Shape}
-use Rattle.rows.specs.Shapes.{columnsIn, FormedShape}
+use Rattle.rows.specs.Shapes.{columnOf, columnsIn, Formed, FormedShape}
 use Rattle.writer.specs.declared.pen.Field.{Field}
 use Rattle.writer.specs.declared.pen.Pen.{Pen}
 use Rattle.writer.specs.Fits.{valuesFit}
@@ -59,6 +60,17 @@ pub record PutsRow (s : Shape) (row : List ℤ) (pen : Pen) (bytes : List ℕ) :
   pub eight : length row ≡ 8
   pub fits : valuesFit (rowColumns s row) (drop 3 row) ≡ true
   pub ready : Ready pen (fieldsOf s row) bytes
+
+-- the first four columns of a row, the first of them by its system
+abbrev pub fourColumns : CodeColumn → Shape → List Column
+fourColumns first s = columnOf first ∷ columnOf (s .v2) ∷ columnOf (s .v3) ∷ columnOf (s .v4) ∷ []
+
+pub record PutsFour (first : CodeColumn) (s : Shape) (row : List ℤ) : Type 0 where
+  pub formed : FormedShape s
+  pub begins : Formed first
+  pub narrow : first .width + s .v2 .width + s .v3 .width + s .v4 .width ≤ 56
+  pub eight : length row ≡ 8
+  pub fits : valuesFit (fourColumns first s) (take 4 (drop 3 row)) ≡ true
 
 -- so many rows of a row buffer
 pub record PutsRows (s : Shape) (rows : List ℤ) (count : ℕ) (pen : Pen) (bytes : List ℕ) : Type 0 where

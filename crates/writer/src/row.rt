@@ -2,18 +2,17 @@
 // first four of them in one field.
 ghost use mathlib.Core.Path.{_≡_};
 ghost use mathlib.Core.Bool.{true, cond};
-ghost use mathlib.Core.List.{[], _∷_};
-ghost use Prim.Native.Nat.{_+_, _-_, _*_, _^_, _≤_, _<_};
-ghost use lib.ListN.{length, take, drop};
+ghost use Prim.Native.Nat.{_+_, _-_, _*_, _^_, _<_};
+ghost use lib.ListN.{take, drop};
 ghost use Rattle.bits.specs.BitLists.{number};
 ghost use Rattle.bits.specs.Signed.{unsigned};
 ghost use Rattle.format.specs.Messages.{iodeWidth};
 ghost use Rattle.format.specs.Rows.{plain, spellValues};
 ghost use Rattle.format.specs.Writing.{rowsIn};
 ghost use Rattle.rows.specs.Shapes.{columnFor, columnOf, Formed, FormedShape};
-ghost use Rattle.writer.specs.Fits.{columnFits, valuesFit};
+ghost use Rattle.writer.specs.Fits.{columnFits};
 ghost use Rattle.writer.specs.Pens.{penAfter, inkAfter};
-ghost use Rattle.writer.specs.Putting.{systemOf, fieldsOf, rowFields, PutsRow, PutsRows, pairs};
+ghost use Rattle.writer.specs.Putting.{systemOf, fieldsOf, rowFields, fourColumns, PutsFour, PutsRow, PutsRows, pairs};
 use crate::column::column_bits;
 use crate::pen::Field;
 use crate::pen::Pen;
@@ -51,8 +50,8 @@ fn with(bits: u64, v: i32, c: Column) -> u64
 
 // The first four values of a row, together.
 fn four(row: &[i32], first: Column, s: Shape) -> u64
-    requires { ⌜ (length (now row) ≡ 8) × Formed first × FormedShape s × (first .width + s .v2 .width + s .v3 .width + s .v4 .width ≤ 56) × (valuesFit (columnOf first ∷ columnOf (s .v2) ∷ columnOf (s .v3) ∷ columnOf (s .v4) ∷ []) (take 4 (drop 3 (now row))) ≡ true) ⌝ }
-    ensures { λ r. ⌜ r ≡ number (spellValues (columnOf first ∷ columnOf (s .v2) ∷ columnOf (s .v3) ∷ columnOf (s .v4) ∷ []) (take 4 (drop 3 (now (row .entry))))) ⌝ }
+    requires { ⌜ PutsFour first s (now row) ⌝ }
+    ensures { λ r. ⌜ r ≡ number (spellValues (fourColumns first s) (take 4 (drop 3 (now (row .entry))))) ⌝ }
 {
     let v1 = column_bits(row[3], first);
     let v2 = with(v1, row[4], s.v2);

@@ -1,6 +1,6 @@
 -- `writer::column::column_bits` meets its contract. Assumes nothing.
-use Rattle.bits.proofs.Words.{_≡_, _+_, _^_, _<_, arith, pos}
-use lib.Bits.{and-le-r}
+use Rattle.bits.proofs.Words.{_≡_, ℕ, _+_, _^_, _<_, arith, pos}
+use lib.Bits.{bitAnd, and-le-l}
 use lib.IntN.{_+ℤ_}
 use mir.Facts.{toZ-ofZ, toZ-pos}
 use mir.Syntax.{w32}
@@ -25,6 +25,10 @@ module _ (s : tie.Start) where
   low : raised (s .args .c .half) (s .args .v) < 2 ^ 31
   low = omega (arith, known .low)
 
+  -- and so is what a mask leaves of it
+  masked-small : (mask : ℕ) → bitAnd (raised (s .args .c .half) (s .args .v) + s .args .c .half) mask < 2 ^ 64
+  masked-small mask = let h = s .args .c .half in omega (arith, low, half-small, and-le-l (raised h (s .args .v) + h) mask)
+
 cast-raised-2 : tie.Need-cast-raised-2
 cast-raised-2 c = let s = c .before in rw (sum s, toZ-pos w32 (low s)) (tt, omega (arith, low s))
 
@@ -32,10 +36,7 @@ add-result : tie.Need-add-result
 add-result c = let s = c .before .before in rw (sum s, toZ-pos w32 (low s)) (record { fits = omega (arith, low s, half-small s) })
 
 cast-result : tie.Need-cast-result
-cast-result c =
-    let s = c .before .before .before in
-    let h = s .args .c .half in
-    rw (sum s, toZ-pos w32 (low s)) (record { fits = omega (arith, bounded (s .args .c) (s .pre .0) .mask, and-le-r (raised h (s .args .v) + h) (s .args .c .mask)) })
+cast-result c = let s = c .before .before .before in rw (sum s, toZ-pos w32 (low s)) (record { fits = masked-small s _ })
 
 returns : tie.Need-returns
 returns c = let s = c .before .before .before in rw (sum s, toZ-pos w32 (low s)) (known s .bits)

@@ -1,5 +1,5 @@
 -- `writer::row::four` meets its contract. Assumes nothing.
-use Rattle.bits.proofs.Words.{_≡_, sym, ap, _∙_, List, [], _∷_, ℕ, _+_, _≤_, arith, needs, getD, ℤ, pos}
+use Rattle.bits.proofs.Words.{sym, ap, _∙_, List, [], _∷_, ℕ, _+_, _≤_, arith, needs, getD, ℤ, pos}
 use Rattle.bits.specs.BitLists.{number}
 use Rattle.format.specs.Rows.{Column, shapeWidth, spellValues}
 use Rattle.rows.proofs.Columns.{width-of}
@@ -26,20 +26,20 @@ module _ (s : tie.Start) where
   at k = getD (s .args .row .now) k (pos 0)
 
   each : FourFit first second third fourth (at 3) (at 4) (at 5) (at 6)
-  each = four-fit (s .args .row .now) (s .pre .0) first second third fourth (s .pre .4)
+  each = four-fit (s .args .row .now) (s .pre .eight) first second third fourth (s .pre .fits)
 
   -- room for the next column
   room-2 : shapeWidth (first ∷ []) + s .args .s .v2 .width ≤ 56
   unfolding shapeWidth
-  room-2 = omega (arith, s .pre .3, width-of (s .args .first))
+  room-2 = omega (arith, s .pre .narrow, width-of (s .args .first))
 
   room-3 : shapeWidth (first ∷ second ∷ []) + s .args .s .v3 .width ≤ 56
   unfolding shapeWidth
-  room-3 = omega (arith, s .pre .3, width-of (s .args .first), width-of (s .args .s .v2))
+  room-3 = omega (arith, s .pre .narrow, width-of (s .args .first), width-of (s .args .s .v2))
 
   room-4 : shapeWidth (first ∷ second ∷ third ∷ []) + s .args .s .v4 .width ≤ 56
   unfolding shapeWidth
-  room-4 = omega (arith, s .pre .3, width-of (s .args .first), width-of (s .args .s .v2), width-of (s .args .s .v3))
+  room-4 = omega (arith, s .pre .narrow, width-of (s .args .first), width-of (s .args .s .v2), width-of (s .args .s .v3))
 
 -- ---- one value after the other
 
@@ -62,15 +62,15 @@ returns : tie.Need-returns
 returns c =
     let s = c .before .before .before .before .before .before .before .before in
     let all = joined-more (three (c .before .before)) (s .args .s .v4) (at s 6) (each s .fourth) (rw (value-read (at s 6) (c .before .with-arg3 .given)) at (c .with3 .ensures)) in
-    all .spelled ∙ ap (λ (l : List ℤ). number (spellValues (first s ∷ second s ∷ third s ∷ fourth s ∷ []) l)) (sym (four-values (s .args .row .now) (s .pre .0)))
+    all .spelled ∙ ap (λ (l : List ℤ). number (spellValues (first s ∷ second s ∷ third s ∷ fourth s ∷ []) l)) (sym (four-values (s .args .row .now) (s .pre .eight)))
 
 pub four-spec : {M : Type 1} → statement M
 four-spec =
     tie.close
-    (tie.spec (λ c. search needs) (λ c κs. let s = c .before in (s .pre .1, fits-read (at s 3) (c .column-bits-arg .given) (first s) (each s .first))) (λ c. search needs)
-    (λ c κs. let s = c .before .before .before in (joined-room (one (c .before)) (s .args .s .v2 .width) (room-2 s), s .pre .2 .second, fits-read (at s 4) (c .with-arg .given) (second s) (each s .second)))
+    (tie.spec (λ c. search needs) (λ c κs. let s = c .before in (s .pre .begins, fits-read (at s 3) (c .column-bits-arg .given) (first s) (each s .first))) (λ c. search needs)
+    (λ c κs. let s = c .before .before .before in (joined-room (one (c .before)) (s .args .s .v2 .width) (room-2 s), s .pre .formed .second, fits-read (at s 4) (c .with-arg .given) (second s) (each s .second)))
     (λ c. search needs)
-    (λ c κs. let s = c .before .before .before .before .before in (joined-room (two (c .before)) (s .args .s .v3 .width) (room-3 s), s .pre .2 .third, fits-read (at s 5) (c .with-arg2 .given) (third s) (each s .third)))
+    (λ c κs. let s = c .before .before .before .before .before in (joined-room (two (c .before)) (s .args .s .v3 .width) (room-3 s), s .pre .formed .third, fits-read (at s 5) (c .with-arg2 .given) (third s) (each s .third)))
     (λ c. search needs)
-    (λ c κs. let s = c .before .before .before .before .before .before .before in (joined-room (three (c .before)) (s .args .s .v4 .width) (room-4 s), s .pre .2 .fourth, fits-read (at s 6) (c .with-arg3 .given) (fourth s) (each s .fourth)))
+    (λ c κs. let s = c .before .before .before .before .before .before .before in (joined-room (three (c .before)) (s .args .s .v4 .width) (room-4 s), s .pre .formed .fourth, fits-read (at s 6) (c .with-arg3 .given) (fourth s) (each s .fourth)))
     returns)

@@ -5,13 +5,13 @@ use Rattle.format.specs.Rows.{Column, shapeWidth, spellValues}
 use Rattle.rows.proofs.Columns.{width-of}
 use Rattle.rows.specs.Shapes.{columnOf}
 use Rattle.writer.proofs.FirstColumns.{First, first-known}
-use Rattle.writer.proofs.Pens.{Inks, inks-pen, inks-ink}
+use Rattle.writer.proofs.Pens.{inks-pen, inks-ink}
 use Rattle.writer.proofs.RowBits.{Joined, joined-one, joined-more, joined-gap, joined-room, FourFit, four-values, four-fit, value-read, fits-read}
-use Rattle.writer.proofs.RowPens.{Pair, pair-shape, four, front, front-fits, front-same, last-none, row-inks, push-ready, push-inks, pass-inks}
+use Rattle.writer.proofs.RowPens.{Pair, pair-shape, front, front-fits, front-same, last-none, row-inks, push-ready, push-inks, pass-inks}
 use Rattle.writer.proofs.row.put_pair.Statement.{statement}
 use Rattle.writer.proofs.row.put_pair.Tie as tie
 use Rattle.writer.specs.declared.pen.Field.{Field}
-use Rattle.writer.specs.Putting.{rowSystem}
+use Rattle.writer.specs.Putting.{rowSystem, fourColumns}
 
 module _ (s : tie.Start) where
   pair : Pair (s .args .s)
@@ -50,7 +50,7 @@ module _ (c : tie.After-with) where
   both : Joined (first start ∷ second start ∷ []) (at start 3 ∷ at start 4 ∷ []) (c .with .result)
   both = joined-more (one (c .before .before)) (start .args .s .v2) (at start 4) (each start .second) (rw (value-read (at start 4) (c .before .with-arg .given)) at (c .with .ensures))
 
-  all : Joined (four (start .pre .1) (known start)) (at start 3 ∷ at start 4 ∷ at start 5 ∷ at start 6 ∷ []) (c .with .result)
+  all : Joined (fourColumns (start .args .s .v1) (start .args .s)) (at start 3 ∷ at start 4 ∷ at start 5 ∷ at start 6 ∷ []) (c .with .result)
   all =
       joined-gap (joined-gap both (start .args .s .v3) (at start 5) (each start .third) (pair start .third)) (start .args .s .v4) (at start 6) (each start .fourth) (pair start .fourth)
 
@@ -60,7 +60,7 @@ module _ (c : tie.After-with) where
   same : field ≡ front (start .pre .1) (known start)
   same =
       front-same (start .pre .1) (known start) (omega (arith, pair start .third, pair start .fourth))
-      (all .spelled ∙ ap (λ (l : List ℤ). number (spellValues (four (start .pre .1) (known start)) l)) (sym (four-values (start .args .row .now) (start .pre .1 .eight))))
+      (all .spelled ∙ ap (λ (l : List ℤ). number (spellValues (fourColumns (start .args .s .v1) (start .args .s)) l)) (sym (four-values (start .args .row .now) (start .pre .1 .eight))))
 
 returns : tie.Need-returns
 returns c =

@@ -78,7 +78,7 @@ put-wide-spec =
     tie.close
     (tie.spec (λ c. search needs) (λ c κs. search needs) (λ c. search needs) (λ c. search needs)
     (λ c. let f = c .before .before .before in record { fits = omega (arith, known f .room) })
-    (λ c κs. let f = c .before .before .before in (s f .pre .eight, known f .formed, s f .pre .formed, known f .room, front-fits (s f .pre) (known f)))
+    (λ c κs. let f = c .before .before .before in record { formed = s f .pre .formed; begins = known f .formed; narrow = known f .room; eight = s f .pre .eight; fits = front-fits (s f .pre) (known f) })
     (λ c κs. push-ready (row-inks (s (f (c .before)) .pre) (known (f (c .before)))) (same (c .before))) (λ c. search needs) returns (λ c. search needs)
     (λ c κs. let b = before (c .before .before .before .before .before) in (s b .pre .formed .fifth, fits-read (at b 7) (c .column-bits-arg .given) (columnOf (s b .args .s .v5)) (last-fits (s b .pre) (known b))))
     (λ c κs. push-ready (pushed (p (c .before))) (last-field (c .before))) (λ c. search needs) returns-2)
