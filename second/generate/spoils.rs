@@ -33,7 +33,7 @@ const fn combined(edit: fn(&mut Random, &mut Writing)) -> Spoil {
 }
 
 /// A kind with its name and how often it comes.
-type Kind = (&'static str, usize, Spoil);
+pub type Kind = (&'static str, usize, Spoil);
 
 pub const SPOILS: [Kind; 30] = [
     ("good", 60, any(|_, _| {})),

@@ -28,12 +28,12 @@ pub struct Writing {
 
 /// A kind of buffer: its name, how often it comes, and its bytes and the start
 /// for a message of so many bits.
-type Room = (&'static str, usize, fn(&mut Random, usize) -> (usize, usize));
+pub type Room = (&'static str, usize, fn(&mut Random, usize) -> (usize, usize));
 
 /// Bytes with which 50,850 is the limit, and not their end.
 const LONG: usize = (STRETCH_BITS + 7) / 8;
 
-const ROOMS: [Room; 13] = [
+pub const ROOMS: [Room; 13] = [
     ("room to spare", 50, |random, length| {
         let start = random.below(64);
         (bytes_for(start + length) + random.below(9), start)
