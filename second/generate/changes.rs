@@ -208,8 +208,8 @@ fn of_numbers(drawn: &Drawn) -> Vec<Change> {
             changes.push(splice(name, Part::Rows, at, vec![number], drawn.rows.len()));
         };
         for (column, &key) in row[..3].iter().enumerate() {
-            let others = if key == ABSENT { [0, 1, ABSENT + 1] } else { [key - 1, key + 1, ABSENT] };
-            for number in others {
+            let none = [0, 1, ABSENT + 1];
+            for number in if key == ABSENT { none } else { [key - 1, key + 1, ABSENT] } {
                 change(column, row_name(drawn, "key"), number);
             }
         }

@@ -46,17 +46,17 @@ pub fn by_hand(group: &mut Group) {
     let holding = listing_holding();
     let mut bytes = vec![0; stretch.len()];
     let mask_head = [1, 100, 5, 0, 3, 1];
-    let both = [write(&holding, &mask_head, &[], 0, &mut bytes, 0), {
-        write(&holding, &HEAD[..5], &ROWS, 2, &mut bytes, 114)
-    }];
-    group.same("the worked listing's messages", both, [done(114, 114), done(181, 67)]);
+    let mask = write(&holding, &mask_head, &[], 0, &mut bytes, 0);
+    let clock = write(&holding, &HEAD[..5], &ROWS, 2, &mut bytes, 114);
+    group.same("the worked listing's messages", [mask, clock], [done(114, 114), done(181, 67)]);
     group.same("the worked listing", bytes, stretch);
     let long: Vec<i32> = HEAD.iter().chain(&[0, 7, 0]).copied().collect();
     let longer = [&holding[..], &[1]].concat();
     let at = |holding: &[u8], head: &[i32], numbers: &[i32], rows, start| {
         write(holding, head, numbers, rows, &mut [0; 9], start)
     };
-    group.same("longer slices", at(&longer, &long, &[&ROWS[..], &[9]].concat(), 2, 5), done(72, 67));
+    let numbers = [&ROWS[..], &[9]].concat();
+    group.same("longer slices", at(&longer, &long, &numbers, 2, 5), done(72, 67));
     group.same("1", at(&holding, &HEAD, &ROWS, 2, 6), refused(1, 6));
     group.same("2", at(&holding, &HEAD, &ROWS, 2, usize::MAX), refused(2, usize::MAX));
     group.same("12: 193 bytes", at(&holding[..193], &HEAD, &ROWS, 2, 5), refused(12, 5));
