@@ -107,8 +107,8 @@ static void compare_write(const hundurzek_done *want) {
   hundurzek_done *got = lend_result(sizeof *got);
   now.end = 8 * target.count;
   const void *out =
-      hundurzek_write(got, content(holding.got), holding.count, numbers(head.got), head.count / 4, numbers(rows.got),
-                      rows.count / 4, counted, content(target.got), target.count, now.place);
+      hundurzek_write(got, content(holding.got), lent.holding, numbers(head.got), lent.head, numbers(rows.got),
+                      lent.rows, counted, content(target.got), target.count, now.place);
   compare_done(got, out, want);
   compare_lent();
 }
@@ -165,6 +165,7 @@ static void compare_change(kind *k, uint64_t place, unsigned long call) {
     splice(&rows, &base_rows);
   else
     splice(&head, &base_head);
+  lend_all();
   counted = number(8);
   hundurzek_done want = take_written();
   count_answer(k, changes, CHANGED, want.answer);
@@ -243,6 +244,7 @@ static void compare_round(kind *k) {
   size_t room = number(4);
   uint64_t seed = number(8);
   lend_head(&message.head);
+  lend_all();
   counted = message.rows;
   write_back(start, &message, start, stretch.count, seed);
   write_back(start, &message, place, room, seed);

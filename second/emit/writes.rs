@@ -3,11 +3,15 @@
 //! Record of kind `write` (random writes): lent
 //!   u8        number n of letters
 //!   n bytes   family of the case: names parted by commas, for counts and reports
-//!   u16       number n of bytes
+//!   u16       number of bytes lent
+//!   u16       number n of bytes, not less; those past the ones lent lie behind
+//!             them in memory and must not count
 //!   n bytes   holding, as docs/HOST.md encodes it, or nonsense
-//!   u16       number n of numbers
+//!   u16       number of numbers lent
+//!   u16       number n of numbers, likewise
 //!   n x i32   head
-//!   u32       number n of numbers
+//!   u32       number of numbers lent
+//!   u32       number n of numbers, likewise
 //!   n x i32   rows, and numbers past them
 //!   u64       rows counted
 //!   u32       number of bytes to write into
@@ -22,7 +26,7 @@
 //!             written. All others are as they were
 //!
 //! Record of kind `changes` (every single change of a good case): lent and
-//! expected as above, the family being `unchanged`; then
+//! expected as above, the family being `unchanged`, and all of it lent; then
 //!   u32       number n of changes, each made to the case as it is above
 //!   n times:
 //!     u8      number n of letters
@@ -108,15 +112,22 @@ pub fn answer(case: &Writing) -> (Written, Vec<u8>) {
 
 fn put_lent(record: &mut Vec<u8>, case: &Writing) {
     put_counted(record, case.family.as_bytes(), 1);
-    put_counted(record, &case.holding, 2);
-    put(record, case.head.len() as u64, 2);
-    put_numbers(record, &case.head);
-    put(record, case.numbers.len() as u64, 4);
-    put_numbers(record, &case.numbers);
+    put(record, case.holding.len() as u64, 2);
+    put_counted(record, &[&case.holding[..], &case.behind.holding].concat(), 2);
+    put_slice(record, &case.head, &case.behind.head, 2);
+    put_slice(record, &case.numbers, &case.behind.numbers, 4);
     put(record, case.rows as u64, 8);
     put(record, case.room as u64, 4);
     put(record, case.fill, 8);
     put(record, case.start as u64, 8);
+}
+
+/// Numbers lent and those behind them, after how many are lent and are there.
+fn put_slice(record: &mut Vec<u8>, lent: &[i32], behind: &[i32], width: usize) {
+    put(record, lent.len() as u64, width);
+    put(record, (lent.len() + behind.len()) as u64, width);
+    put_numbers(record, lent);
+    put_numbers(record, behind);
 }
 
 fn put_expected(record: &mut Vec<u8>, answers: &mut Answers, case: &Writing) {

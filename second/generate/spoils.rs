@@ -63,7 +63,7 @@ pub const SPOILS: [Kind; 30] = [
     ("network and something earlier", 6, combined(network_and_earlier)),
     ("shorter head", 4, any(|random, case| {
         let length = random.below(COLUMNS);
-        case.head.truncate(length);
+        case.cut_head(length);
     })),
     ("longer head", 4, any(|random, case| {
         let further = 1 + random.below(9);
@@ -92,7 +92,9 @@ fn stray(random: &mut Random, case: &mut Writing) {
     put_holding(case, &Holding::Held(masks::named(random)));
     case.holding.truncate(HOLDING_BYTES);
     if case.holding.len() == HOLDING_BYTES {
+        let whole = case.holding.clone();
         stray(random, &mut case.holding);
+        case.behind.holding = whole[case.holding.len()..].to_vec();
     }
 }
 
@@ -165,7 +167,7 @@ fn fewer_lent(random: &mut Random, case: &mut Writing) {
     if counted > 0 {
         let some = 1 + random.below(counted);
         let lost = random.pick(&[1, 1, COLUMNS, some]);
-        case.numbers.truncate(counted.saturating_sub(lost));
+        case.cut_numbers(counted.saturating_sub(lost));
     }
 }
 

@@ -24,6 +24,16 @@ pub struct Writing {
     pub room: usize,
     pub fill: u64,
     pub start: usize,
+    pub behind: Behind,
+}
+
+/// What lies in memory right behind the holding, head and numbers lent: the rest
+/// of what was cut, so that whoever goes on there finds something good.
+#[derive(Clone, Default)]
+pub struct Behind {
+    pub holding: Vec<u8>,
+    pub head: Vec<i32>,
+    pub numbers: Vec<i32>,
 }
 
 /// A kind of buffer: its name, how often it comes, and its bytes and the start
@@ -139,6 +149,15 @@ pub fn plain(mask: &Mask, drawn: &Drawn, room: usize, start: usize) -> Writing {
         room,
         fill: 1,
         start,
+        behind: Behind::default(),
+    }
+}
+
+/// What is cut lies right behind what is left.
+fn cut(lent: &mut Vec<i32>, behind: &mut Vec<i32>, count: usize) {
+    if count < lent.len() {
+        let rest = lent.split_off(count);
+        behind.splice(0..0, rest);
     }
 }
 
@@ -146,5 +165,14 @@ impl Writing {
     /// The numbers of the rows counted, as many as are lent.
     pub fn counted(&self) -> usize {
         self.numbers.len().min(self.rows.saturating_mul(COLUMNS))
+    }
+
+    /// Lends only so many numbers of the head, or of the rows.
+    pub fn cut_head(&mut self, count: usize) {
+        cut(&mut self.head, &mut self.behind.head, count);
+    }
+
+    pub fn cut_numbers(&mut self, count: usize) {
+        cut(&mut self.numbers, &mut self.behind.numbers, count);
     }
 }

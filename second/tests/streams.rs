@@ -142,8 +142,11 @@ fn skip_text(left: &mut &[u8]) -> Option<()> {
 /// Steps over a write; its start.
 fn skip_writing(left: &mut &[u8]) -> Option<u64> {
     skip_counted(left, 1)?;
+    skip(left, 2)?;
     skip_counted(left, 2)?;
+    skip(left, 2)?;
     skip_numbers(left, 2)?;
+    skip(left, 4)?;
     skip_numbers(left, 4)?;
     skip(left, 8 + 4 + 8)?;
     let start = take(left, 8)?;

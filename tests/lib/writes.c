@@ -3,14 +3,25 @@
 #include <inttypes.h>
 #include <stdio.h>
 
+slice_counts lent;
 uint64_t counted;
 
 /* ---- records */
 
+void lend_all(void) { lent = (slice_counts){holding.count, head.count / 4, rows.count / 4}; }
+
+/* A slice of elements of this size, of whose counts each has this width. */
+static size_t take_slice(buffer *b, size_t size, size_t width) {
+  size_t count = number(width);
+  take_lent(b, size * number(width));
+  if (size * count > b->count) broken("more is lent than there is");
+  return count;
+}
+
 void take_writing(void) {
-  take_lent(&holding, number(2));
-  take_lent(&head, 4 * number(2));
-  take_lent(&rows, 4 * number(4));
+  lent.holding = take_slice(&holding, 1, 2);
+  lent.head = take_slice(&head, 4, 2);
+  lent.rows = take_slice(&rows, 4, 4);
   counted = number(8);
   size_t room = number(4);
   fill_bytes(&target, room, number(8));
@@ -31,10 +42,10 @@ hundurzek_done take_written(void) {
 
 /* ---- facts: document 01's numbers are those of its answers and sub types */
 
-enum { LONGEST = 50850, SATELLITES = 3 };
+enum { LONGEST = 50850, SATELLITES = 3, ROW_BYTES = 4 * HUNDURZEK_ROW };
 
 static int32_t head_number(size_t column) {
-  return column < head.count / 4 ? numbers(head.want)[column] : HUNDURZEK_ABSENT;
+  return column < lent.head ? numbers(head.want)[column] : HUNDURZEK_ABSENT;
 }
 
 static int32_t subtype(void) { return head_number(0); }
@@ -53,12 +64,12 @@ static bool left_over(const hundurzek_done *w, uint64_t n) { return is_written(w
 
 static bool to_longest(const hundurzek_done *w, uint64_t n) { return is_written(w) && w->place == n; }
 
-static bool fewer_head(const hundurzek_done *w, uint64_t n) { return is_written(w) && head.count / 4 < n; }
+static bool fewer_head(const hundurzek_done *w, uint64_t n) { return is_written(w) && lent.head < n; }
 
-static bool more_head(const hundurzek_done *w, uint64_t n) { return is_written(w) && head.count / 4 > n; }
+static bool more_head(const hundurzek_done *w, uint64_t n) { return is_written(w) && lent.head > n; }
 
 static bool more_numbers(const hundurzek_done *w, uint64_t n) {
-  return is_written(w) && rows.count / 4 > n * counted;
+  return is_written(w) && lent.rows > n * counted;
 }
 
 static bool bare_rows(const hundurzek_done *w, uint64_t n) {
@@ -87,6 +98,19 @@ static bool far_count(const hundurzek_done *w, uint64_t n) { return w->answer ==
 
 static bool greatest(const hundurzek_done *w, uint64_t n) {
   return (now.place == n || counted == n) && !is_written(w);
+}
+
+/* What is behind a slice would be enough. */
+static bool rows_behind(const hundurzek_done *w, uint64_t n) {
+  return w->answer == n && counted > lent.rows / HUNDURZEK_ROW && counted <= rows.count / ROW_BYTES;
+}
+
+static bool head_behind(const hundurzek_done *w, uint64_t n) {
+  return w->answer == n && lent.head < HUNDURZEK_ROW && HUNDURZEK_ROW <= head.count / 4;
+}
+
+static bool holding_behind(const hundurzek_done *w, uint64_t n) {
+  return w->answer == n && lent.holding < HUNDURZEK_HOLDING && HUNDURZEK_HOLDING <= holding.count;
 }
 
 static bool of_mask(const hundurzek_done *w, uint64_t n) { return w->answer == n && subtype() == 1; }
@@ -139,6 +163,12 @@ static struct {
     {"start over 32 bits, answer", far_start, 2, 5000, 0},
     {"count over 32 bits, answer", far_count, 12, 1000, 0},
     {"start or count", greatest, UINT64_MAX, 200, 0},
+    {"rows behind what is lent, answer", rows_behind, 12, 2000, 0},
+    {"head behind what is lent, answer", head_behind, HUNDURZEK_DONE, 500, 0},
+    {"head behind what is lent, answer", head_behind, 5, 200, 0},
+    {"head behind what is lent, answer", head_behind, 7, 1000, 0},
+    {"head behind what is lent, answer", head_behind, 12, 500, 0},
+    {"holding behind it, answer", holding_behind, 12, 200, 0},
     {"sub type 1, answer", of_mask, 6, 1000, 0},
     {"sub type 1, answer", of_mask, 7, 1000, 0},
     {"sub type 1, answer", of_mask, 12, 1000, 0},

@@ -5,8 +5,17 @@
 
 #include "streams.h"
 
-/* How many rows are counted of those lent. */
+/* How many bytes of the holding, and numbers of the head and of the rows, are lent: what else is in their buffers lies
+   behind that, and must not count. How many rows are counted. */
+typedef struct {
+  size_t holding, head, rows;
+} slice_counts;
+
+extern slice_counts lent;
 extern uint64_t counted;
+
+/* All of it, again after the buffers were lent anew. */
+void lend_all(void);
 
 /* Taking what a write is lent: holding, head, rows, what is counted of them, the bytes, and the start. */
 void take_writing(void);
