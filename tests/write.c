@@ -64,7 +64,7 @@ static family writes[] = {
 
 /* The same with each single change of a good write. */
 static family changes[] = {
-    {.name = "unchanged", .least = {1000}},
+    {.name = "unchanged", .least = {2000}},
     {.name = "sub type", .least = {100, 1000, 0, 0, 5000, 0, 100}},
     {.name = "head at an end", .least = {2000}},
     {.name = "head past an end", .least = {0, 10000}},
@@ -143,8 +143,21 @@ static void put_back(buffer *to, const saved *from) {
   memcpy(content(to->want), from->bytes, from->count);
 }
 
+/* How often each number of the head, and of a row, was changed by itself, by sub type. */
+enum { HEAD, ROW, PARTS, SUBTYPES = 12 };
+static unsigned long single[PARTS][SUBTYPES][HUNDURZEK_ROW];
+
+static void count_single(size_t part, size_t at) {
+  int32_t subtype;
+  memcpy(&subtype, base_head.bytes, sizeof subtype);
+  if (subtype < 0 || subtype >= SUBTYPES) broken("a change of no message");
+  single[part][subtype][at % HUNDURZEK_ROW]++;
+}
+
 /* In place of the numbers from one to before another come others. */
-static void splice(buffer *to, const saved *base) {
+static void splice(size_t part) {
+  buffer *to = part == HEAD ? &head : &rows;
+  const saved *base = part == HEAD ? &base_head : &base_rows;
   size_t from = 4 * number(2), past = 4 * number(2), count = 4 * number(2);
   if (from > past || past > base->count) broken("a change of what isn't there");
   lend(to, base->count - (past - from) + count);
@@ -152,6 +165,7 @@ static void splice(buffer *to, const saved *base) {
   get(content(to->got) + from, count);
   memcpy(content(to->got) + from + count, base->bytes + past, base->count - past);
   memcpy(content(to->want), content(to->got), to->count);
+  if (count == 4 && past - from == 4) count_single(part, from / 4);
 }
 
 static void compare_change(kind *k, uint64_t place, unsigned long call) {
@@ -161,10 +175,7 @@ static void compare_change(kind *k, uint64_t place, unsigned long call) {
   put_back(&head, &base_head);
   put_back(&rows, &base_rows);
   put_back(&target, &base_target);
-  if (number(1))
-    splice(&rows, &base_rows);
-  else
-    splice(&head, &base_head);
+  splice(number(1) ? ROW : HEAD);
   lend_all();
   counted = number(8);
   hundurzek_done want = take_written();
@@ -182,6 +193,20 @@ static void compare_changes(kind *k) {
   compare_write(&want);
   unsigned long made = number(4);
   for (unsigned long i = 1; i <= made; i++) compare_change(k, now.place, 1 + i);
+}
+
+/* Each number of each sub type's head often, and of its rows, of which a mask has none. */
+static void judge_singles(void) {
+  static const unsigned subtypes[] = {1, 2, 3, 4, 5, 10, 11};
+  for (size_t k = 0; k < sizeof subtypes / sizeof *subtypes; k++)
+    for (size_t part = subtypes[k] == 1 ? ROW : PARTS; part-- > 0;) {
+      printf("numbers changed, %s %2u", part == HEAD ? "head" : "rows", subtypes[k]);
+      for (size_t i = 0; i < HUNDURZEK_ROW; i++) {
+        printf(" %6lu", single[part][subtypes[k]][i]);
+        need(single[part][subtypes[k]][i] >= 500, "numbers changed, sub type", subtypes[k]);
+      }
+      printf("\n");
+    }
 }
 
 /* ---- rounds */
@@ -268,6 +293,7 @@ int main(void) {
   print_answers(kinds, KINDS);
   judge_families(writes, WRITES);
   judge_families(changes, CHANGED);
+  judge_singles();
   judge_facts();
   return finish();
 }
