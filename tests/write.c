@@ -20,6 +20,7 @@ static family writes[] = {
     {.name = "stray holding", .least = {0, 5000, 0, 500, 0, 0, 200}},
     {.name = "empty holding", .least = {500, 50, 100, 500, 0, 5000}},
     {.name = "empty holding for sub type 1", .least = {0, 0, 0, 200, 0, 2000}},
+    {.name = "no mask and any IOD SSR", .least = {20, 200, 0, 200, 0, 2000}},
     {.name = "another issue held", .least = {200, 0, 100, 200, 0, 0, 2000}},
     {.name = "another issue for sub type 1", .least = {0, 0, 0, 200, 0, 0, 2000}},
     {.name = "another mask held", .least = {500, 2000, 100, 200}},

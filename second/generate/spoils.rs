@@ -35,11 +35,12 @@ const fn combined(edit: fn(&mut Random, &mut Writing)) -> Spoil {
 /// A kind with its name and how often it comes.
 pub type Kind = (&'static str, usize, Spoil);
 
-pub const SPOILS: [Kind; 30] = [
+pub const SPOILS: [Kind; 31] = [
     ("good", 60, any(|_, _| {})),
     ("stray holding", 10, any(stray)),
     ("empty holding", 8, any(|_, case| put_holding(case, &Holding::Empty))),
     ("empty holding for sub type 1", 3, of_masks(|_, case| put_holding(case, &Holding::Empty))),
+    ("no mask and any IOD SSR", 4, any(no_mask_and_any_iod)),
     ("another issue held", 6, any(other_issue)),
     ("another issue for sub type 1", 3, of_masks(other_issue)),
     ("another mask held", 4, any(other_mask)),
@@ -96,6 +97,14 @@ fn stray(random: &mut Random, case: &mut Writing) {
         stray(random, &mut case.holding);
         case.behind.holding = whole[case.holding.len()..].to_vec();
     }
+}
+
+/// The empty holding "has no issue number at all", whatever a program keeps in
+/// the place of one.
+fn no_mask_and_any_iod(random: &mut Random, case: &mut Writing) {
+    let iod = random.pick(&[0, 1, 15, 16, 17, 32, 255, 256, -1, i32::MIN, ABSENT]);
+    set(&mut case.head, 4, iod);
+    put_holding(case, &Holding::Empty);
 }
 
 /// The same mask of another issue.
