@@ -107,7 +107,7 @@ ALWAYS packer push_head(packer p, const int32_t *head) {
 
 /* ---- sub type 1 */
 
-__attribute__((noinline)) static packer push_systems(packer p, const sent *s) {
+ALWAYS packer push_systems(packer p, const sent *s) {
   const tuned_sent_mask *m = s->mask;
   const uint8_t *from = m->systems_sent;
   uint32_t left = m->systems_bits;
@@ -132,15 +132,25 @@ typedef struct {
   int signals;
 } shape;
 
+/* A number that must be one, and after it a value: two tests in one. */
+ALWAYS uint64_t not_before(uint64_t two, uint32_t number, unsigned width) {
+  const uint64_t fitting = ((UINT64_C(1) << width) - 1) << 32;
+  return ((two ^ number) + (UINT64_C(1) << (32 + width - 1))) & ~fitting;
+}
+
+/* A value, and after it a number that is absent. */
+ALWAYS uint64_t not_alone(uint64_t two, unsigned width) { return (two ^ (uint64_t)ABSENT << 32) >> width; }
+
 ALWAYS uint64_t row_bits(packer *p, const int32_t *row, uint64_t key, uint32_t signal, shape has) {
-  uint64_t bits = low(row[3], has.value);
-  p->bad |= (two_at(row) ^ key) | ((uint32_t)row[2] ^ signal) | over_signed(row[3], has.value) | not_absents(row + 6);
+  uint64_t two = two_at(row + 2), bits = two >> 32 & ((1u << has.value) - 1);
+  p->bad |= (two_at(row) ^ key) | not_before(two, signal, has.value) | not_absents(row + 6);
   if (has.discontinuity == 0) {
     p->bad |= not_absents(row + 4);
     return bits;
   }
-  p->bad |= over(row[4], has.discontinuity) | not_absent(row[5]);
-  return bits << has.discontinuity | (uint32_t)row[4];
+  two = two_at(row + 4);
+  p->bad |= not_alone(two, has.discontinuity);
+  return bits << has.discontinuity | (uint32_t)two;
 }
 
 /* As many rows in one window as have room in it. */
@@ -164,15 +174,15 @@ ALWAYS packer push_rows(packer p, const sent *s, uint32_t count, const uint64_t 
   return p;
 }
 
-__attribute__((noinline)) static packer push_clocks(packer p, const sent *s) {
+ALWAYS packer push_clocks(packer p, const sent *s) {
   return push_rows(p, s, s->mask->satellites, s->mask->satellite, NULL, (shape){CLOCK, 0, 0});
 }
 
-__attribute__((noinline)) static packer push_code_biases(packer p, const sent *s) {
+ALWAYS packer push_code_biases(packer p, const sent *s) {
   return push_rows(p, s, s->mask->cells, s->mask->cell, s->mask->cell_signal, (shape){CODE, 0, 1});
 }
 
-__attribute__((noinline)) static packer push_phase_biases(packer p, const sent *s) {
+ALWAYS packer push_phase_biases(packer p, const sent *s) {
   return push_rows(p, s, s->mask->cells, s->mask->cell, s->mask->cell_signal, (shape){PHASE, DISCONTINUITY, 1});
 }
 
@@ -237,12 +247,12 @@ ALWAYS run_list all_of(const tuned_sent_mask *m) {
   return (run_list){m->satellite, {m->first_galileo, m->galileo, after}};
 }
 
-__attribute__((noinline)) static packer push_orbits(packer p, const sent *s) {
+ALWAYS packer push_orbits(packer p, const sent *s) {
   p.bad |= s->count ^ s->mask->satellites;
   return p.bad ? p : push_runs(p, s->rows, all_of(s->mask), ORBITS);
 }
 
-__attribute__((noinline)) static packer push_all(packer p, const sent *s, int parts) {
+ALWAYS packer push_all(packer p, const sent *s, int parts) {
   p.bad |= s->count ^ s->mask->satellites;
   return p.bad ? p : push_parts(p, s->rows, all_of(s->mask), parts);
 }
@@ -263,7 +273,7 @@ ALWAYS uint64_t selection(packer *p, const sent *s) {
   return selected;
 }
 
-__attribute__((noinline)) static packer push_network(packer p, const sent *s, int parts) {
+ALWAYS packer push_network(packer p, const sent *s, int parts) {
   const tuned_sent_mask *m = s->mask;
   run_list list = {NULL, {(uint32_t)s->count, 0, 0}};
   p.bad |= s->count > m->satellites;
@@ -279,7 +289,7 @@ __attribute__((noinline)) static packer push_network(packer p, const sent *s, in
   return p.bad ? p : push_parts(p, s->rows, list, parts);
 }
 
-__attribute__((noinline)) static packer push_combined(packer p, const sent *s) {
+ALWAYS packer push_combined(packer p, const sent *s) {
   const int32_t *head = s->head;
   p.bad |= over(head[A], 1) | over(head[B], 1);
   uint64_t bits = (opening(&p, head, 12) << 1 | (uint32_t)head[A]) << 1 | (uint32_t)head[B];
@@ -302,7 +312,7 @@ ALWAYS packer push_part(packer p, const int32_t *row, uint32_t k) {
   return push(p, bits, 40);
 }
 
-__attribute__((noinline)) static packer push_service(packer p, const sent *s) {
+ALWAYS packer push_service(packer p, const sent *s) {
   const int32_t *head = s->head, *row = s->rows;
   p.bad |= not_absents(head + EPOCH) | not_absent(head[IOD]) | not_absent(head[C]);
   p.bad |= over(head[INDICATOR], 1) | over(head[A], 3) | over(head[B], 2) | (s->count ^ ((uint64_t)head[B] + 1));
