@@ -75,9 +75,9 @@ hundurzek_walked *hundurzek_walk(hundurzek_walked *out, uint8_t *holding, uint64
 
 /* Writes a message of a head of eight numbers and so many rows at bit place start of the bytes lent; every bit outside
    it keeps its value. */
-hundurzek_done *hundurzek_write(hundurzek_done *out, const uint8_t *holding, uint64_t holding_count, const int32_t *head,
-                                uint64_t head_count, const int32_t *numbers, uint64_t number_count, uint64_t rows,
-                                uint8_t *bytes, uint64_t count, uint64_t start);
+hundurzek_done *hundurzek_write(hundurzek_done *out, const uint8_t *holding, uint64_t holding_count,
+                                const int32_t *head, uint64_t head_count, const int32_t *numbers, uint64_t number_count,
+                                uint64_t rows, uint8_t *bytes, uint64_t count, uint64_t start);
 
 /* Saves a holding as a line, its line feed too, from the line buffer's first byte on. */
 hundurzek_done *hundurzek_save(hundurzek_done *out, const uint8_t *holding, uint64_t holding_count, uint8_t *line,

@@ -7,6 +7,9 @@
 #include "readings.h"
 #include "writes.h"
 
+static const unsigned subtypes[] = {1, 2, 3, 4, 5, 10, 11};
+enum { SEVEN = sizeof subtypes / sizeof *subtypes };
+
 enum { WRITE, CHANGES, ROUNDS, KINDS };
 static kind kinds[KINDS] = {
     [WRITE] = {.name = "write", .least = 300000},
@@ -103,8 +106,8 @@ enum { WRITES = sizeof writes / sizeof *writes, CHANGED = sizeof changes / sizeo
 
 /* ---- single writes */
 
-/* The write that is lent, at the place that is being compared. */
-static void compare_write(const hundurzek_done *want) {
+/* The write that is lent, at the place that is being compared; of what is written the sub type is counted. */
+static void compare_write(kind *k, const hundurzek_done *want) {
   hundurzek_done *got = lend_result(sizeof *got);
   now.end = 8 * target.count;
   const void *out =
@@ -112,6 +115,7 @@ static void compare_write(const hundurzek_done *want) {
                       lent.rows, counted, content(target.got), target.count, now.place);
   compare_done(got, out, want);
   compare_lent();
+  if (want->answer == HUNDURZEK_DONE) k->counts[ANSWERS + head_number(0)]++;
 }
 
 static void compare_writing(kind *k) {
@@ -119,7 +123,7 @@ static void compare_writing(kind *k) {
   hundurzek_done want = take_written();
   count_facts(&want);
   count_answer(k, writes, WRITES, want.answer);
-  compare_write(&want);
+  compare_write(k, &want);
 }
 
 /* ---- single changes */
@@ -181,7 +185,7 @@ static void compare_change(kind *k, uint64_t place, unsigned long call) {
   counted = number(8);
   hundurzek_done want = take_written();
   count_answer(k, changes, CHANGED, want.answer);
-  compare_write(&want);
+  compare_write(k, &want);
 }
 
 static void compare_changes(kind *k) {
@@ -191,15 +195,14 @@ static void compare_changes(kind *k) {
   save(&base_rows, &rows);
   save(&base_target, &target);
   count_answer(k, changes, CHANGED, want.answer);
-  compare_write(&want);
+  compare_write(k, &want);
   unsigned long made = number(4);
   for (unsigned long i = 1; i <= made; i++) compare_change(k, now.place, 1 + i);
 }
 
 /* Each number of each sub type's head often, and of its rows, of which a mask has none. */
 static void judge_singles(void) {
-  static const unsigned subtypes[] = {1, 2, 3, 4, 5, 10, 11};
-  for (size_t k = 0; k < sizeof subtypes / sizeof *subtypes; k++)
+  for (size_t k = 0; k < SEVEN; k++)
     for (size_t part = subtypes[k] == 1 ? ROW : PARTS; part-- > 0;) {
       printf("numbers changed, %s %2u", part == HEAD ? "head" : "rows", subtypes[k]);
       for (size_t i = 0; i < HUNDURZEK_ROW; i++) {
@@ -220,7 +223,8 @@ static void copy_bits(uint8_t *to, uint64_t at, const uint8_t *from, uint64_t st
 }
 
 /* What was read is written over other bits: the very bits of the stretch, all else kept. */
-static void write_back(uint64_t start, const hundurzek_reading *message, uint64_t place, size_t room, uint64_t seed) {
+static void write_back(kind *k, uint64_t start, const hundurzek_reading *message, uint64_t place, size_t room,
+                       uint64_t seed) {
   uint64_t count = message->place - start;
   hundurzek_done want = {HUNDURZEK_DONE, place + count, count};
   fill_bytes(&target, room, seed);
@@ -228,7 +232,7 @@ static void write_back(uint64_t start, const hundurzek_reading *message, uint64_
   copy_bits(content(target.want), place, content(stretch.want), start, count);
   now.place = place;
   now.call++;
-  compare_write(&want);
+  compare_write(k, &want);
 }
 
 /* Other numbers where the rows were read, so that they must be read again. */
@@ -272,8 +276,8 @@ static void compare_round(kind *k) {
   lend_head(&message.head);
   lend_all();
   counted = message.rows;
-  write_back(start, &message, start, stretch.count, seed);
-  write_back(start, &message, place, room, seed);
+  write_back(k, start, &message, start, stretch.count, seed);
+  write_back(k, start, &message, place, room, seed);
   read_again(before.bytes, start, &message);
   k->counts[DONE] += 2;
 }
@@ -289,9 +293,20 @@ static void compare_record(kind *k) {
     compare_round(k);
 }
 
+/* Each sub type that was written often in each kind. */
+static void judge_subtypes(void) {
+  static const unsigned long least[KINDS] = {[WRITE] = 5000, [CHANGES] = 300, [ROUNDS] = 5000};
+  for (size_t i = 0; i < SEVEN; i++) {
+    print_counts("sub type", subtypes[i], kinds, KINDS, ANSWERS + subtypes[i]);
+    for (size_t k = 0; k < KINDS; k++)
+      need(kinds[k].counts[ANSWERS + subtypes[i]] >= least[k], kinds[k].name, subtypes[i]);
+  }
+}
+
 int main(void) {
   compare_streams(kinds, KINDS, compare_record);
   print_answers(kinds, KINDS);
+  judge_subtypes();
   judge_families(writes, WRITES);
   judge_families(changes, CHANGED);
   judge_singles();

@@ -40,13 +40,13 @@ hundurzek_done take_written(void) {
   return want;
 }
 
+int32_t head_number(size_t column) {
+  return column < lent.head ? numbers(head.want)[column] : HUNDURZEK_ABSENT;
+}
+
 /* ---- facts: document 01's numbers are those of its answers and sub types */
 
 enum { LONGEST = 50850, SATELLITES = 3, ROW_BYTES = 4 * HUNDURZEK_ROW };
-
-static int32_t head_number(size_t column) {
-  return column < lent.head ? numbers(head.want)[column] : HUNDURZEK_ABSENT;
-}
 
 static int32_t subtype(void) { return head_number(0); }
 
@@ -132,13 +132,6 @@ static struct {
   uint64_t n;
   unsigned long least, count;
 } facts[] = {
-    {"written, sub type", of_subtype, 1, 5000, 0},
-    {"written, sub type", of_subtype, 2, 5000, 0},
-    {"written, sub type", of_subtype, 3, 5000, 0},
-    {"written, sub type", of_subtype, 4, 5000, 0},
-    {"written, sub type", of_subtype, 5, 5000, 0},
-    {"written, sub type", of_subtype, 10, 5000, 0},
-    {"written, sub type", of_subtype, 11, 5000, 0},
     {"written, start modulo 8", aligned, 0, 5000, 0},
     {"written, start modulo 8", aligned, 1, 5000, 0},
     {"written, start modulo 8", aligned, 2, 5000, 0},

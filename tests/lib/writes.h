@@ -23,6 +23,9 @@ void take_writing(void);
 /* The next answer that is expected; the bytes are wanted as it leaves them. */
 hundurzek_done take_written(void);
 
+/* A number of the head as it is lent. */
+int32_t head_number(size_t column);
+
 /* Counts the facts that hold of the write that is lent and what it must answer; prints how often each came, and needs
    what must come. */
 void count_facts(const hundurzek_done *want);
