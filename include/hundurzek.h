@@ -50,9 +50,9 @@ typedef struct {
 } hundurzek_walked;
 
 typedef struct {
-  uint64_t answer; /* HUNDURZEK_DONE; else 1 or 12 */
-  uint64_t place;  /* 0: a line has no other start */
-  uint64_t count;  /* of a saved line's bytes, or of a stretch's bits; else 0 */
+  uint64_t answer; /* HUNDURZEK_DONE; else the refusal's number */
+  uint64_t place;  /* after a message written, else the start asked for: of a line always 0 */
+  uint64_t count;  /* of a message's or a stretch's bits, or of a saved line's bytes; else 0 */
 } hundurzek_done;
 
 typedef struct {
@@ -72,6 +72,12 @@ hundurzek_reading *hundurzek_read(hundurzek_reading *out, uint8_t *holding, uint
    after the last message accepted; the row buffer is left as those readings, one after another, leave it. */
 hundurzek_walked *hundurzek_walk(hundurzek_walked *out, uint8_t *holding, uint64_t holding_count, const uint8_t *bytes,
                                  uint64_t count, uint64_t end, int32_t *rows, uint64_t row_count);
+
+/* Writes a message of a head of eight numbers and so many rows at bit place start of the bytes lent; every bit outside
+   it keeps its value. */
+hundurzek_done *hundurzek_write(hundurzek_done *out, const uint8_t *holding, uint64_t holding_count,
+                                const int32_t *head, uint64_t head_count, const int32_t *numbers, uint64_t number_count,
+                                uint64_t rows, uint8_t *bytes, uint64_t count, uint64_t start);
 
 /* Saves a holding as a line, its line feed too, from the line buffer's first byte on. */
 hundurzek_done *hundurzek_save(hundurzek_done *out, const uint8_t *holding, uint64_t holding_count, uint8_t *line,

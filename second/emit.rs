@@ -49,9 +49,11 @@
 //!   u32       number n of the row buffer's numbers, up to the last one changed
 //!   n x i32   row buffer after the walk: these first, its old numbers after them
 //!
-//! The kinds `save`, `load` and `line` have records of their own (`emit/texts.rs`).
+//! The kinds `save`, `load` and `line` have records of their own (`emit/texts.rs`),
+//! as have `write`, `changes` and `rounds` (`emit/writes.rs`).
 
 pub mod texts;
+pub mod writes;
 
 use std::io::{self, Write};
 

@@ -15,9 +15,13 @@
 //! - `saved_lines`, `input_lines`: good and bad lines, saved and of the listing's
 //!   input;
 //! - `texts`, `text_sweeps`: cases of saving, loading and lines of input;
-//! - `inputs`: whole inputs of the listing program.
+//! - `inputs`: whole inputs of the listing program;
+//! - `spoils`, `writes`: cases of one write, and what can be wrong with them;
+//! - `changes`: every single change of what a good message means;
+//! - `rounds`: messages to be read, written back and read again.
 
 pub mod bench;
+pub mod changes;
 pub mod edits;
 pub mod hand;
 pub mod holdings;
@@ -25,13 +29,16 @@ pub mod input_lines;
 pub mod inputs;
 pub mod masks;
 pub mod messages;
+pub mod rounds;
 pub mod saved_lines;
 pub mod single;
+pub mod spoils;
 pub mod strays;
 pub mod stretches;
 pub mod sweeps;
 pub mod text_sweeps;
 pub mod texts;
+pub mod writes;
 
 use super::bits::{bytes_for, pack};
 use super::holding::Holding;

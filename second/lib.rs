@@ -14,6 +14,7 @@ pub mod generate;
 pub mod holding;
 pub mod host;
 pub mod host_lines;
+pub mod host_write;
 pub mod layout;
 pub mod listing;
 pub mod mask_message;

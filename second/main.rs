@@ -9,14 +9,15 @@ use std::io::{self, BufWriter, Write};
 use std::process::ExitCode;
 
 use codec::emit::texts::{emit_sweep, emit_texts, Kind};
+use codec::emit::writes::{emit_changes, emit_rounds, emit_write};
 use codec::emit::{emit_bench, emit_fixed, emit_read, emit_stretch, emit_walk, Answers};
 use codec::generate::inputs::put_input;
 use codec::generate::texts::LINE_ROOM;
 use codec::saved;
 
 const USAGE: &str = "usage: second listing|mask | second test | second lines SEED COUNT \
-                     | second emit fixed|bench | second emit sweep save|load|line \
-                     | second emit read|stretch|walk|save|load|line SEED COUNT";
+                     | second emit fixed|bench | second emit sweep write|save|load|line \
+                     | second emit read|stretch|walk|write|rounds|save|load|line SEED COUNT";
 
 fn main() -> ExitCode {
     let words: Vec<String> = std::env::args().skip(1).collect();
@@ -28,6 +29,7 @@ fn main() -> ExitCode {
         ["lines", seed, count] => print_lines(seed, count),
         ["emit", "fixed"] => emit(emit_fixed),
         ["emit", "bench"] => emit(emit_bench),
+        ["emit", "sweep", "write"] => emit(emit_changes),
         ["emit", "sweep", kind] => emit_swept(kind),
         ["emit", kind, seed, count] => emit_random(kind, seed, count),
         _ => Err(fault(USAGE)),
@@ -80,6 +82,8 @@ fn emit_random(kind: &str, seed: &str, count: &str) -> io::Result<()> {
         "read" => emit(|output| emit_read(output, seed, count)),
         "stretch" => emit(|output| emit_stretch(output, seed, count)),
         "walk" => emit(|output| emit_walk(output, seed, count)),
+        "write" => emit(|output| emit_write(output, seed, count)),
+        "rounds" => emit(|output| emit_rounds(output, seed, count)),
         _ => {
             let kind = Kind::named(kind).ok_or_else(|| fault(USAGE))?;
             emit(|output| emit_texts(output, kind, seed, count))

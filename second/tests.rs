@@ -14,6 +14,7 @@ mod texts;
 mod tools;
 mod walks;
 mod writer;
+mod writes;
 
 use std::process::ExitCode;
 
@@ -49,7 +50,7 @@ impl Group {
     }
 }
 
-const GROUPS: [(&str, fn(&mut Group)); 23] = [
+const GROUPS: [(&str, fn(&mut Group)); 27] = [
     ("bench 1 the worked listing", bench::worked_listing),
     ("bench 1 to 4 stretches", bench::stretches),
     ("bench 5 to 14 readings", bench::readings),
@@ -62,8 +63,12 @@ const GROUPS: [(&str, fn(&mut Group)); 23] = [
     ("writer: each answer number", writer::numbers),
     ("writer: order of refusals", writer::order),
     ("writer: every column's range", columns::ranges),
+    ("host: writes by hand", writes::by_hand),
+    ("generated writes", writes::random),
+    ("generated writes: single changes", writes::changed),
     ("rounds: drawn, read and written", rounds::drawn),
     ("rounds: generated readings", rounds::generated),
+    ("rounds: read, written and read again", writes::round_trips),
     ("walks: repeated readings", walks::generated),
     ("saved form", saved::lines),
     ("listing program", listing::lines),

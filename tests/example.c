@@ -1,7 +1,9 @@
 /* Calling from C (docs/HOST.md): reads document 01's worked stretch message by message and prints it as its
-   listing does, a line M and lines R for each message, a line E for the stop. */
+   listing does, a line M and lines R for each message, a line E for the stop. Writes each message that it read, and
+   fails where that does not give the stretch's very bytes. */
 #include <inttypes.h>
 #include <stdio.h>
+#include <string.h>
 
 #include "hundurzek.h"
 
@@ -12,6 +14,7 @@ static const uint8_t stretch[] = {0xFE, 0x91, 0x00, 0x06, 0x45, 0x18, 0x85, 0x00
 
 static uint8_t holding[HUNDURZEK_HOLDING];
 static int32_t rows[HUNDURZEK_ROOM];
+static uint8_t written[sizeof stretch];
 
 static void print_numbers(const int32_t *numbers) {
   for (int i = 0; i < HUNDURZEK_ROW; i++) {
@@ -22,18 +25,30 @@ static void print_numbers(const int32_t *numbers) {
   }
 }
 
-static void print_message(uint64_t start, const hundurzek_reading *message) {
-  const hundurzek_head *head = &message->head;
-  const int32_t numbers[HUNDURZEK_ROW] = {head->subtype, head->epoch, head->interval, head->indicator,
-                                          head->iod,     head->a,     head->b,        head->c};
+static void print_message(uint64_t start, const hundurzek_reading *message, const int32_t *head) {
   printf("M\t%" PRIu64 "\t%" PRIu64, start, message->place - start);
-  print_numbers(numbers);
+  print_numbers(head);
   printf("\t%" PRIu64 "\n", message->rows);
   for (uint64_t row = 0; row < message->rows; row++) {
     printf("R");
     print_numbers(rows + row * HUNDURZEK_ROW);
     printf("\n");
   }
+}
+
+/* What was read, at the place where it was read; under the holding after it, since a mask message writes that one. */
+static void write_message(uint64_t start, const hundurzek_reading *message, const int32_t *head) {
+  hundurzek_done done;
+  hundurzek_write(&done, holding, sizeof holding, head, HUNDURZEK_ROW, rows, HUNDURZEK_ROOM, message->rows, written,
+                  sizeof written, start);
+}
+
+static void take_message(uint64_t start, const hundurzek_reading *message) {
+  const hundurzek_head *head = &message->head;
+  const int32_t numbers[HUNDURZEK_ROW] = {head->subtype, head->epoch, head->interval, head->indicator,
+                                          head->iod,     head->a,     head->b,        head->c};
+  print_message(start, message, numbers);
+  write_message(start, message, numbers);
 }
 
 /* The messages one by one; then the whole stretch at once, by a receiver that starts anew. */
@@ -45,12 +60,12 @@ int main(void) {
   for (;;) {
     hundurzek_read(&reading, holding, sizeof holding, stretch, sizeof stretch, BITS, place, rows, HUNDURZEK_ROOM);
     if (reading.answer != HUNDURZEK_MESSAGE) break;
-    print_message(place, &reading);
+    take_message(place, &reading);
     place = reading.place;
   }
   hundurzek_empty(holding, sizeof holding);
   hundurzek_walk(&walked, holding, sizeof holding, stretch, sizeof stretch, BITS, rows, HUNDURZEK_ROOM);
   printf("E\t%" PRIu64 "\t%" PRIu64, walked.answer, walked.place);
   printf("\t%" PRIu64 "\t%" PRIu64 "\n", walked.messages, walked.rows);
-  return 0;
+  return memcmp(written, stretch, sizeof stretch) != 0;
 }

@@ -1,11 +1,7 @@
 /* Compares hundurzek_read, and hundurzek_empty, with the second program (lib/streams.h). */
-#include <inttypes.h>
-#include <stdio.h>
 #include <string.h>
 
-#include "streams.h"
-
-enum { ROW_BYTES = 4 * HUNDURZEK_ROW };
+#include "readings.h"
 
 /* What is counted: each stop, messages, and each sub type of these. */
 enum { MESSAGES = STOPS, SUBTYPE };
@@ -19,31 +15,6 @@ static kind kinds[KINDS] = {
 
 /* ---- readings */
 
-static void compare_head(const hundurzek_head *got, const hundurzek_head *want) {
-  static const char *const names[] = {"sub type", "epoch", "interval", "indicator", "IOD SSR", "a", "b", "c"};
-  int32_t g[HUNDURZEK_ROW], w[HUNDURZEK_ROW];
-  memcpy(g, got, sizeof g);
-  memcpy(w, want, sizeof w);
-  for (int i = 0; i < HUNDURZEK_ROW; i++)
-    if (g[i] != w[i]) differ("head: %s %" PRId32 ", expected %" PRId32, names[i], g[i], w[i]);
-}
-
-/* The next reading that is expected; the buffers are wanted as it leaves them. */
-static hundurzek_reading take_expected(void) {
-  hundurzek_reading want;
-  want.answer = number(1);
-  want.place = number(8);
-  get(&want.head, sizeof want.head);
-  want.rows = number(4);
-  want.raw_offset = number(8);
-  want.raw_count = number(8);
-  if (want.answer >= STOPS && want.answer != HUNDURZEK_MESSAGE) broken("no such answer");
-  if (want.rows * ROW_BYTES > rows.count) broken("too many rows");
-  get(content(rows.want), want.rows * ROW_BYTES);
-  get(content(holding.want), holding.count);
-  return want;
-}
-
 static void count_answer(kind *k, const hundurzek_reading *want) {
   bool message = want->answer == HUNDURZEK_MESSAGE;
   k->calls++;
@@ -51,27 +22,16 @@ static void count_answer(kind *k, const hundurzek_reading *want) {
   if (message) k->counts[SUBTYPE + want->head.subtype]++;
 }
 
-/* One reading at the place where the last one ended; goes to the place where it must end. */
-static void compare_reading(kind *k) {
-  hundurzek_reading want = take_expected(), got;
-  const void *out = hundurzek_read(&got, content(holding.got), holding.count, content(stretch.got), stretch.count,
-                                   now.end, now.place, numbers(rows.got), rows.count / 4);
-  if (out != &got) differ("another pointer is returned");
-  compare("answer", got.answer, want.answer);
-  compare("place", got.place, want.place);
-  compare("row count", got.rows, want.rows);
-  compare("raw part's offset", got.raw_offset, want.raw_offset);
-  compare("raw part's count", got.raw_count, want.raw_count);
-  compare_head(&got.head, &want.head);
-  compare_lent();
-  count_answer(k, &want);
-  now.place = want.place;
-}
-
+/* Readings one after another, each at the place where the one before must end. */
 static void compare_readings(kind *k) {
   take_stretch();
   unsigned long readings = number(4);
-  for (; now.call <= readings; now.call++) compare_reading(k);
+  for (; now.call <= readings; now.call++) {
+    hundurzek_reading want = take_reading();
+    compare_reading(&stretch, &want);
+    count_answer(k, &want);
+    now.place = want.place;
+  }
 }
 
 /* hundurzek_empty: the empty holding where there is room for it, else nothing changed. */

@@ -128,6 +128,17 @@ pub fn correction(random: &mut Random, mask: &Mask) -> Drawn {
     }
 }
 
+/// A message of this sub type under the mask: any of the seven.
+pub fn of_sub_type(random: &mut Random, held: &Mask, sub_type: u64) -> Drawn {
+    match sub_type {
+        1 => mask(random, held),
+        10 => service(random),
+        2 | 3 => per_satellite(random, held, sub_type),
+        4 | 5 => per_cell(random, held, sub_type),
+        _ => combined(random, held),
+    }
+}
+
 fn per_satellite(random: &mut Random, mask: &Mask, sub_type: u64) -> Drawn {
     let mut drawn = Drawn::new(sub_type);
     drawn.put_opening(random, 12, mask.iod);

@@ -5,9 +5,10 @@ use super::tools::row_buffer;
 use super::Group;
 use crate::codec::answer::STOPS;
 use crate::codec::bits::bit;
-use crate::codec::generate::messages::{self, Drawn};
+use crate::codec::generate::messages::Drawn;
+use crate::codec::generate::rounds::{scene, Scene};
 use crate::codec::generate::{filled, masks, single, Case};
-use crate::codec::holding::{Holding, Mask};
+use crate::codec::holding::Holding;
 use crate::codec::host::decode;
 use crate::codec::random::Random;
 use crate::codec::reader::{raw, read, Message};
@@ -23,23 +24,12 @@ pub fn drawn(group: &mut Group) {
     let mut random = Random::new(7);
     for _ in 0..DRAWN {
         let mask = masks::good(&mut random);
-        let (drawn, held, after) = any(&mut random, mask);
+        let Scene { drawn, held, after } = scene(&mut random, mask);
         let start = random.below(24);
         let after_it = random.below(20);
         let before = random.bits(start + drawn.bits.len() + after_it);
         check_write(group, &drawn, &after, &before, start);
         check_read(group, &drawn, &held, &after, &before, start);
-    }
-}
-
-/// A message, what is held before it, and what is held after it.
-fn any(random: &mut Random, mask: Mask) -> (Drawn, Holding, Holding) {
-    let held = Holding::Held(mask.clone());
-    match random.below(10) {
-        0 => (messages::service(random), Holding::Empty, Holding::Empty),
-        1 => (messages::service(random), held.clone(), held),
-        2 | 3 => (messages::mask(random, &mask), Holding::Empty, held),
-        _ => (messages::correction(random, &mask), held.clone(), held),
     }
 }
 

@@ -5,6 +5,7 @@ use std::io::{self, sink};
 
 use super::Group;
 use crate::codec::emit::texts::{emit_sweep, emit_texts, Kind};
+use crate::codec::emit::writes::{emit_changes, emit_rounds, emit_write};
 use crate::codec::emit::{emit_bench, emit_fixed, emit_read, emit_stretch, emit_walk, Answers};
 
 const CASES: usize = 30_000;
@@ -16,6 +17,14 @@ pub fn answers(group: &mut Group) {
     often(group, "walk", emit_walk(&mut sink(), 1, 3_000), 10);
     often(group, "fixed", emit_fixed(&mut sink()), 1);
     often(group, "bench", emit_bench(&mut sink()), 1);
+    let write = emit_write(&mut sink(), 1, CASES).unwrap_or_default();
+    for number in [1, 2, 5, 6, 7, 11, 12] {
+        let count = write.stops[number];
+        group.check(&format!("write: answer {number}, {count} times"), count >= CASES / 60);
+    }
+    group.check("write: written", write.accepted >= CASES / 5);
+    let rounds = emit_rounds(&mut sink(), 1, 300).unwrap_or_default();
+    group.same("rounds: all are messages", rounds.accepted, 300);
 }
 
 fn often(group: &mut Group, kind: &str, answers: io::Result<Answers>, least: usize) {
@@ -41,6 +50,7 @@ pub fn formats(group: &mut Group) {
     group.check("bench too", records(&bench, b"bench\0\0\0", skip_walk) > Some(5_000));
     group.same("walk too", records(&walks, b"walk\0\0\0\0", skip_walk), Some(50));
     texts(group);
+    writes(group);
 }
 
 /// The streams of lines.
@@ -54,6 +64,19 @@ fn texts(group: &mut Group) {
         group.same(name, records(&stream(5), &header, skip_text), Some(50));
         group.check("and its sweep", records(&sweep, &header, skip_text) > Some(5_000));
     }
+}
+
+/// The streams of writes and rounds.
+fn writes(group: &mut Group) {
+    let write = |seed| written(|output| emit_write(output, seed, 50));
+    let rounds = |seed| written(|output| emit_rounds(output, seed, 50));
+    let changes = written(|output| emit_changes(output));
+    group.check("the same seed", write(5) == write(5) && rounds(5) == rounds(5));
+    group.check("another seed", write(5) != write(6) && rounds(5) != rounds(6));
+    let skip_write = |left: &mut &[u8]| skip_writing(left).map(drop);
+    group.same("write too", records(&write(5), b"write\0\0\0", skip_write), Some(50));
+    group.check("changes too", records(&changes, b"changes\0", skip_changes) > Some(2_000));
+    group.same("rounds too", records(&rounds(5), b"rounds\0\0", skip_round), Some(50));
 }
 
 fn written(emitted: impl FnOnce(&mut Vec<u8>) -> io::Result<Answers>) -> Vec<u8> {
@@ -114,6 +137,53 @@ fn skip_text(left: &mut &[u8]) -> Option<()> {
     skip(left, 8)?;
     skip_counted(left, 4)?;
     matches!(answer, 1 | 12 | 255).then_some(())
+}
+
+/// Steps over a write; its start.
+fn skip_writing(left: &mut &[u8]) -> Option<u64> {
+    skip_counted(left, 1)?;
+    skip(left, 2)?;
+    skip_counted(left, 2)?;
+    skip(left, 2)?;
+    skip_numbers(left, 2)?;
+    skip(left, 4)?;
+    skip_numbers(left, 4)?;
+    skip(left, 8 + 4 + 8)?;
+    let start = take(left, 8)?;
+    skip_written(left, start)?;
+    Some(start)
+}
+
+fn skip_written(left: &mut &[u8], start: u64) -> Option<()> {
+    let answer = take(left, 1)?;
+    let (place, count) = (take(left, 8)?, take(left, 8)?);
+    match answer {
+        255 if place == start + count => skip(left, ((place + 7) / 8 - start / 8) as usize),
+        1 | 2 | 5 | 6 | 7 | 11 | 12 if place == start && count == 0 => Some(()),
+        _ => None,
+    }
+}
+
+fn skip_changes(left: &mut &[u8]) -> Option<()> {
+    let start = skip_writing(left)?;
+    for _ in 0..take(left, 4)? {
+        skip_counted(left, 1)?;
+        skip(left, 1 + 2 + 2)?;
+        skip_numbers(left, 2)?;
+        skip(left, 8)?;
+        skip_written(left, start)?;
+    }
+    Some(())
+}
+
+fn skip_round(left: &mut &[u8]) -> Option<()> {
+    skip_readings(left)?;
+    skip(left, 8 + 4 + 8)
+}
+
+fn skip_numbers(left: &mut &[u8], width: usize) -> Option<()> {
+    let count = take(left, width)? as usize;
+    skip(left, 4 * count)
 }
 
 fn skip_counted(left: &mut &[u8], width: usize) -> Option<usize> {

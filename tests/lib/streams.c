@@ -13,12 +13,14 @@ enum { TOLD = 10, SHOWN = 200 };
 
 buffer holding = {.name = "holding", .space = 1024};
 buffer stretch = {.name = "stretch", .space = 16384};
+buffer head = {.name = "head", .space = 1024};
 buffer rows = {.name = "row buffer", .space = 32768};
 buffer line = {.name = "line", .space = 262144};
+buffer target = {.name = "bytes written", .space = 16384};
 case_name now;
 
 static buffer result = {.name = "result", .space = 1024};
-static buffer *const all[] = {&holding, &stretch, &rows, &line, &result};
+static buffer *const all[] = {&holding, &stretch, &head, &rows, &line, &target, &result};
 enum { BUFFERS = sizeof all / sizeof *all };
 
 static unsigned long passed, failed;
@@ -106,7 +108,7 @@ void *lend_result(size_t count) {
   return content(result.got);
 }
 
-static void take_family(void) {
+void take_family(void) {
   size_t letters = number(1);
   get(now.family, letters);
   now.family[letters] = 0;
@@ -192,6 +194,13 @@ void compare_lent(void) {
   same = true;
   for (size_t i = 0; i < BUFFERS; i++)
     if (all[i]->got) memcpy(all[i]->got, all[i]->want, whole(all[i]));
+}
+
+void compare_done(const hundurzek_done *got, const void *out, const hundurzek_done *want) {
+  if (out != got) differ("another pointer is returned");
+  compare("answer", got->answer, want->answer);
+  compare("place", got->place, want->place);
+  compare("count", got->count, want->count);
 }
 
 /* ---- all streams, and what came */

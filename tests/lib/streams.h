@@ -1,5 +1,5 @@
 /* For programs that compare the host interface with the second program, whose cases and answers come as streams
-   on the standard input (second/emit.rs and second/emit/texts.rs say their format byte by byte). Every buffer is
+   on the standard input (second/emit.rs and what is in second/emit/ say their format byte by byte). Every buffer is
    lent between guard bytes, and is compared whole, guards and all, with what it must be after each call. */
 #ifndef TESTS_STREAMS_H
 #define TESTS_STREAMS_H
@@ -27,7 +27,8 @@ typedef struct {
   uint8_t *got, *want;
 } buffer;
 
-extern buffer holding, stretch, rows, line;
+/* A stretch is read, a target is written; a head and rows are numbers. */
+extern buffer holding, stretch, head, rows, line, target;
 
 /* What is being compared, for reports: a call of a record, at a place of a stretch of so many bits. */
 typedef struct {
@@ -59,6 +60,9 @@ void fill_bytes(buffer *b, size_t count, uint64_t seed);
 /* Where a call may write a result of so many bytes, between guards. What is in it, the caller compares. */
 void *lend_result(size_t count);
 
+/* Taking the name of what is compared from now on: compare_streams does it for each record. */
+void take_family(void);
+
 /* Taking what a reading or a walk is lent: holding, stretch, row buffer, and the stretch's length and start. */
 void take_stretch(void);
 
@@ -66,6 +70,9 @@ void take_stretch(void);
 void differ(const char *format, ...);
 void compare(const char *what, uint64_t got, uint64_t want);
 void compare_lent(void);
+
+/* Compares a result with what it must be, and what was returned with where it was to be written. */
+void compare_done(const hundurzek_done *got, const void *out, const hundurzek_done *want);
 
 /* The end: how often each kind has what is counted, what must be there, and the last line, with the status. */
 void print_counts(const char *what, unsigned long which, const kind *kinds, size_t count, size_t counted);

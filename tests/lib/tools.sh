@@ -7,7 +7,7 @@
 # compile NAME CRATE SOURCE..: makes target/tests/NAME of tests/NAME.c, further sources and the crate's static library.
 # second: makes the second program, target/tests/second.
 # agree NAME STREAM..: runs tests/NAME.c over crate host on these streams of the second program (second/README.md,
-# emit).
+# emit); ALSO is what else goes to the compiler, flags and sources.
 need() {
     command -v "$1" >/dev/null 2>&1 && return 0
     shift
@@ -60,7 +60,8 @@ agree() {
     program=$1
     shift
     second
-    compile "$program" host tests/lib/streams.c tests/lib/texts.c
+    compile "$program" host tests/lib/streams.c tests/lib/families.c tests/lib/readings.c tests/lib/texts.c \
+        tests/lib/writes.c ${ALSO:-}
     for stream; do
         target/tests/second emit $stream
     done 2>"target/tests/$program.log" | $RUN "target/tests/$program"

@@ -1,0 +1,22 @@
+/* A writer of messages in the way that today's GNSS libraries are written: every field by setbitu or setbits, loops
+   over satellites and signals. It gives the answers and the bytes of hundurzek_write, makes every test of document
+   01's writer before it sets a bit, and takes what hundurzek_write takes, but has its holding as a struct, as the
+   reader (bitwise.h) has, and does not test a lent one. */
+#ifndef BENCH_BITWISE_WRITE_H
+#define BENCH_BITWISE_WRITE_H
+
+#include "bitwise.h"
+
+/* What the reader holds, and each system's cell flag, for which only a writer has a use. */
+typedef struct {
+  bitwise_holding held;
+  int flag[5];
+} bitwise_mask;
+
+/* Makes it, once for a mask, of the bytes of a good holding (docs/HOST.md). */
+void bitwise_hold(bitwise_mask *to, const uint8_t *holding);
+
+/* As hundurzek_write; the bytes lent as a holding are those of a bitwise_mask. */
+__typeof__(hundurzek_write) bitwise_write;
+
+#endif

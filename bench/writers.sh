@@ -1,0 +1,12 @@
+#!/bin/sh
+# bench/writers.sh: the other writers, bit by bit ('bitwise') and tuned ('tuned'), against the second program, on the
+# streams of tests/write.sh.
+set -eu
+cd "$(dirname "$0")/.."
+. tests/lib/tools.sh
+others='bench/as_host.c bench/bitwise_write.c bench/setbit.c bench/tuned_write.c bench/tuned_hold.c'
+for writer in bitwise tuned; do
+    ALSO="-Ibench -Dhundurzek_write=${writer}_as_host $others"
+    echo "== $writer"
+    agree write 'sweep write' 'write 1 300000' 'rounds 1 100000'
+done

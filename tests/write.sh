@@ -1,0 +1,7 @@
+#!/bin/sh
+# Writing for C against the second program: every single change of 2,100 good writes; 300,000 random writes, each answer
+# and each kind of refusal counted; 100,000 messages read, written back at the same place and another, read again.
+set -eu
+cd "$(dirname "$0")/.."
+. tests/lib/tools.sh
+agree write 'sweep write' 'write 1 300000' 'rounds 1 100000'
