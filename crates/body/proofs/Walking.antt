@@ -21,11 +21,11 @@ pub chosen-nil : (c : ℕ) → chosenLines c [] ≡ []
 unfolding chosenLines flatten
 chosen-nil c = rw (pick-nil (spell 64 c))
 
-chosen-set : (c : ℕ) (g : List Line) (gs : List (List Line)) → 2 ^ 63 ≤ c → c < 2 ^ 64 → chosenLines c (g ∷ gs) ≡ g ++ chosenLines (c * 2 ^ 1 % 2 ^ 64) gs
+pub chosen-set : (c : ℕ) (g : List Line) (gs : List (List Line)) → 2 ^ 63 ≤ c → c < 2 ^ 64 → chosenLines c (g ∷ gs) ≡ g ++ chosenLines (c * 2 ^ 1 % 2 ^ 64) gs
 unfolding chosenLines flatten
 chosen-set c g gs set small = ap flatten (pick-set c g gs set small)
 
-chosen-clear : (c : ℕ) (g : List Line) (gs : List (List Line)) → c < 2 ^ 63 → chosenLines c (g ∷ gs) ≡ chosenLines (c * 2 ^ 1 % 2 ^ 64) gs
+pub chosen-clear : (c : ℕ) (g : List Line) (gs : List (List Line)) → c < 2 ^ 63 → chosenLines c (g ∷ gs) ≡ chosenLines (c * 2 ^ 1 % 2 ^ 64) gs
 unfolding chosenLines
 chosen-clear c g gs clear = ap flatten (pick-clear c g gs clear)
 
