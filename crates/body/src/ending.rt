@@ -14,7 +14,6 @@ ghost use Rattle.table.specs.Bodies.{linesIn};
 use crate::Extent;
 use crate::FIRST;
 use crate::Placed;
-use crate::WINDOWS;
 use crate::satellites;
 use crate::tail;
 use crate::whole;
@@ -23,6 +22,9 @@ use rows::shapes;
 use table::Body;
 use table::Keys;
 use table::over;
+
+// So many bytes behind a row are enough for its windows.
+const WINDOWS: usize = 15;
 
 // A selection of satellites, and whether the rows are those of their cells.
 pub struct Selection {

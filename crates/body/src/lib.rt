@@ -70,9 +70,6 @@ pub struct Passed {
 // The first satellite, as a selection.
 pub const FIRST: u64 = 0x8000_0000_0000_0000;
 
-// So many bytes behind a row are enough for its windows.
-pub const WINDOWS: usize = 15;
-
 // So many rows of one width.
 fn alike(rows: usize, width: usize) -> Extent
     requires { ⌜ (rows ≤ 256) × (width ≤ 71) ⌝ }
@@ -134,12 +131,12 @@ pub fn fill(
     requires { ⌜ Fills (now ids) (now masks) (now strips) placed (now rows) × (placed .at + placed .bits ≤ 8 * length (now bytes)) ⌝ }
     ensures { λ _. ⌜ now (rows .exit) ≡ over (flatten (rowsAt (linesIn (viewBy (now (ids .entry)) (now (masks .entry)) (now (strips .entry))) (placed .body)) (now (bytes .entry)) (placed .at))) (now (rows .entry)) ⌝ }
 {
-    // two tests, not one: with two callers LLVM keeps it out of the loop over messages
-    if bytes.len() < WINDOWS {
+    // two tests and two calls, so that LLVM leaves it out of the loop over messages
+    if bytes.len() == 0 {
         ending::fill(ids, masks, strips, placed, bytes, rows);
         return;
     }
-    if (placed.at + placed.bits + 7) / 8 > bytes.len() - WINDOWS {
+    if (placed.at + placed.bits + 127) / 8 > bytes.len() {
         ending::fill(ids, masks, strips, placed, bytes, rows);
         return;
     }

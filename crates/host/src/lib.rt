@@ -195,7 +195,8 @@ pub extern "C" fn hundurzek_walk(
     ensures { λ _. ⌜ now (rows .exit) ≡ hostWalk (now (holding .entry)) (now (bytes .entry)) end (now (rows .entry)) .rows ⌝ }
 {
     let held = passing::take::holding_in(holding);
-    let halt = walk::walk(held, bytes, end, rows);
+    let is = held.is_sound();
+    let halt = walk::walk_under(is, held, bytes, end, rows);
     let stop = halt.stop;
     let tally = halt.tally;
     let after = halt.holding;
