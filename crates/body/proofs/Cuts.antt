@@ -1,6 +1,6 @@
 -- The lines of a body that is cut between two satellites: those that a selection's first bits choose, then those that its other bits choose; and how many
 -- the latter are. Assumes nothing.
-use Rattle.bits.proofs.Words.{_≡_, refl, sym, ap, ap₂, _∙_, subst, Bool, true, false, cond, List, [], _∷_, _++_, ℕ, zero, suc, _+_, _-_, _*_, _/_, _%_, _^_, _≤_, _<_, arith, ltb, length, getD, drop}
+use Rattle.bits.proofs.Words.{_≡_, refl, sym, ap, ap₂, _∙_, Bool, true, false, cond, List, [], _∷_, _++_, ℕ, zero, suc, _+_, _-_, _*_, _/_, _%_, _^_, _≤_, _<_, arith, ltb, length, getD, drop}
 use mathlib.Core.List.{flatten}
 use native.Mathlib.Nat.{zero-div, zero-mul, zero-add, mod-lt, pow-suc, mul-assoc, le-of-suc-le-suc, mul-mod-left, add-zero}
 use borrow.Author.Tests.{ltb-true, ltb-false}

@@ -1,5 +1,5 @@
 -- The rows of a body that is cut: those of its first part stand, and those behind it are left to come. Assumes nothing.
-use Rattle.bits.proofs.Words.{_≡_, refl, sym, ap, ap₂, _∙_, subst, List, _++_, ℕ, _+_, _-_, _*_, _^_, _≤_, _<_, arith, length, take, drop, ℤ}
+use Rattle.bits.proofs.Words.{_≡_, refl, sym, ap, ap₂, _∙_, List, _++_, ℕ, _+_, _*_, _≤_, _<_, arith, length, take, drop, ℤ}
 use native.Mathlib.Nat.{zero-add}
 use lib.ListN.{length-append, length-drop}
 use Rattle.format.specs.Reading.{over}

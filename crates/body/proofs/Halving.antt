@@ -1,5 +1,5 @@
 -- A long body cut between two satellites: its two parts, of satellites' rows and of cells'. Assumes nothing.
-use Rattle.bits.proofs.Words.{_≡_, refl, sym, ap, _∙_, subst, Bool, true, false, List, _++_, ℕ, zero, suc, _+_, _-_, _*_, _/_, _%_, _^_, _≤_, _<_, arith, length, getD}
+use Rattle.bits.proofs.Words.{_≡_, refl, sym, ap, _∙_, Bool, true, false, List, _++_, ℕ, zero, suc, _+_, _-_, _*_, _/_, _%_, _^_, _≤_, _<_, arith, length, getD}
 use native.Mathlib.Nat.{mul-le-mul, mul-zero, mul-div-cancel, mod-le, mod-eq-of-lt, sub-zero}
 use lib.ListN.{length-append}
 use Rattle.bits.specs.BitLists.{spell}
@@ -9,7 +9,7 @@ use Rattle.format.specs.Rows.{Line, widthOf, shapeWidth, bodyWidth}
 use Rattle.format.specs.Messages.{iodeWidth}
 use Rattle.holding.specs.Held.{View, slotSatellites}
 use Rattle.rows.proofs.RowsAt.{width-append}
-use Rattle.rows.proofs.Table.{columns-in, width-at, width-longest}
+use Rattle.rows.proofs.Table.{columns-in, width-at}
 use Rattle.rows.specs.declared.shape.Shape.{Shape}
 use Rattle.rows.specs.Shapes.{columnsIn}
 use Rattle.rows.specs.Table.{shapeAt, shapeFor}

@@ -1,5 +1,5 @@
 -- `body::ending::cut_at` meets its contract. The loop's invariant: those passed have so many rows, fewer than 120 bits without the last one's. Assumes nothing.
-use Rattle.bits.proofs.Words.{_≡_, refl, sym, ap, _∙_, Bool, true, false, cond, List, ℕ, zero, suc, _+_, _-_, _*_, _≤_, _<_, arith, needs, length}
+use Rattle.bits.proofs.Words.{_≡_, refl, ap, _∙_, Bool, true, false, List, ℕ, zero, suc, _+_, _-_, _*_, _≤_, _<_, arith}
 use native.Mathlib.Nat.{zero-mul, add-mul, mul-le-mul, le-refl, sub-zero, add-comm}
 use Rattle.body.specs.Cutting.{most, rowsFor, rowsFrom}
 use Rattle.body.proofs.ending.cut_at.Statement.{statement}

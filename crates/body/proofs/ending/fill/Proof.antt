@@ -1,17 +1,16 @@
 -- `body::ending::fill` meets its contract. Assumes nothing.
-use Rattle.bits.proofs.Words.{_≡_, refl, sym, ap, _∙_, subst, List, [], _++_, ℕ, _+_, _-_, _*_, _≤_, arith, needs, length, take, drop, ℤ}
+use Rattle.bits.proofs.Words.{_≡_, sym, ap, _∙_, subst, List, [], _++_, ℕ, _-_, arith, needs, length, take, drop, ℤ}
 use mathlib.Core.Logic.{⊎-elim}
 use mathlib.Core.List.{append-nil}
-use lib.ListN.{drop-of-length-le, length-drop, length-take, length-append}
+use lib.ListN.{drop-of-length-le, length-drop}
 use Rattle.format.specs.Reading.{over}
 use Rattle.table.specs.Bodies.{linesIn}
 use Rattle.body.specs.declared.Placed.{Placed}
-use Rattle.body.specs.Asking.{Fills}
 use Rattle.body.specs.Lent.{viewBy}
 use Rattle.body.specs.Written.{numbersAt}
 use Rattle.body.proofs.Bodies.{few-in}
 use Rattle.body.proofs.Going.{lent}
-use Rattle.body.proofs.Endings.{Left, long-over, left-whole, too-long, few-first, first-fills, first-windows, left-after}
+use Rattle.body.proofs.Endings.{Left, long-over, left-whole, too-long, first-fills, first-windows, left-after}
 use Rattle.body.proofs.ending.fill.Statement.{statement}
 use Rattle.body.proofs.ending.fill.Tie as tie
 

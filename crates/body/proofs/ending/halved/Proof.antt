@@ -1,5 +1,5 @@
 -- `body::ending::halved` meets its contract: a packet's body is too short to be cut. Assumes nothing.
-use Rattle.bits.proofs.Words.{_≡_, refl, ap, sym, _∙_, _*_, _≤_, arith, needs}
+use Rattle.bits.proofs.Words.{refl, ap, sym, _∙_, arith, needs}
 use native.Mathlib.Nat.{mul-le-mul}
 use Rattle.format.specs.Rows.{shapeWidth, bodyWidth}
 use Rattle.rows.proofs.Table.{width-at}

@@ -1,5 +1,5 @@
 -- `body::ending::of_cells` meets its contract. Assumes nothing.
-use Rattle.bits.proofs.Words.{_≡_, sym, subst, _+_, _*_, _^_, _<_, arith, needs, getD, ℕ}
+use Rattle.bits.proofs.Words.{sym, subst, _*_, _^_, _<_, arith, needs, getD, ℕ}
 use Rattle.rows.proofs.Table.{width-at}
 use Rattle.body.specs.declared.ending.Halves.{Halves}
 use Rattle.body.specs.Cutting.{Halved}

@@ -1,5 +1,5 @@
 -- `body::ending::of_satellites` meets its contract. Assumes nothing.
-use Rattle.bits.proofs.Words.{_≡_, sym, ap, subst, ℕ, _-_, _*_, _/_, _%_, _^_, _≤_, _<_, arith, needs}
+use Rattle.bits.proofs.Words.{_≡_, sym, subst, ℕ, _-_, _*_, _/_, _%_, _^_, _<_, arith, needs}
 use native.Mathlib.Nat.{mod-le}
 use Rattle.holding.specs.Held.{slotSatellites}
 use Rattle.rows.proofs.Table.{width-at}

@@ -1,5 +1,5 @@
 -- `body::ending::parted` meets its contract. Assumes nothing.
-use Rattle.bits.proofs.Words.{_≡_, refl, sym, ap, _∙_, ℕ, _+_, _-_, _*_, _/_, _%_, _^_, _≤_, arith, needs}
+use Rattle.bits.proofs.Words.{_≡_, ap, _∙_, ℕ, _+_, _-_, _%_, _^_, arith, needs}
 use native.Mathlib.Nat.{mod-le}
 use Rattle.table.specs.Kinds.{keysFor}
 use Rattle.body.specs.Cutting.{halvesAt}

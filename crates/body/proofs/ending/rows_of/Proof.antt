@@ -1,8 +1,8 @@
 -- `body::ending::rows_of` meets its contract. Assumes nothing.
-use Rattle.bits.proofs.Words.{_≡_, refl, sym, ap, _∙_, ℕ, _*_, _%_, _^_, _≤_, arith, needs, getD}
+use Rattle.bits.proofs.Words.{refl, _^_, arith, needs, getD}
 use borrow.Author.Tests.{lt-ltb, le-ltb, not-true, not-false}
 use lib.Count.{ones-le}
-use Rattle.body.specs.Cutting.{most, rowsFor}
+use Rattle.body.specs.Cutting.{rowsFor}
 use Rattle.body.proofs.ending.rows_of.Statement.{statement}
 use Rattle.body.proofs.ending.rows_of.Tie as tie
 
