@@ -1,4 +1,4 @@
--- `walk::single::seek` meets its contract. Assumes nothing.
+-- `walk::single::seek_under` meets its contract. Assumes nothing.
 use mathlib.Core.Path.{_≡_, _∙_, sym, ap}
 use borrow.Author.Needs.{needs}
 use lib.ListN.{length}
@@ -9,16 +9,16 @@ use Rattle.reader.proofs.Sought.{seen-tests, refused-lent, good-lent, good-read
 use Rattle.walk.specs.declared.under.Pause.{Pause}
 use Rattle.walk.specs.Pausing.{pausesIn}
 use Rattle.walk.proofs.Begins.{begin}
-use Rattle.walk.proofs.single.seek.Statement.{statement}
-use Rattle.walk.proofs.single.seek.Tie as tie
+use Rattle.walk.proofs.single.seek_under.Statement.{statement}
+use Rattle.walk.proofs.single.seek_under.Tie as tie
 
 -- what the tests say
 module _ (t : tie.After-tested) where
   abbrev s : tie.Start
-  s = t .before .before .before
+  s = t .before .before
 
   tests : t .tested .result ≡ testedBy (testsOf (s .args .holding) (s .args .bytes .now) (s .args .end) (s .args .start) (length (s .args .rows .now)))
-  tests = t .tested .ensures ∙ seen-tests (s .args .holding) (s .args .bytes .now) (s .args .end) (s .args .start) (s .args .rows .now) _ (t .before .is-sound .ensures)
+  tests = t .tested .ensures ∙ seen-tests (s .args .holding) (s .args .bytes .now) (s .args .end) (s .args .start) (s .args .rows .now) _ (s .pre)
 
 returns : tie.Need-returns
 unfolding soughtBy
@@ -52,6 +52,6 @@ returns-2 c =
     let same = good-reads (x .holding) (x .bytes .now) (x .end) (x .start) (x .rows .now) (good e) in
     (ap (λ (p : Pause). p .found) (u .under .ensures .0) ∙ rw (good e), u .under .ensures .1 ∙ sym (ap (λ (o : Outcome). rowsAfter o (x .rows .now)) same))
 
-pub seek-spec : {M : Type 1} → statement M
-seek-spec =
-    tie.close (tie.spec (λ c κs. search needs) (λ c κs. search needs) (λ c. search needs) returns (λ c. search needs) under-requires (λ c. search needs) returns-2)
+pub seek-under-spec : {M : Type 1} → statement M
+seek-under-spec =
+    tie.close (tie.spec (λ c κs. search needs) (λ c. search needs) returns (λ c. search needs) under-requires (λ c. search needs) returns-2)

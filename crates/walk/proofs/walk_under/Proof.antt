@@ -1,4 +1,4 @@
--- `walk::walk` meets its contract. Assumes nothing.
+-- `walk::walk_under` meets its contract. Assumes nothing.
 use mathlib.Core.Path.{_≡_, sym, _∙_}
 use lib.ListN.{length}
 use borrow.Author.Needs.{needs}
@@ -6,16 +6,16 @@ use Rattle.reader.proofs.Outcomes.{Fine}
 use Rattle.reader.specs.Readings.{testsOf, testedBy}
 use Rattle.reader.proofs.Sought.{seen-tests, good-lent}
 use Rattle.walk.proofs.Begins.{refused-walked, begin, begun-walked}
-use Rattle.walk.proofs.walk.Statement.{statement}
-use Rattle.walk.proofs.walk.Tie as tie
+use Rattle.walk.proofs.walk_under.Statement.{statement}
+use Rattle.walk.proofs.walk_under.Tie as tie
 
 -- what the tests say
 module _ (t : tie.After-tested) where
   abbrev s : tie.Start
-  s = t .before .before .before
+  s = t .before .before
 
   tests : t .tested .result ≡ testedBy (testsOf (s .args .holding) (s .args .bytes .now) (s .args .end) 0 (length (s .args .rows .now)))
-  tests = t .tested .ensures ∙ seen-tests (s .args .holding) (s .args .bytes .now) (s .args .end) 0 (s .args .rows .now) _ (t .before .is-sound .ensures)
+  tests = t .tested .ensures ∙ seen-tests (s .args .holding) (s .args .bytes .now) (s .args .end) 0 (s .args .rows .now) _ (s .pre)
 
 returns : tie.Need-returns
 returns c =
@@ -43,6 +43,6 @@ returns-2 c =
     let whole = begun-walked (x .holding) (x .bytes .now) (x .end) (x .rows .now) (fine e) in
     (o .on .ensures .0 ∙ whole .0, o .on .ensures .1 ∙ whole .1)
 
-pub walk-spec : {M : Type 1} → statement M
-walk-spec =
-    tie.close (tie.spec (λ c κs. search needs) (λ c κs. search needs) (λ c. search needs) returns (λ c. search needs) on-requires (λ c. search needs) returns-2)
+pub walk-under-spec : {M : Type 1} → statement M
+walk-under-spec =
+    tie.close (tie.spec (λ c κs. search needs) (λ c. search needs) returns (λ c. search needs) on-requires (λ c. search needs) returns-2)
