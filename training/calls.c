@@ -164,6 +164,42 @@ static void lines(void) {
   line("the same in small letters", "12\tfe9\n", 2);
 }
 
+/* ---- writing */
+
+/* Document 01's clocks: the head, and a row for each of the two satellites. */
+enum { ABSENT = HUNDURZEK_ABSENT, CLOCK = 3, ROWS = 2, MESSAGE_BYTES = 9 };
+static const int32_t head[HUNDURZEK_ROW] = {3, 100, 2, 0, 3, ABSENT, ABSENT, ABSENT};
+static const int32_t clocks[ROWS][HUNDURZEK_ROW] = {
+    {0, 1, ABSENT, 5, ABSENT, ABSENT, ABSENT, ABSENT},
+    {0, 3, ABSENT, -16384, ABSENT, ABSENT, ABSENT, ABSENT},
+};
+static int32_t rows_asked[ROWS][HUNDURZEK_ROW];
+
+static void write_clocks(const char *what, const uint8_t *holding, uint64_t bytes, uint64_t start) {
+  hundurzek_done done;
+  lend();
+  hundurzek_write(&done, holding, HUNDURZEK_HOLDING, head, HUNDURZEK_ROW, rows_asked[0], ROWS * HUNDURZEK_ROW, ROWS,
+                  lent, bytes, start);
+  tell(what, &done);
+}
+
+/* The worked clocks written into too little room, past its end and with numbers that no message has; 12 before 1. */
+static void writes(void) {
+  memcpy(rows_asked, clocks, sizeof rows_asked);
+  write_clocks("write 67 bits into 8 bytes", masked, MESSAGE_BYTES - 1, 0);
+  write_clocks("write 67 bits into 9 bytes", masked, MESSAGE_BYTES, 0);
+  write_clocks("write at place 73 of 9 bytes", masked, MESSAGE_BYTES, 8 * MESSAGE_BYTES + 1);
+  write_clocks("write at place 72 of 9 bytes", masked, MESSAGE_BYTES, 8 * MESSAGE_BYTES);
+  write_clocks("write without a mask", empty, MESSAGE_BYTES, 0);
+  rows_asked[0][CLOCK] = 16384;
+  write_clocks("write a clock of 16384", masked, MESSAGE_BYTES, 0);
+  write_clocks("the same into 8 bytes", masked, MESSAGE_BYTES - 1, 0);
+  rows_asked[0][CLOCK] = 16383;
+  write_clocks("write a clock of 16383", masked, MESSAGE_BYTES, 0);
+  rows_asked[1][1] = 2;
+  write_clocks("write a row for satellite 2, which no mask names", masked, MESSAGE_BYTES, 0);
+}
+
 int main(void) {
   static int32_t rows[HUNDURZEK_ROOM];
   hundurzek_reading reading;
@@ -176,5 +212,6 @@ int main(void) {
   order();
   late();
   lines();
+  writes();
   return 0;
 }

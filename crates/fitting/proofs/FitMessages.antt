@@ -2,7 +2,7 @@
 -- Assumes nothing.
 use mathlib.Core.Path.{_≡_, refl, sym, ap, subst, _∙_}
 use mathlib.Core.Bool.{Bool, true, false≢true}
-use mathlib.Core.List.{List, [], _∷_, _++_, append-nil}
+use mathlib.Core.List.{List, [], _∷_, _++_}
 use Prim.Native.Nat.{ℕ, zero, suc, _+_, _^_, _<_}
 use native.Mathlib.Nat.{add-zero, zero-add}
 use native.Mathlib.Omega.{arith}
@@ -24,7 +24,7 @@ use Rattle.format.specs.declared.Refusal.the-variants.{SubType}
 use Rattle.format.specs.Good.{good}
 use Rattle.format.specs.Masks.{Mask, Held, nothing, mask, Sky, skyOf}
 use Rattle.format.specs.Messages.{Common, Heading, headOf, overSatellites, overCells, orbitShape, clockShape, codeShape, phaseShape, combinedShape, flagged, packet, packetType, maskMessage, maskType}
-use Rattle.format.specs.Programs.{Program, well, run}
+use Rattle.format.specs.Programs.{Program}
 use Rattle.format.specs.Rows.{absent, Column, Line}
 use Rattle.format.specs.Same.{sameℤ}
 use Rattle.format.specs.Spelling.{putCommon, putFlagged, putPacket, putMask}

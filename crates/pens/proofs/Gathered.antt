@@ -9,7 +9,7 @@ use Rattle.bits.specs.BitLists.{spell}
 use Rattle.format.specs.Lengths.{total}
 use Rattle.pens.specs.declared.pen.Field.{Field}
 use Rattle.pens.specs.declared.pen.Pen.{Pen}
-use Rattle.pens.specs.Pens.{pushed, penAfter, spellFields, Fine, Fines, none, more}
+use Rattle.pens.specs.Pens.{pushed, penAfter, spellFields, Fines, more}
 use Rattle.pens.proofs.Pens.{joined}
 
 -- how many bits fields have

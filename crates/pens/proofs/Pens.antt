@@ -1,5 +1,5 @@
 -- A pen over lent bytes: whatever is gathered and set on the way, in the end the bits of all fields stand from its place on. Assumes nothing.
-use Rattle.bits.proofs.Words.{_≡_, refl, sym, ap, _∙_, Bool, cond, true, false, List, [], _∷_, _++_, ℕ, _+_, _-_, _*_, _/_, _%_, _^_, _≤_, _<_, arith, leb, length, take, drop}
+use Rattle.bits.proofs.Words.{_≡_, refl, sym, ap, _∙_, Bool, cond, true, false, List, [], _∷_, _++_, ℕ, _+_, _-_, _*_, _/_, _%_, _^_, _≤_, _<_, arith, length, take, drop}
 use mathlib.Core.List.{append-assoc, append-nil}
 use native.Mathlib.Decide.{decLe}
 use native.Mathlib.Nat.{lt-of-lt-of-le}

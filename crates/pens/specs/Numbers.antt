@@ -5,7 +5,3 @@ use Rattle.bits.specs.Signed.{unsigned}
 
 unfoldable pub wordOf : ℤ → ℕ
 wordOf v = unsigned 32 v
-
--- those of an absent number
-abbrev pub absentWord : ℕ
-absentWord = 4294934528

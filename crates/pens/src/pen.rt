@@ -24,18 +24,21 @@ pub const MOST: usize = 56;
 // How many bits a byte has.
 const BYTE: usize = 8;
 
+// Sets bits at a place. By numbers: a pen would be handed over in memory, and be stored there for each field.
+fn set_bits(bytes: &mut [u8], place: usize, width: usize, gathered: u64)
+    requires { ⌜ Ready (record { place = place; width = width; gathered = gathered }) [] (now bytes) ⌝ }
+    ensures { λ _. ⌜ now (bytes .exit) ≡ setBy (record { place = place; width = width; gathered = gathered }) (now (bytes .entry)) ⌝ }
+{
+    let first = place / BYTE;
+    write_field(&mut bytes[first..], place % BYTE, width, gathered);
+}
+
 // Sets what is gathered.
 pub fn set(bytes: &mut [u8], pen: Pen)
     requires { ⌜ Ready pen [] (now bytes) ⌝ }
     ensures { λ _. ⌜ now (bytes .exit) ≡ setBy pen (now (bytes .entry)) ⌝ }
 {
-    let first = pen.place / BYTE;
-    write_field(
-        &mut bytes[first..],
-        pen.place % BYTE,
-        pen.width,
-        pen.gathered,
-    );
+    set_bits(bytes, pen.place, pen.width, pen.gathered);
 }
 
 // One field more.
@@ -52,7 +55,7 @@ pub fn push(bytes: &mut [u8], pen: Pen, field: Field) -> Pen
             gathered: (pen.gathered << width) + field.value,
         };
     }
-    set(bytes, pen);
+    set_bits(bytes, pen.place, pen.width, pen.gathered);
     Pen {
         place: pen.place + pen.width,
         width,

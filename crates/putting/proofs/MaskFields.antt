@@ -9,7 +9,7 @@ use Rattle.bits.proofs.BitLists.{spell-append}
 use Rattle.bits.specs.BitLists.{digit, number, spell}
 use Rattle.format.proofs.Steps.{field-spelled, field-lt}
 use Rattle.format.specs.Lengths.{maskOr}
-use Rattle.format.specs.Masks.{Mask, Held, nothing, mask}
+use Rattle.format.specs.Masks.{Held, nothing, mask}
 use Rattle.format.specs.Spelling.{putSystem}
 use Rattle.holding.proofs.Sounds.{sounds}
 use Rattle.holding.specs.declared.Holding.{Holding}
@@ -160,8 +160,3 @@ module _ (h : Holding) (on : sound h ≡ true) where
   pub mask-spelled : spellFields (maskFields h) ≡ flatMap putSystem (maskOr (maskOf h) .systems)
   unfolding maskFields
   mask-spelled = fields-spelled (h .count) (all-slots h on) (omega arith) ∙ ap (flatMap putSystem) (systems-held h on)
-
-  -- and of a mask that is held
-  pub held-spelled : (m : Mask) → maskOf h ≡ mask m → spellFields (maskFields h) ≡ flatMap putSystem (m .systems)
-  unfolding maskOr
-  held-spelled m is = mask-spelled ∙ ap (λ (held : Held). flatMap putSystem (maskOr held .systems)) is

@@ -45,10 +45,6 @@ bits-most (suc k) {h} {i} {n} l e =
 all-most : (h : Holding) → sound h ≡ true → bitsFrom h 0 0 ≤ 1329
 all-most h on = omega (arith, few-slots (all-slots h on), bits-most (h .count) (all-slots h on) (omega arith))
 
--- five systems and 64 satellites
-pub mask-short : (h : Holding) → sound h ≡ true → length (flatMap putSystem (maskOr (maskOf h) .systems)) ≤ 1329
-mask-short h on = omega (arith, ap (λ (ss : List System). length (flatMap putSystem ss)) (systems-held h on), all-most h on)
-
 -- ---- counted up to the i-th slot, behind some satellites
 
 pub record BitsLeft (h : Holding) (bits i : ℕ) : Type 0 where

@@ -1,5 +1,5 @@
 -- The first bits of a selection's word in two fields. Assumes nothing.
-use Rattle.bits.proofs.Words.{_≡_, refl, sym, ap, ap₂, _∙_, List, [], _∷_, ℕ, _+_, _-_, _*_, _/_, _%_, _^_, _≤_, _<_, arith, length, ℤ}
+use Rattle.bits.proofs.Words.{_≡_, refl, sym, ap, ap₂, _∙_, List, [], _∷_, ℕ, _+_, _-_, _*_, _/_, _%_, _^_, _≤_, _<_, arith}
 use mathlib.Core.List.{append-nil}
 use native.Mathlib.Decide.{decLe}
 use native.Mathlib.Nat.{mod-lt, mul-assoc, mul-add-div-right, div-one}
@@ -7,13 +7,10 @@ use Prim.Native.Nat.{min}
 use lib.Pow.{pow-pos, pow-add, shr-lt, shr-shr, split}
 use Rattle.bits.proofs.BitLists.{spell-append}
 use Rattle.bits.specs.BitLists.{spell}
-use Rattle.format.specs.Masks.{Satellite}
-use Rattle.format.specs.Spelling.{marks}
 use Rattle.pens.specs.declared.pen.Field.{Field}
 use Rattle.pens.specs.declared.pen.Pen.{Pen}
-use Rattle.putting.specs.Marking.{marksWord, topField, selectionFields}
+use Rattle.putting.specs.Marking.{topField, selectionFields}
 use Rattle.pens.specs.Pens.{pushed, inkedBy, penAfter, inkAfter, spellFields, Fine, Fines, none, more, Ready}
-use Rattle.putting.proofs.MarkWords.{word-small, word-top}
 use Rattle.pens.proofs.Pens.{ready-next, ready-first}
 
 -- ---- they are numbers of so many bits
@@ -71,12 +68,6 @@ selection-spelled chosen n few = go (decLe n 32)
         let both : 32 + (n - 32) ≡ n = omega arith in
         let down : 32 - (n - 32) ≡ 64 - n = omega arith in
         rw first (in-both chosen (n - 32) (omega arith) ∙ ap₂ (λ (k d : ℕ). spell k (chosen / 2 ^ d)) both down)
-
-pub selection-marks : (sats : List Satellite) (rows : List (List ℤ)) → length sats ≤ 64 → spellFields (selectionFields (marksWord sats rows) (length sats)) ≡ marks sats rows
-selection-marks sats rows few = selection-spelled (marksWord sats rows) (length sats) few ∙ word-top sats rows
-
-pub marks-fines : (sats : List Satellite) (rows : List (List ℤ)) → length sats ≤ 64 → Fines (selectionFields (marksWord sats rows) (length sats))
-marks-fines sats rows few = selection-fines (marksWord sats rows) (length sats) (word-small sats rows few) few
 
 -- ---- two fields are pushed, one after the other
 

@@ -1,12 +1,10 @@
 -- The last tests, 12 and 1, one way or the other. Assumes nothing.
-use Rattle.bits.proofs.Words.{_≡_, refl, sym, ap, _∙_, Bool, true, false, List, ℕ, _+_, _≤_, _<_, arith, leb, length}
+use Rattle.bits.proofs.Words.{_≡_, ap, _∙_, Bool, true, false, List, ℕ, _+_, _≤_, _<_, length}
 use borrow.Author.Tests.{le-leb, lt-leb}
-use Rattle.bits.specs.BitLists.{setBytes}
 use Rattle.format.specs.declared.Refusal.the-variants.{Room, Value}
 use Rattle.format.specs.Tests.{verdict}
-use Rattle.format.specs.Writing.{Written, wrote, refused, limit, bytesAfter}
-use Rattle.writer.specs.declared.Writing.the-variants.{Done, Refused}
-use Rattle.writer.specs.Stages.{lastTests, behind, answered}
+use Rattle.format.specs.Writing.{wrote, refused, limit}
+use Rattle.writer.specs.Stages.{lastTests, behind}
 
 module _ (bits : List Bool) (bytes : List ℕ) (start : ℕ) where
   -- 12

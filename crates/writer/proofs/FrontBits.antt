@@ -1,5 +1,5 @@
 -- The bits of a message's front: what a head's numbers spell, gathered. Assumes nothing.
-use Rattle.bits.proofs.Words.{_≡_, refl, sym, ap, ap₂, _∙_, Bool, true, false, List, [], _∷_, _++_, ℕ, _+_, _*_, _^_, _≤_, _<_, arith, ℤ, pos}
+use Rattle.bits.proofs.Words.{_≡_, refl, sym, ap, ap₂, _∙_, Bool, true, false, List, _++_, ℕ, _+_, _*_, _^_, _≤_, _<_, arith, ℤ, pos}
 use mathlib.Core.Bool.{false≢true}
 use mathlib.Core.List.{append-nil, append-assoc}
 use lib.IntN.{negsuc}
@@ -8,12 +8,11 @@ use Rattle.bits.specs.BitLists.{spell}
 use Rattle.bits.specs.Signed.{unsigned}
 use Rattle.format.proofs.Sames.{and-true}
 use Rattle.format.specs.declared.Head.{Head}
-use Rattle.format.specs.Lengths.{total}
 use Rattle.format.specs.Spelling.{put, putCommon}
 use Rattle.pens.specs.declared.pen.Field.{Field}
 use Rattle.pens.specs.declared.pen.Pen.{Pen}
 use Rattle.fitting.specs.FitHeads.{numberFits, commonFits}
-use Rattle.writer.specs.Fronts.{penAt, field, openingField, lastField, frontFields}
+use Rattle.writer.specs.Fronts.{penAt, openingField, lastField, frontFields}
 use Rattle.pens.specs.Numbers.{wordOf}
 use Rattle.pens.specs.Pens.{penAfter, spellFields, Fine, Fines, none, more}
 use Rattle.writer.proofs.Fronts.{Smalls, common-smalls}

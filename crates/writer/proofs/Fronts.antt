@@ -1,5 +1,5 @@
 -- The fronts of messages: pens that have gathered a head's numbers. Assumes nothing.
-use Rattle.bits.proofs.Words.{_≡_, refl, sym, ap, _∙_, true, false, List, [], _∷_, _++_, ℕ, _+_, _*_, _^_, _<_, arith}
+use Rattle.bits.proofs.Words.{_≡_, sym, ap, _∙_, true, false, [], _∷_, _++_, ℕ, _+_, _*_, _^_, _<_, arith}
 use Rattle.format.specs.declared.Head.{Head}
 use Rattle.format.specs.Lengths.{total}
 use Rattle.format.specs.Rows.{absent}

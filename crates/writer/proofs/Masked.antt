@@ -1,5 +1,5 @@
 -- A mask message of what is held: its length, and that it can be put out. Assumes nothing.
-use Rattle.bits.proofs.Words.{_≡_, refl, sym, ap, ap₂, _∙_, Bool, true, List, _++_, ℕ, _+_, _*_, _^_, _≤_, _<_, arith, length, pos, ℤ}
+use Rattle.bits.proofs.Words.{_≡_, refl, sym, ap, ap₂, _∙_, Bool, true, List, _++_, ℕ, _+_, _*_, _^_, _≤_, _<_, arith, length, pos}
 use mathlib.Core.List.{flatMap}
 use borrow.Author.Tests.{lt-ltb}
 use lib.ListN.{length-append}

@@ -1,11 +1,10 @@
 -- The order of the writer's tests, stage by stage. Assumes nothing.
-use Rattle.bits.proofs.Words.{_≡_, refl, sym, ap, _∙_, Bool, true, false, cond, not, _&&_, List, [], _∷_, _++_, ℕ, _+_, _*_, _≤_, _<_, arith, eqb, leb, length, ℤ, pos}
+use Rattle.bits.proofs.Words.{_≡_, refl, sym, ap, _∙_, Bool, true, false, cond, not, _&&_, List, [], _∷_, _++_, ℕ, _+_, _*_, _≤_, _<_, eqb, leb, length, ℤ, pos}
 use mathlib.Core.Bool.{false≢true}
 use borrow.Author.Tests.{le-leb, lt-leb}
 use lib.IntN.{negsuc}
 use Rattle.format.specs.declared.Head.{Head}
-use Rattle.format.specs.declared.Refusal.{Refusal}
-use Rattle.format.specs.declared.Refusal.the-variants.{Place, SubType, NoMask, OtherIssue, Network, Value, Room}
+use Rattle.format.specs.declared.Refusal.the-variants.{Place, OtherIssue, Network, Value}
 use Rattle.format.specs.Good.{isHolding}
 use Rattle.format.specs.Masks.{Held, nothing, mask, Lent, heldIn}
 use Rattle.format.specs.Same.{sameℤ}
@@ -18,7 +17,6 @@ use Rattle.table.proofs.Tabled.{table-means}
 use Rattle.table.specs.declared.Kind.{Kind}
 use Rattle.table.specs.declared.Kind.the-variants.{Other, Mask, Packet, Masked}
 use Rattle.table.specs.Kinds.{kindFor, kindBy}
-use Rattle.writer.specs.declared.gate.Gate.{Gate}
 use Rattle.writer.specs.declared.gate.Gate.the-variants.{Open, Shut}
 use Rattle.writer.specs.Kinds.{kindAt, issueGate, gateBy}
 use Rattle.writer.specs.Stages.{gateTests, lastTests, behind, byGate}

@@ -1,5 +1,5 @@
 -- Past the gate: what writing comes to is what a plan or the held mask comes to. Assumes nothing.
-use Rattle.bits.proofs.Words.{_≡_, refl, sym, ap, ap₂, _∙_, Bool, true, false, _&&_, List, [], _∷_, _++_, ℕ, zero, suc, _*_, _≤_, _<_, arith, eqb, leb, length, ℤ, pos}
+use Rattle.bits.proofs.Words.{_≡_, refl, sym, ap, ap₂, _∙_, Bool, true, false, _&&_, List, _++_, ℕ, zero, suc, _*_, _≤_, _<_, arith, eqb, leb, length, ℤ, pos}
 use mathlib.Core.Bool.{false≢true}
 use mathlib.Core.List.{flatMap}
 use borrow.Author.Tests.{le-leb, lt-leb, ne-eqb}
@@ -18,7 +18,6 @@ use Rattle.holding.specs.declared.Holding.{Holding}
 use Rattle.holding.specs.Held.{isHeld, issueOf, viewOf}
 use Rattle.holding.specs.Pictures.{pictureOf, maskOf, sound}
 use Rattle.table.proofs.Tabled.{tabled}
-use Rattle.table.specs.declared.Kind.{Kind}
 use Rattle.table.specs.declared.Kind.the-variants as Kinds
 use Rattle.table.specs.Bodies.{linesIn}
 use Rattle.table.specs.Kinds.{OfTable}
@@ -26,7 +25,7 @@ use Rattle.writer.specs.declared.gate.Gate.the-variants.{Open}
 use Rattle.writer.specs.declared.plan.Plan.{Plan}
 use Rattle.writer.specs.declared.planning.Asked.{Asked}
 use Rattle.fitting.specs.Fits.{rowsFit}
-use Rattle.fitting.specs.FitHeads.{numberFits, commonFits, rowless, maskFits, fits}
+use Rattle.fitting.specs.FitHeads.{commonFits, rowless, maskFits, fits}
 use Rattle.writer.specs.Fronts.{maskFront}
 use Rattle.writer.specs.Kinds.{kindAt, gateBy, planBits}
 use Rattle.pens.specs.Pens.{spellFields}
@@ -39,7 +38,7 @@ use Rattle.writer.proofs.Masked.{right-common, right-count}
 use Rattle.writer.proofs.PlanBits.{small-type}
 use Rattle.writer.proofs.PlanMask.{mask-fits, mask-bits}
 use Rattle.writer.proofs.SubTypes.{isOther}
-use Rattle.writer.proofs.Told.{Well, Typed, typed-as, issue-open}
+use Rattle.writer.proofs.Told.{Well, typed-as, issue-open}
 
 -- every sub type's kind is one of the table
 pub of-table : (z : ℤ) → OfTable (kindAt z)

@@ -1,12 +1,12 @@
 -- What a plan comes to is what head and rows come to: whether they fit, and their bits. Under the mask, with rows alone after the common head. Assumes nothing.
-use Rattle.bits.proofs.Words.{_≡_, refl, sym, ap, ap₂, _∙_, subst, Bool, true, false, cond, _&&_, List, [], _∷_, _++_, ℕ, _+_, _*_, _≤_, _<_, _^_, arith, length, take, ℤ, pos}
+use Rattle.bits.proofs.Words.{_≡_, refl, sym, ap, ap₂, _∙_, Bool, true, false, cond, _&&_, List, _++_, ℕ, _+_, _≤_, arith, length, ℤ, pos}
 use mathlib.Core.Bool.{false≢true}
 use borrow.Author.Tests.{lt-ltb}
 use Rattle.bits.specs.BitLists.{spell}
 use Rattle.format.proofs.Sames.{and-true}
 use Rattle.format.specs.declared.Head.{Head}
 use Rattle.format.specs.Lengths.{total}
-use Rattle.format.specs.Masks.{Mask, Held, mask, Sky, skyOf}
+use Rattle.format.specs.Masks.{Mask, mask, Sky, skyOf}
 use Rattle.format.specs.Rows.{absent, Line, spellRows}
 use Rattle.format.specs.Same.{sameℤ}
 use Rattle.format.specs.Spelling.{put, putCommon, putRows, putFlagged}
@@ -18,20 +18,17 @@ use Rattle.table.proofs.Tabled.{table-means}
 use Rattle.table.specs.declared.Kind.{Kind}
 use Rattle.table.specs.declared.Kind.the-variants.{Masked}
 use Rattle.table.specs.declared.Layout.{Layout}
-use Rattle.table.specs.Bodies.{linesOver, linesIn}
-use Rattle.table.specs.Kinds.{kindFor, keysFor, overBy, maskedBy, kindBy}
+use Rattle.table.specs.Bodies.{linesIn}
+use Rattle.table.specs.Kinds.{kindFor, overBy, maskedBy, kindBy}
 use Rattle.table.specs.Shapes.{shapesFrom}
-use Rattle.pens.specs.declared.pen.Pen.{Pen}
-use Rattle.writer.specs.declared.plan.Plan.{Plan}
 use Rattle.fitting.specs.Fits.{rowsFit}
 use Rattle.fitting.specs.FitHeads.{Asks, numberFits, commonFits, aloneFits, flaggedFits, askedBy, fitsAs, fits}
-use Rattle.writer.specs.Fronts.{penAt, openingField, lastField, frontFields}
+use Rattle.writer.specs.Fronts.{openingField, lastField, frontFields}
 use Rattle.writer.specs.Kinds.{asksOf, planBits}
-use Rattle.pens.specs.Pens.{penAfter, spellFields, Fines}
+use Rattle.pens.specs.Pens.{spellFields}
 use Rattle.writer.specs.Plans.{aloneHead, alonePlan}
 use Rattle.writer.proofs.FrontBits.{front-bits, front-fines, pen-bits}
-use Rattle.pens.proofs.Gathered.{widths}
-use Rattle.writer.proofs.SubTypes.{isOther, Numbered, numbered, asks-mean}
+use Rattle.writer.proofs.SubTypes.{isOther, numbered, asks-mean}
 
 -- ---- a sub type under the mask
 

@@ -12,7 +12,7 @@ use Rattle.format.specs.declared.Head.{Head}
 use Rattle.format.specs.Lengths.{total}
 use Rattle.format.specs.Masks.{Mask, mask, Satellite, Sky, skyOf, pick}
 use Rattle.format.specs.Messages.{satelliteLines}
-use Rattle.format.specs.Rows.{absent, Line, Column, spellRows}
+use Rattle.format.specs.Rows.{absent, Line, spellRows}
 use Rattle.format.specs.Same.{sameℤ}
 use Rattle.format.specs.Spelling.{put, marks, putSelection, chosenBy, putFlagged, putRows}
 use Rattle.format.specs.Table.{spelled}
@@ -22,14 +22,13 @@ use Rattle.table.specs.declared.Layout.{Layout}
 use Rattle.table.specs.Bodies.{linesOver, linesIn}
 use Rattle.table.specs.Kinds.{overBy}
 use Rattle.table.specs.Shapes.{shapesFrom}
-use Rattle.pens.specs.declared.pen.Field.{Field}
 use Rattle.writer.specs.declared.plan.Plan.{Plan}
 use Rattle.fitting.specs.Fits.{rowsFit}
 use Rattle.fitting.specs.FitHeads.{numberFits, networkFits, commonFits, aloneFits, flaggedFits, fits}
-use Rattle.writer.specs.Fronts.{penAt, openingField, lastField, frontFields, flagFields}
+use Rattle.writer.specs.Fronts.{openingField, lastField, frontFields, flagFields}
 use Rattle.writer.specs.Kinds.{planBits}
 use Rattle.pens.specs.Numbers.{wordOf}
-use Rattle.pens.specs.Pens.{penAfter, spellFields, Fine, Fines, none, more}
+use Rattle.pens.specs.Pens.{spellFields, Fine, Fines, none, more}
 use Rattle.writer.specs.Plans.{flaggedHead, flaggedPlan}
 use Rattle.writer.proofs.FrontBits.{put-word, front-fines, pen-bits}
 use Rattle.pens.proofs.Gathered.{widths}

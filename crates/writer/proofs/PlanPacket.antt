@@ -1,6 +1,5 @@
 -- What the plan of a packet's part comes to. Assumes nothing.
-use Rattle.bits.proofs.Words.{_≡_, refl, sym, ap, ap₂, _∙_, Bool, true, false, _&&_, List, [], _∷_, _++_, ℕ, suc, _+_, _*_, _≤_, _<_, _^_, arith, ltb, length, take, ℤ, pos}
-use mathlib.Core.Bool.{false≢true}
+use Rattle.bits.proofs.Words.{_≡_, refl, sym, ap, ap₂, _∙_, Bool, true, false, _&&_, List, _++_, ℕ, _+_, _*_, _<_, _^_, arith, ltb, length, ℤ, pos}
 use mathlib.Core.List.{append-assoc, append-nil}
 use native.Mathlib.Numerals.{add-one}
 use lib.IntN.{negsuc}
@@ -26,7 +25,7 @@ use Rattle.table.specs.Kinds.{kindFor, kindBy}
 use Rattle.writer.specs.declared.plan.Plan.{Plan}
 use Rattle.fitting.specs.Fits.{rowsFit}
 use Rattle.fitting.specs.FitHeads.{Asks, numberFits, partsFit, packetFits, askedBy, fitsAs, fits}
-use Rattle.writer.specs.Fronts.{penAt, openingField, packetFields}
+use Rattle.writer.specs.Fronts.{openingField, packetFields}
 use Rattle.writer.specs.Kinds.{asksOf, planBits}
 use Rattle.pens.specs.Numbers.{wordOf}
 use Rattle.pens.specs.Pens.{spellFields, Fine, Fines, none, more}

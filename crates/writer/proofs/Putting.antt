@@ -1,5 +1,5 @@
 -- What is planned, put out: what the pen has gathered, the selection, then the rows, all in their place. Assumes nothing.
-use Rattle.bits.proofs.Words.{_≡_, refl, sym, ap, ap₂, _∙_, List, [], _++_, ℕ, arith}
+use Rattle.bits.proofs.Words.{_≡_, sym, ap, ap₂, _∙_, List, [], _++_, ℕ}
 use mathlib.Core.List.{append-nil}
 use Rattle.bits.specs.BitLists.{spell, setBytes}
 use Rattle.pens.specs.declared.pen.Field.{Field}

@@ -1,5 +1,5 @@
 -- A message with rows that fit: its length, and that it can be put out. Assumes nothing.
-use Rattle.bits.proofs.Words.{_≡_, refl, sym, ap, ap₂, _∙_, Bool, true, List, [], _∷_, _++_, ℕ, _+_, _-_, _*_, _/_, _^_, _≤_, _<_, arith, length, ℤ}
+use Rattle.bits.proofs.Words.{_≡_, sym, ap, ap₂, _∙_, Bool, true, List, _++_, ℕ, _+_, _-_, _*_, _/_, _^_, _≤_, _<_, arith, length, ℤ}
 use lib.ListN.{length-append}
 use Rattle.bits.proofs.BitLists.{length-spell}
 use Rattle.bits.specs.BitLists.{spell}
@@ -9,17 +9,15 @@ use Rattle.format.specs.Rows.{Line, bodyWidth, spellRows}
 use Rattle.format.specs.Writing.{rowsIn}
 use Rattle.holding.specs.Held.{View, stripCells}
 use Rattle.rows.proofs.Table.{formed, columns-in}
-use Rattle.rows.specs.Shapes.{columnsIn}
 use Rattle.rows.specs.Table.{shapes, listed, shapeAt, shapeFor}
-use Rattle.table.specs.declared.Body.{Body}
 use Rattle.table.specs.declared.Keys.{Keys}
 use Rattle.table.specs.declared.Keys.the-variants.{Satellites, Cells, Parts}
-use Rattle.table.specs.Bodies.{linesOver, linesIn, FitsKeys, Fits}
+use Rattle.table.specs.Bodies.{linesOver, linesIn, FitsKeys}
 use Rattle.writer.specs.declared.plan.Plan.{Plan}
 use Rattle.fitting.specs.Fits.{rowsFit}
 use Rattle.writer.specs.Kinds.{planBits}
 use Rattle.putting.specs.Marking.{selectionFields}
-use Rattle.pens.specs.Pens.{spellFields, Fines, Ready}
+use Rattle.pens.specs.Pens.{spellFields}
 use Rattle.putting.specs.Putting.{Shaped, rowFields}
 use Rattle.writer.specs.Written.{planFields, Puts, Made}
 use Rattle.fitting.proofs.FitRows.{fit-rows}

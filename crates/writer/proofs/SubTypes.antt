@@ -1,30 +1,21 @@
 -- The sub types as the code has them are those of crate format's table. Assumes nothing.
-use Rattle.bits.proofs.Words.{_≡_, refl, sym, ap, _∙_, Bool, true, false, cond, not, _&&_, List, [], _∷_, map, ℕ, zero, suc, _+_, _-_, _^_, _<_, arith, eqb, ℤ, pos, getD}
+use Rattle.bits.proofs.Words.{_≡_, refl, sym, ap, _∙_, Bool, true, false, List, [], _∷_, map, ℕ, zero, suc, _-_, _^_, _<_, arith, eqb, ℤ, pos, getD}
 use native.Mathlib.Nat.{zero-add}
 use lib.IntN.{negsuc}
 use mir.Syntax.{w32}
 use mir.Val.{SFits}
 use Rattle.bits.specs.Signed.{unsigned}
 use Rattle.format.proofs.Tables.{Each, end, then, each-at, NoneOf}
-use Rattle.format.specs.declared.Head.{Head}
-use Rattle.format.specs.declared.Refusal.{Refusal}
-use Rattle.format.specs.declared.Refusal.the-variants.{SubType, NoMask, OtherIssue, Network}
-use Rattle.format.specs.Masks.{Held, nothing, mask}
+use Rattle.format.specs.Masks.{nothing}
 use Rattle.format.specs.Messages.{combinedShape, orbitShape, overSatellites, overCells}
-use Rattle.format.specs.Same.{sameℤ}
 use Rattle.format.specs.Table as Table
-use Rattle.format.specs.Tests.{Test, verdict}
-use Rattle.format.specs.Writing.{isOurs, hasMask, ofIssue}
-use Rattle.holding.specs.Held.{isHeld, issueOf}
 use Rattle.rows.specs.Table.{shapes, listed, shapeAt}
-use Rattle.table.proofs.Tabled.{combined-shapes, table-means, unlisted-other, ours}
+use Rattle.table.proofs.Tabled.{combined-shapes, unlisted-other, ours}
 use Rattle.table.specs.declared.Kind.{Kind}
 use Rattle.table.specs.declared.Kind.the-variants.{Other, Mask, Packet, Masked}
-use Rattle.table.specs.Kinds.{codeKinds, kindFor, kindBy, overBy}
-use Rattle.writer.specs.declared.gate.Gate.{Gate}
-use Rattle.writer.specs.declared.gate.Gate.the-variants.{Open, Shut}
+use Rattle.table.specs.Kinds.{codeKinds, kindFor, overBy}
 use Rattle.fitting.specs.FitHeads.{Asks, never, asked, askedBy}
-use Rattle.writer.specs.Kinds.{kindAt, asksOf, issueGate, gateBy}
+use Rattle.writer.specs.Kinds.{kindAt, asksOf}
 use Rattle.pens.specs.Numbers.{wordOf}
 use Rattle.pens.proofs.Numbers.{halved}
 

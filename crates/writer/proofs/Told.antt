@@ -1,5 +1,5 @@
 -- The plan of a kind tells what head and rows come to: whether they fit, and their bits. Assumes nothing.
-use Rattle.bits.proofs.Words.{_≡_, refl, sym, ap, _∙_, Bool, true, false, cond, _&&_, List, [], _++_, ℕ, _+_, _-_, _*_, _/_, _^_, _≤_, _<_, arith, length, ℤ, pos}
+use Rattle.bits.proofs.Words.{_≡_, refl, sym, ap, _∙_, Bool, true, false, cond, _&&_, List, _++_, ℕ, _+_, _-_, _*_, _/_, _^_, _≤_, _<_, arith, length, ℤ, pos}
 use mathlib.Core.Bool.{false≢true}
 use lib.IntN.{negsuc}
 use Rattle.bits.specs.BitLists.{spell}
@@ -23,7 +23,7 @@ use Rattle.table.specs.declared.Kind.the-variants as Kinds
 use Rattle.table.specs.declared.Kind.the-variants.{Other, Packet, Masked}
 use Rattle.table.specs.declared.Layout.{Layout}
 use Rattle.table.specs.Bodies.{linesIn, FitsKeys}
-use Rattle.table.specs.Kinds.{kindFor, keysFor, LaidOut, OfTable}
+use Rattle.table.specs.Kinds.{kindFor, LaidOut, OfTable}
 use Rattle.writer.specs.declared.gate.Gate.{Gate}
 use Rattle.writer.specs.declared.gate.Gate.the-variants.{Open, Shut}
 use Rattle.writer.specs.declared.plan.Plan.{Plan}
@@ -35,7 +35,6 @@ use Rattle.writer.specs.Fronts.{openingField, lastField, frontFields, fl
 use Rattle.writer.specs.Kinds.{kindAt, issueGate, gateBy, planBits}
 use Rattle.putting.specs.Marking.{marksWord}
 use Rattle.pens.specs.Numbers.{wordOf}
-use Rattle.pens.specs.Pens.{Fine}
 use Rattle.writer.specs.Plans.{everyone, aloneHead, alonePlan, flaggedHead, flaggedPlan, packetHead, packetPlan}
 use Rattle.writer.specs.Writings.{selectedBy, maskedPlan, planFor}
 use Rattle.writer.specs.Written.{Made}

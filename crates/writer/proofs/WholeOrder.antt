@@ -1,5 +1,5 @@
 -- The writer's whole order under a struct that is lent as a holding. Assumes nothing.
-use Rattle.bits.proofs.Words.{_≡_, refl, sym, ap, ap₂, _∙_, Bool, true, false, List, ℕ, _≤_, _<_, ℤ}
+use Rattle.bits.proofs.Words.{_≡_, refl, sym, ap, ap₂, _∙_, Bool, true, false, List, ℕ, _≤_, ℤ}
 use Rattle.format.specs.declared.Head.{Head}
 use Rattle.format.specs.declared.Refusal.the-variants.{Value}
 use Rattle.format.specs.Good.{isHolding}
@@ -10,7 +10,6 @@ use Rattle.holding.specs.declared.Holding.{Holding}
 use Rattle.holding.specs.Held.{isHeld, issueOf}
 use Rattle.holding.specs.Pictures.{maskOf, sound, lentBy}
 use Rattle.writer.specs.declared.gate.Gate.{Gate}
-use Rattle.writer.specs.declared.gate.Gate.the-variants.{Open}
 use Rattle.writer.specs.Kinds.{kindAt, gateBy}
 use Rattle.writer.specs.Stages.{byGate}
 use Rattle.writer.specs.Writings.{pastGate}

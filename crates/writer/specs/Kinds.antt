@@ -1,5 +1,5 @@
 -- The sub types as the code has them: what each asks of head and rows, and the gate before it; and what a plan comes to.
-use mathlib.Core.Bool.{Bool, true, false, cond, _&&_}
+use mathlib.Core.Bool.{Bool, cond, _&&_}
 use mathlib.Core.List.{List, _++_}
 use Prim.Native.Nat.{ℕ, _-_, _/_, _^_}
 use lib.IntN.{ℤ, pos, negsuc}

@@ -1,8 +1,7 @@
 -- What is planned of a message with rows before the first bit is set, as far as its head goes: document 01, "Message layouts" and refusal 12.
 use mathlib.Core.Bool.{Bool, cond, _&&_}
-use mathlib.Core.List.{List, _++_}
+use mathlib.Core.List.{_++_}
 use Prim.Native.Nat.{ℕ, _+_, _-_, _*_, _^_}
-use lib.IntN.{ℤ}
 use Rattle.format.specs.declared.Head.{Head}
 use Rattle.format.specs.Rows.{absent}
 use Rattle.format.specs.Same.{sameℤ}

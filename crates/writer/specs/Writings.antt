@@ -1,5 +1,5 @@
 -- Which plan a message has by the kind of its sub type, and what writing comes to past the gate.
-use mathlib.Core.Bool.{Bool, cond, _&&_}
+use mathlib.Core.Bool.{cond, _&&_}
 use mathlib.Core.List.{List}
 use Prim.Native.Nat.{ℕ, _*_}
 use lib.Dec.{leb}

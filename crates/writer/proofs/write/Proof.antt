@@ -1,5 +1,5 @@
 -- `writer::write` meets its contract. Assumes nothing.
-use Rattle.bits.proofs.Words.{_≡_, refl, sym, ap, _∙_, true, false, _≤_, arith, needs, ℤ}
+use Rattle.bits.proofs.Words.{_≡_, refl, sym, ap, _∙_, true, false, _≤_, arith, needs}
 use borrow.Author.Tests.{not-true, not-false}
 use Rattle.format.specs.Writing.{limit, writing, bytesAfter}
 use Rattle.holding.specs.Pictures.{sound, lentBy}

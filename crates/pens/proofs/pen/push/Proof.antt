@@ -24,7 +24,7 @@ returns-2 : tie.Need-returns-2
 returns-2 c =
     let e = c .before .before .before .before .before in
     let x = e .before .before .before in
-    (sym (apart (x .args .pen) (x .args .field) (e .if1 .left)), c .before .before .before .set .ensures ∙ sym (apart-ink (x .args .pen) (x .args .field) (x .args .bytes .now) (e .if1 .left)))
+    (sym (apart (x .args .pen) (x .args .field) (e .if1 .left)), c .before .before .before .set-bits .ensures ∙ sym (apart-ink (x .args .pen) (x .args .field) (x .args .bytes .now) (e .if1 .left)))
 
 pub push-spec : {M : Type 1} → statement M
 push-spec =

@@ -1,5 +1,5 @@
 -- `writer::front::common_fits` meets its contract. Assumes nothing.
-use Rattle.bits.proofs.Words.{_≡_, sym, _∙_, true, false, arith, needs}
+use Rattle.bits.proofs.Words.{_≡_, sym, _∙_, needs}
 use borrow.Author.Tests.{not-true, not-false}
 use Rattle.fitting.specs.FitHeads.{numberFits, commonFits}
 use Rattle.pens.proofs.Numbers.{of-struct}

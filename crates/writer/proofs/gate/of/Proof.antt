@@ -1,5 +1,5 @@
 -- `writer::gate::of` meets its contract. Assumes nothing.
-use Rattle.bits.proofs.Words.{_≡_, ap, _∙_, pos, cond, _&&_, needs, ℤ}
+use Rattle.bits.proofs.Words.{ap, _∙_, pos, cond, _&&_, needs, ℤ}
 use Rattle.format.specs.declared.Refusal.the-variants.{Network}
 use Rattle.format.specs.Same.{sameℤ}
 use Rattle.writer.specs.declared.gate.Gate.{Gate}

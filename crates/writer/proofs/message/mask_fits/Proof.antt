@@ -1,5 +1,5 @@
 -- `writer::message::mask_fits` meets its contract. Assumes nothing.
-use Rattle.bits.proofs.Words.{_≡_, sym, _∙_, Bool, pos, ℤ, arith, needs}
+use Rattle.bits.proofs.Words.{_≡_, sym, _∙_, Bool, pos, ℤ, needs}
 use borrow.Author.Tests.{not-true, not-false}
 use Rattle.format.specs.Same.{sameℤ}
 use Rattle.writer.specs.Written.{maskRight}

@@ -1,5 +1,5 @@
 -- `writer::plan::packet` meets its contract. Assumes nothing.
-use Rattle.bits.proofs.Words.{_≡_, ap, ℕ, _+_, needs}
+use Rattle.bits.proofs.Words.{_≡_, _+_, needs}
 use Rattle.table.specs.declared.Keys.the-variants.{Parts}
 use Rattle.pens.specs.Numbers.{wordOf}
 use Rattle.writer.specs.Plans.{packetPlan, everyone}

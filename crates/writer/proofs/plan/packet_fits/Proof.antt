@@ -1,5 +1,5 @@
 -- `writer::plan::packet_fits` meets its contract. Assumes nothing.
-use Rattle.bits.proofs.Words.{_≡_, sym, _∙_, arith, needs}
+use Rattle.bits.proofs.Words.{_≡_, sym, _∙_, needs}
 use borrow.Author.Tests.{not-true, not-false}
 use Rattle.fitting.specs.FitHeads.{numberFits}
 use Rattle.writer.specs.Plans.{packetHead}

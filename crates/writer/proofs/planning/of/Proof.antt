@@ -1,5 +1,5 @@
 -- `writer::planning::of` meets its contract. Assumes nothing.
-use Rattle.bits.proofs.Words.{_≡_, needs}
+use Rattle.bits.proofs.Words.{needs}
 use Rattle.table.specs.declared.Kind.the-variants.{Masked}
 use Rattle.table.specs.declared.Layout.{Layout}
 use Rattle.table.specs.Kinds.{LaidOut, OfTable}

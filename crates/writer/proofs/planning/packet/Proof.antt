@@ -1,5 +1,5 @@
 -- `writer::planning::packet` meets its contract. Assumes nothing.
-use Rattle.bits.proofs.Words.{_≡_, sym, ap, _∙_, true, false, needs}
+use Rattle.bits.proofs.Words.{_≡_, sym, ap, _∙_, true, needs}
 use borrow.Author.Tests.{not-true, not-false}
 use Rattle.writer.specs.declared.planning.Planned.the-variants.{Message}
 use Rattle.writer.specs.Plans.{packetHead}

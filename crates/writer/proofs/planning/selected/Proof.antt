@@ -1,5 +1,5 @@
 -- `writer::planning::selected` meets its contract. Assumes nothing.
-use Rattle.bits.proofs.Words.{_≡_, sym, _∙_, arith, needs}
+use Rattle.bits.proofs.Words.{_≡_, sym, _∙_, needs}
 use mir.Facts.{toZ-ofZ}
 use Rattle.body.proofs.Bodies.{counted, prefix, lends}
 use Rattle.format.specs.Rows.{absent}

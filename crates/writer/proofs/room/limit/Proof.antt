@@ -1,6 +1,5 @@
 -- `writer::room::limit` meets its contract. Assumes nothing.
 use Rattle.bits.proofs.Words.{arith, needs}
-use Rattle.format.specs.Reading.{stretchLimit}
 use Rattle.format.specs.Writing.{limit}
 use Rattle.writer.proofs.room.limit.Statement.{statement}
 use Rattle.writer.proofs.room.limit.Tie as tie
