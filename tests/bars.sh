@@ -32,7 +32,7 @@ measures() {
             }'
         ;;
     stack)
-        bytes=$(stack host "$2")
+        bytes=$(stack "$2")
         echo "$1 $2 bytes $bytes"
         ;;
     listing)
