@@ -18,82 +18,12 @@
 #include "stretches.h"
 #include "tuned_write.h"
 
-/* ---- what is written: all of it read before, and kept */
-
-/* Where things lie is fixed, to a line of the cache: how many instructions a copy takes depends on it. */
-enum { LINE = 64, MESSAGES = 1 << 15, ROWS = 1 << 19, HOLDINGS = 64 };
-
-/* The bytes that a receiver holds, and what the tuned writer has beside them. */
-typedef struct {
-  _Alignas(LINE) uint8_t host[HUNDURZEK_HOLDING];
-  _Alignas(LINE) tuned_sent_mask tuned;
-} kept_holding;
-
-typedef struct {
-  size_t stretch;
-  uint64_t start, place; /* of its first bit, and after its last */
-  hundurzek_head head;
-  const kept_holding *holding; /* as it is after the message */
-  const int32_t *numbers;
-  uint64_t rows;
-} kept_message;
-
-static _Alignas(LINE) stretch stretches[MOST], written[MOST];
-static _Alignas(LINE) kept_message messages[MESSAGES];
-static _Alignas(LINE) int32_t numbers[HUNDURZEK_ROW * ROWS + HUNDURZEK_ROOM];
-static kept_holding holdings[HOLDINGS];
-static size_t stretch_count, message_count, holding_count;
-static uint64_t row_count;
-
-static void fail(const char *why) {
-  fprintf(stderr, "%s\n", why);
-  exit(1);
-}
-
-/* The last holding, if it is still that one. */
-static const kept_holding *keep_holding(const uint8_t *bytes) {
-  if (holding_count == 0 || memcmp(holdings[holding_count - 1].host, bytes, HUNDURZEK_HOLDING)) {
-    if (holding_count == HOLDINGS) fail("too many holdings");
-    memcpy(holdings[holding_count].host, bytes, HUNDURZEK_HOLDING);
-    tuned_hold(&holdings[holding_count++].tuned, bytes);
-  }
-  return &holdings[holding_count - 1];
-}
-
-/* Reads on, into the rows that are kept, from the place where a reading of the stretch ended. */
-static bool keep_message(hundurzek_reading *reading, uint8_t *held, size_t k) {
-  const stretch *s = &stretches[k];
-  int32_t *rows = numbers + HUNDURZEK_ROW * row_count;
-  uint64_t start = reading->place;
-  hundurzek_read(reading, held, HUNDURZEK_HOLDING, s->bytes, (s->end + 7) / 8, s->end, start, rows, HUNDURZEK_ROOM);
-  if (reading->answer != HUNDURZEK_MESSAGE) return false;
-  if (message_count == MESSAGES || row_count + reading->rows > ROWS) fail("too much for what is kept");
-  messages[message_count++] =
-      (kept_message){k, start, reading->place, reading->head, keep_holding(held), rows, reading->rows};
-  row_count += reading->rows;
-  return true;
-}
-
-/* Where the messages of a stretch end. */
-static uint64_t ends[MOST];
-
-static void keep_messages(void) {
-  uint8_t held[HUNDURZEK_HOLDING];
-  hundurzek_empty(held, sizeof held);
-  for (size_t k = 0; k < stretch_count; k++) {
-    hundurzek_reading reading = {.place = 0};
-    while (keep_message(&reading, held, k)) continue;
-    if (reading.answer != 0) fail("the inputs have no such message");
-    ends[k] = reading.place;
-  }
-}
-
 /* ---- writers */
 
 typedef struct {
   const char *name;
   __typeof__(hundurzek_write) *write;
-  bool tuned; /* whether what the tuned writer has is lent */
+  bool tuned; /* whether it is lent what the tuned writer has */
 } writer;
 
 static hundurzek_done *no_write(hundurzek_done *out, const uint8_t *holding, uint64_t holding_count,
@@ -112,11 +42,87 @@ static const writer writers[] = {{"host", hundurzek_write, false},
                                  [NONE] = {"", no_write, false}};
 static const writer *writing;
 
+/* ---- what is written: all of it read before, and kept */
+
+/* Where things lie is fixed, to a line of the cache: how many instructions a copy takes depends on it. */
+enum { LINE = 64, MESSAGES = 1 << 15, ROWS = 1 << 19, HOLDINGS = 64 };
+
+/* The bytes that a receiver holds; for the tuned writer also what it has beside them. */
+typedef union {
+  _Alignas(LINE) uint8_t host[HUNDURZEK_HOLDING];
+  tuned_sent_mask tuned;
+} kept_holding;
+
+typedef struct {
+  uint8_t *bytes;        /* to write into, */
+  uint64_t start, place; /* from its first bit to before the one after its last */
+  hundurzek_head head;
+  const kept_holding *holding; /* as it is after the message */
+  const int32_t *numbers;
+  uint64_t rows;
+} kept_message;
+
+static _Alignas(LINE) stretch stretches[MOST], written[MOST];
+static _Alignas(LINE) kept_message messages[MESSAGES];
+static _Alignas(LINE) int32_t numbers[HUNDURZEK_ROW * ROWS + HUNDURZEK_ROOM];
+static kept_holding holdings[HOLDINGS];
+static size_t stretch_count, message_count, holding_count;
+static uint64_t row_count;
+
+static void fail(const char *why) {
+  fprintf(stderr, "%s\n", why);
+  exit(1);
+}
+
+static void make_holding(kept_holding *to, const uint8_t *bytes) {
+  if (writing->tuned)
+    tuned_hold(&to->tuned, bytes);
+  else
+    memcpy(to->host, bytes, sizeof to->host);
+}
+
+/* The last holding, if it is still that one. */
+static const kept_holding *keep_holding(const uint8_t *bytes) {
+  if (holding_count == 0 || memcmp(holdings[holding_count - 1].host, bytes, HUNDURZEK_HOLDING)) {
+    if (holding_count == HOLDINGS) fail("too many holdings");
+    make_holding(&holdings[holding_count++], bytes);
+  }
+  return &holdings[holding_count - 1];
+}
+
+/* Reads on, into the rows that are kept, from the place where a reading of the stretch ended. */
+static bool keep_message(hundurzek_reading *reading, uint8_t *held, size_t k) {
+  const stretch *s = &stretches[k];
+  int32_t *rows = numbers + HUNDURZEK_ROW * row_count;
+  uint64_t start = reading->place;
+  hundurzek_read(reading, held, HUNDURZEK_HOLDING, s->bytes, (s->end + 7) / 8, s->end, start, rows, HUNDURZEK_ROOM);
+  if (reading->answer != HUNDURZEK_MESSAGE) return false;
+  if (message_count == MESSAGES || row_count + reading->rows > ROWS) fail("too much for what is kept");
+  messages[message_count++] =
+      (kept_message){written[k].bytes, start, reading->place, reading->head, keep_holding(held), rows, reading->rows};
+  row_count += reading->rows;
+  return true;
+}
+
+/* Where the messages of a stretch end. */
+static uint64_t ends[MOST];
+
+static void keep_messages(void) {
+  uint8_t held[HUNDURZEK_HOLDING];
+  hundurzek_empty(held, sizeof held);
+  for (size_t k = 0; k < stretch_count; k++) {
+    hundurzek_reading reading = {.place = 0};
+    while (keep_message(&reading, held, k)) continue;
+    if (reading.answer != 0) fail("the inputs have no such message");
+    ends[k] = reading.place;
+  }
+}
+
+/* ---- writing */
+
 static void write_with(hundurzek_done *done, const kept_message *m, const kept_holding *holding) {
-  const uint8_t *lent = writing->tuned ? (const uint8_t *)&holding->tuned : holding->host;
-  uint64_t count = writing->tuned ? sizeof holding->tuned : sizeof holding->host;
-  writing->write(done, lent, count, &m->head.subtype, HUNDURZEK_ROW, m->numbers, HUNDURZEK_ROW * m->rows, m->rows,
-                 written[m->stretch].bytes, sizeof written->bytes, m->start);
+  writing->write(done, holding->host, sizeof *holding, &m->head.subtype, HUNDURZEK_ROW, m->numbers,
+                 HUNDURZEK_ROW * m->rows, m->rows, m->bytes, sizeof written->bytes, m->start);
 }
 
 static void write_messages(void) {
@@ -164,13 +170,15 @@ static void check(void) {
 /* The answers to a message under its holding with one byte changed, to each number that a byte has. */
 static uint64_t fold_strays(uint64_t checksum, const kept_message *m) {
   static kept_holding stray;
-  for (size_t k = 0; k < HUNDURZEK_HOLDING; k++)
-    for (unsigned change = 1; change <= UINT8_MAX; change++) {
+  uint8_t bytes[HUNDURZEK_HOLDING];
+  memcpy(bytes, m->holding->host, sizeof bytes);
+  for (size_t k = 0; k < sizeof bytes; k++)
+    for (unsigned turn = 1; turn <= UINT8_MAX; turn++) {
       hundurzek_done done;
-      memcpy(stray.host, m->holding->host, sizeof stray.host);
-      stray.host[k] ^= (uint8_t)change;
-      if (writing->tuned) tuned_hold(&stray.tuned, stray.host);
+      bytes[k] ^= (uint8_t)turn;
+      make_holding(&stray, bytes);
       write_with(&done, m, &stray);
+      bytes[k] ^= (uint8_t)turn;
       checksum = (checksum ^ done.answer) * UINT64_C(1099511628211);
     }
   return checksum;
