@@ -6,7 +6,7 @@
 
 typedef void job(void);
 
-/* Does it once, then again, for an instruction counter: two marks with nothing between them, the second time, a mark. */
+/* Does it once, then again, for an instruction counter: two marks, nothing between them, the second time, a mark. */
 void do_marked(job *all);
 
 /* Does it on a stack of its own that was painted before: how many bytes at its deep end are still painted. */

@@ -1,4 +1,4 @@
-/* Tests the bytes of a lent holding in few instructions: eight strips at once, which every x86-64 can, and with a branch
+/* Tests the bytes of a lent holding in few instructions: eight strips at once, as every x86-64 can, and with a branch
    only where what comes next needs it. What is not 0 is bad. */
 #include <emmintrin.h>
 #include <string.h>

@@ -9,7 +9,8 @@
 #include "hundurzek.h"
 
 /* Satellites and cells that a mask has at most; bytes of its systems as they are sent, and eight to load past them; a
-   power of two over all systems, and over all satellite numbers; a holding's bytes, and zeros up to whole blocks of 16. */
+   power of two over all systems, and over all satellite numbers; a holding's bytes, and zeros up to whole blocks of
+   16. */
 enum {
   TUNED_KEYS = 64, TUNED_CELL_KEYS = 256, TUNED_SYSTEMS_BYTES = (5 * 61 + 15 * 64) / 8 + 9, TUNED_IDS = 8,
   TUNED_NUMBERS = 64, TUNED_HOLDING = 208

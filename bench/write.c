@@ -4,6 +4,7 @@
      write WRITER INPUT strays   every holding of the input with each byte changed: all answers, as a checksum
      write WRITER INPUT stack    the deepest stack of a call, in bytes
      write WRITER INPUT marked   for an instruction counter (meter.h)
+     write WRITER INPUT tested   the same with heads of no sub type, so that each call ends with the holding's test
 
    WRITER is host, tuned or bitwise. INPUT is one of stretches.h, not the damaged ones. */
 #include <inttypes.h>
@@ -130,6 +131,11 @@ static void write_messages(void) {
   for (size_t k = 0; k < message_count; k++) write_with(&done, &messages[k], messages[k].holding);
 }
 
+/* Refused with 5, which comes right after the holding. */
+static void forget_subtypes(void) {
+  for (size_t k = 0; k < message_count; k++) messages[k].head.subtype = 0;
+}
+
 /* ---- what was written */
 
 /* Turns every bit around of which no message is written. */
@@ -214,10 +220,12 @@ int main(int argc, char **argv) {
   stretch_count = make_input(stretches, argv[2]);
   if (writing == writers + WRITERS || stretch_count == 0) return 2;
   keep_messages();
+  bool tested = !strcmp(argv[3], "tested");
+  if (tested) forget_subtypes();
   if (!strcmp(argv[3], "check")) check();
   else if (!strcmp(argv[3], "strays")) tell_strays();
   else if (!strcmp(argv[3], "stack")) printf("%zu\n", deepest(writing));
-  else if (!strcmp(argv[3], "marked")) do_marked(write_messages);
+  else if (tested || !strcmp(argv[3], "marked")) do_marked(write_messages);
   else return 2;
   return 0;
 }

@@ -8,13 +8,35 @@ cd "$(dirname "$0")/.."
 . bench/lib/measure.sh
 build_write
 
-echo '| by writes | per bit | per row | per message | tuned | bitwise | to bitwise | to tuned |'
-echo '|---|---|---|---|---|---|---|---|'
+# tested_row INPUT MESSAGES BITS ROWS: what a call takes that ends with the holding's test
+tested_row() {
+    input=$1
+    messages=$2
+    for writer in host tuned bitwise; do
+        marked write $writer "$input" tested
+    done | awk -v input="$input" -v messages="$messages" '
+        { row = row sprintf(" | %.0f", $1 / messages) }
+        END { print "| (" input ")" row " |" }'
+}
+
+wrote=target/bench/wrote
 for input in $INPUTS; do
     totals=$(written "$input")
+    echo "$input $totals"
+done >$wrote
+
+echo '| by writes | per bit | per row | per message | tuned | bitwise | to bitwise | to tuned |'
+echo '|---|---|---|---|---|---|---|---|'
+while read -r input totals; do
     wrote_so=$(writing "$input" $totals)
     echo "$wrote_so" | measure_row "$input"
-done
+done <$wrote
+echo
+echo '| the holding tested | host | tuned | bitwise |'
+echo '|---|---|---|---|'
+while read -r input totals; do
+    tested_row "$input" $totals
+done <$wrote
 echo
 echo '| function | deepest stack, bytes |'
 echo '|---|---|'

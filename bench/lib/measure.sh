@@ -18,7 +18,8 @@
 INPUTS='a b c d e1 e2 e3 e4 f g2 g3 g4 g5 g11'
 
 build_read() {
-    build read host bench/read.c bench/meter.c bench/stretches.c bench/encode.c bench/bitwise.c bench/getbit.c bench/tuned.c
+    build read host bench/read.c bench/meter.c bench/stretches.c bench/encode.c bench/bitwise.c bench/getbit.c \
+        bench/tuned.c
 }
 
 build_write() {
