@@ -1,6 +1,7 @@
 # Sourced in the repository's root by the bench scripts and tests/bars.sh: what is measured, in instructions.
 #   INPUTS                        the inputs that every table has (bench/stretches.h)
-#   build_read, build_write, build_fields    make the programs that are measured
+#   build_read, build_write,
+#   build_fields                  make the programs that are measured
 #   handed_out INPUT              what each decoder hands out for it: a checksum and totals; fails where they differ
 #   reading WAY INPUT TOTAL..     with what handed_out says: a line DECODER PER-BIT PER-ROW PER-MESSAGE TO-BITWISE
 #                                 TO-TUNED for each decoder; '-' where there are no rows
