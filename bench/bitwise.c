@@ -2,6 +2,7 @@
 #include "bitwise.h"
 
 #include "getbit.h"
+#include "places.h"
 
 /* "Answer numbers", and the one of docs/HOST.md for a message. */
 enum {
@@ -9,10 +10,8 @@ enum {
   MESSAGE = HUNDURZEK_MESSAGE
 };
 
-/* "Held mask and assigned places": how many places each system has, and the house limits. */
+/* "Held mask and assigned places": the house limits. */
 enum { GALILEO = 2, SYSTEMS = 5, SATELLITES = 64, CELLS = 256, LONGEST = 50850 };
-static const int satellite_places[SYSTEMS] = {40, 24, 37, 40, 10};
-static const int signal_places[SYSTEMS] = {14, 13, 15, 9, 10};
 
 static const hundurzek_head nothing = {HUNDURZEK_ABSENT, HUNDURZEK_ABSENT, HUNDURZEK_ABSENT, HUNDURZEK_ABSENT,
                                        HUNDURZEK_ABSENT, HUNDURZEK_ABSENT, HUNDURZEK_ABSENT, HUNDURZEK_ABSENT};

@@ -1,7 +1,6 @@
 /* Document 01's writer, bit by bit. Titles in comments are that document's. */
 #include "bitwise_write.h"
 
-#include "hold.h"
 #include "setbit.h"
 
 /* "Answer numbers" that a writer gives, and the one of docs/HOST.md for a message written. */
@@ -24,38 +23,6 @@ struct sent {
   const int32_t *rows;
   uint64_t count;
 };
-
-/* ---- a holding of a good holding's bytes */
-
-static void hold_satellites(bitwise_holding *held, const uint8_t *holding, int system) {
-  const bitwise_system *own = &held->system[system];
-  uint64_t places = hold_number(holding, HOLD_PLACES, 8, system);
-  for (int place = 0; place < 40; place++) {
-    if (!(places >> (39 - place) & 1)) continue;
-    bitwise_satellite satellite = {system, place + 1, 0};
-    uint64_t strip = hold_number(holding, HOLD_STRIPS, 2, held->satellites);
-    for (int j = 0; j < own->signals; j++) {
-      uint32_t counts = strip >> (15 - own->signal[j]) & 1;
-      satellite.cells = satellite.cells << 1 | counts;
-      held->cells += (int)counts;
-    }
-    held->satellite[held->satellites++] = satellite;
-  }
-}
-
-void bitwise_hold(bitwise_mask *to, const uint8_t *holding) {
-  *to = (bitwise_mask){.held = {.held = holding[HOLD_HELD], .iod = holding[HOLD_IOD]}};
-  to->held.systems = holding[HOLD_SYSTEMS];
-  for (int k = 0; k < to->held.systems; k++) {
-    bitwise_system *system = &to->held.system[k];
-    uint64_t signals = hold_number(holding, HOLD_SIGNALS, 2, k);
-    system->id = holding[HOLD_ID + k];
-    to->flag[k] = holding[HOLD_FLAG + k];
-    for (int place = 0; place < 16; place++)
-      if (signals >> (15 - place) & 1) system->signal[system->signals++] = place;
-    hold_satellites(&to->held, holding, k);
-  }
-}
 
 /* ---- what fits a field */
 
@@ -380,11 +347,12 @@ hundurzek_done *bitwise_write(hundurzek_done *out, const uint8_t *holding, uint6
                               uint64_t head_count, const int32_t *numbers, uint64_t number_count, uint64_t rows,
                               uint8_t *bytes, uint64_t count, uint64_t start) {
   uint64_t limit = 8 * count < LONGEST ? 8 * count : LONGEST;
-  const bitwise_mask *mask = (const void *)holding;
-  struct sent s = {mask, &mask->held, {0}, numbers, rows};
+  bitwise_mask mask;
+  struct sent s = {&mask, &mask.held, {0}, numbers, rows};
   struct cursor c = {bytes, (int)start};
   for (uint64_t k = 0; k < HUNDURZEK_ROW; k++) s.head[k] = k < head_count ? head[k] : ABSENT;
-  int answer = start > limit ? PLACE : holding_count < sizeof *mask ? VALUE : DONE;
+  int answer = start > limit ? PLACE : DONE;
+  if (answer == DONE && (holding_count < HUNDURZEK_HOLDING || !bitwise_hold(&mask, holding))) answer = VALUE;
   if (answer == DONE) answer = write_message(&c, &s, number_count, (int)limit);
   *out = (hundurzek_done){(uint64_t)answer, start, 0};
   if (answer == DONE) *out = (hundurzek_done){DONE, (uint64_t)c.place, (uint64_t)c.place - start};

@@ -1,7 +1,7 @@
 /* A writer of messages in the way that today's GNSS libraries are written: every field by setbitu or setbits, loops
    over satellites and signals. It gives the answers and the bytes of hundurzek_write, makes every test of document
-   01's writer before it sets a bit, and takes what hundurzek_write takes, but has its holding as a struct, as the
-   reader (bitwise.h) has, and does not test a lent one. */
+   01's writer before it sets a bit, and takes what hundurzek_write takes: the lent holding is tested at each call
+   while a struct is made of it, the one that the reader (bitwise.h) has. */
 #ifndef BENCH_BITWISE_WRITE_H
 #define BENCH_BITWISE_WRITE_H
 
@@ -13,10 +13,9 @@ typedef struct {
   int flag[5];
 } bitwise_mask;
 
-/* Makes it, once for a mask, of the bytes of a good holding (docs/HOST.md). */
-void bitwise_hold(bitwise_mask *to, const uint8_t *holding);
+/* Makes it of the bytes of a holding (docs/HOST.md): whether they are one. */
+int bitwise_hold(bitwise_mask *to, const uint8_t *holding);
 
-/* As hundurzek_write; the bytes lent as a holding are those of a bitwise_mask. */
 __typeof__(hundurzek_write) bitwise_write;
 
 #endif

@@ -2,7 +2,8 @@
 
      read DECODER INPUT check        by walks and message by message: all that was handed out, as a checksum; totals
      read DECODER INPUT WAY stack    the deepest stack of a call, in bytes
-     read DECODER INPUT WAY marked   once, then again, for an instruction counter: two marks, the second time, a mark
+     read DECODER INPUT WAY marked   for an instruction counter (meter.h); the second time the holding is the one that
+                                     the last stretch left
 
    DECODER is host, tuned or bitwise. INPUT is one of stretches.h. WAY is walks, a call for each stretch, messages, a
    call for each message, or empty, a call of hundurzek_empty for each stretch. */
@@ -11,11 +12,10 @@
 #include <stdio.h>
 #include <stdlib.h>
 #include <string.h>
-#include <ucontext.h>
 
 #include "bitwise.h"
 #include "hundurzek.h"
-#include "mark.h"
+#include "meter.h"
 #include "stretches.h"
 #include "tuned.h"
 
@@ -86,8 +86,7 @@ static void walk(hundurzek_walked *walked, const stretch *s) {
                  by_walk.rows, HUNDURZEK_ROOM);
 }
 
-/* Reads, or else calls for, all stretches. */
-typedef void reader(void);
+/* Each reads, or else calls for, all stretches. */
 
 static void read_messages(void) {
   for (size_t k = 0; k < stretch_count; k++) {
@@ -194,45 +193,17 @@ static void check(bool damaged) {
 
 /* ---- the deepest stack */
 
-enum { STACK = 1 << 17, PAINT = 0xA5 };
-
-/* Reads all on a stack of its own that was painted before; answers how many bytes at its deep end are still painted. */
-static size_t painted_after(reader *read_all, const decoder *d) {
-  static uint8_t stack[STACK];
-  ucontext_t here, there;
-  decoding = d;
-  memset(stack, PAINT, STACK);
-  getcontext(&there);
-  there.uc_stack.ss_sp = stack;
-  there.uc_stack.ss_size = STACK;
-  there.uc_link = &here;
-  makecontext(&there, read_all, 0);
-  swapcontext(&here, &there);
-  size_t painted = 0;
-  while (stack[painted] == PAINT) painted++;
-  return painted;
-}
-
 /* The return address and all below it. */
-static size_t deepest(reader *read_all, const decoder *d) {
-  size_t returning = painted_after(read_all, &decoders[NONE]) + sizeof(void *);
-  return returning - painted_after(read_all, d);
-}
-
-/* ---- instructions */
-
-/* The second time the holding is the one that the last stretch left. Between the first two marks is nothing. */
-static void read_marked(reader *read_all) {
-  read_all();
-  mark();
-  mark();
-  read_all();
-  mark();
+static size_t deepest(job *read_all, const decoder *d) {
+  decoding = &decoders[NONE];
+  size_t returning = painted_after(read_all) + sizeof(void *);
+  decoding = d;
+  return returning - painted_after(read_all);
 }
 
 /* ---- the command line */
 
-static reader *reader_of(const char *way) {
+static job *job_of(const char *way) {
   return !strcmp(way, "walks") ? read_walks : !strcmp(way, "messages") ? read_messages : make_empty;
 }
 
@@ -244,10 +215,10 @@ int main(int argc, char **argv) {
   if (decoding == decoders + DECODERS) return 2;
   stretch_count = make_input(stretches, argv[2]);
   if (stretch_count == 0) return 2;
-  reader *read_all = reader_of(argv[3]);
+  job *read_all = job_of(argv[3]);
   if (checking) check(!strcmp(argv[2], DAMAGED));
   else if (!strcmp(argv[4], "stack")) printf("%zu\n", deepest(read_all, decoding));
-  else if (!strcmp(argv[4], "marked")) read_marked(read_all);
+  else if (!strcmp(argv[4], "marked")) do_marked(read_all);
   else return 2;
   return 0;
 }

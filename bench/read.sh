@@ -20,32 +20,20 @@ input_row() {
     echo "| ($input) | $(columns "$@") |"
 }
 
-# reading_row WAY INPUT CHECKSUM TOTAL..: what ours takes, and the others for a message
-reading_row() {
-    read_so=$(reading "$@")
-    echo "$read_so" | awk -v input="$2" '
-        $1 == "host" { per_bit = $2; per_row = $3; to_bitwise = $5; to_tuned = $6 }
-        { per_message[$1] = $4 }
-        END {
-            printf "| (%s) | %.2f | %s", input, per_bit, (per_row == "-" ? "-" : sprintf("%.1f", per_row))
-            printf " | %.0f | %.0f", per_message["host"], per_message["tuned"]
-            printf " | %.0f | %.3f | %.2f |\n", per_message["bitwise"], to_bitwise, to_tuned
-        }'
-}
-
 # reading_table WAY: the inputs read in this way
 reading_table() {
     echo
     echo "| by $1 | per bit | per row | per message | tuned | bitwise | to bitwise | to tuned |"
     echo '|---|---|---|---|---|---|---|---|'
     while read -r input totals; do
-        reading_row "$1" "$input" $totals
+        read_so=$(reading "$1" "$input" $totals)
+        echo "$read_so" | measure_row "$input"
     done <$handed
 }
 
 # stack_row FUNCTION
 stack_row() {
-    bytes=$(stack host "$1")
+    bytes=$(stack "$1")
     echo "| hundurzek_$1 | $bytes |"
 }
 

@@ -51,7 +51,8 @@ static void hold_system(tuned_sent_mask *to, const uint8_t *holding, int k) {
 
 void tuned_hold(tuned_sent_mask *to, const uint8_t *holding) {
   memset(to, 0, sizeof *to);
-  if (!holding[HOLD_HELD]) return;
+  memcpy(to->holding, holding, HUNDURZEK_HOLDING);
+  if (!holding[HOLD_HELD] || tuned_stray(to->holding)) return;
   to->gate = 16 | holding[HOLD_IOD];
   to->systems = holding[HOLD_SYSTEMS];
   for (int k = 0; k < (int)to->systems; k++) hold_system(to, holding, k);

@@ -383,7 +383,7 @@ hundurzek_done *tuned_write(hundurzek_done *out, const uint8_t *holding, uint64_
   sent s = {(const void *)holding, head, numbers, rows};
   if (start > limit)
     answer = PLACE;
-  else if (holding_count < sizeof *s.mask)
+  else if (holding_count < sizeof *s.mask || tuned_stray(s.mask->holding))
     answer = VALUE;
   else
     answer = write_message(&s, number_count, bytes, start, limit, &length);

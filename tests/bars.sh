@@ -4,35 +4,46 @@ set -eu
 cd "$(dirname "$0")/.."
 . bench/lib/measure.sh
 build_read
+build_write
 build_fields
 build_listing
 
-# once INPUT: what handed_out says of it; the decoders are compared once for all ways
-rm -f target/bench/handed.*
+# once FUNCTION INPUT: what it says of the input, handed_out or written; decoders and writers are compared once for all
+# bars
+rm -f target/bench/once.*
 once() {
-    if [ ! -f "target/bench/handed.$1" ]; then
-        handed_out "$1" >target/bench/handing
-        mv target/bench/handing "target/bench/handed.$1"
+    if [ ! -f "target/bench/once.$1.$2" ]; then
+        "$1" "$2" >target/bench/saying
+        mv target/bench/saying "target/bench/once.$1.$2"
     fi
-    cat "target/bench/handed.$1"
+    cat "target/bench/once.$1.$2"
+}
+
+# named WAY INPUT: a line WAY INPUT MEASURE NUMBER for each measure of ours among the lines of reading or writing
+named() {
+    awk -v of="$1 $2" '
+        $1 == "host" {
+            print of, "per-bit", $2
+            print of, "per-row", $3
+            print of, "per-message", $4
+            print of, "to-bitwise", $5
+            print of, "to-tuned", $6
+        }'
 }
 
 # measures WAY INPUT: a line WAY INPUT MEASURE NUMBER for each measure that a bar can name
 measures() {
     case $1 in
     walks | messages)
-        totals=$(once "$2")
-        reading "$1" "$2" $totals | awk -v of="$1 $2" '
-            $1 == "host" {
-                print of, "per-bit", $2
-                print of, "per-row", $3
-                print of, "per-message", $4
-                print of, "to-bitwise", $5
-                print of, "to-tuned", $6
-            }'
+        totals=$(once handed_out "$2")
+        reading "$1" "$2" $totals | named "$1" "$2"
+        ;;
+    writes)
+        totals=$(once written "$2")
+        writing "$2" $totals | named "$1" "$2"
         ;;
     stack)
-        bytes=$(stack host "$2")
+        bytes=$(stack "$2")
         echo "$1 $2 bytes $bytes"
         ;;
     listing)

@@ -163,7 +163,7 @@ called() {
 # puts DIR: the library is put there
 puts() {
     ran clone library "$1"
-    if [ $status -eq 0 ] && [ ! -s "$work/out" ] && [ "$(cat "$1/libhundurzek.a")" = archive ] &&
+    if [ $status -eq 0 ] && [ ! -s "$work/out" ] && [ "$(ar t "$1/libhundurzek.a" | tr '\n' ' ')" = 'host.o host_write.o ' ] &&
         cmp -s include/hundurzek.h "$1/hundurzek.h" && [ -s "$1/hundurzek.pc" ]; then
         judge "library" yes
     else
@@ -182,7 +182,13 @@ if grep -q '^bad news$' "$work/err"; then judge 'what failed' yes; else judge 'w
 echo 'exit 0' >"$work/does"
 refuses 1 'hundurzek: there is no ' clone library "$work/library"
 called 2
-echo 'mkdir -p target/staticlib && echo archive >target/staticlib/libhost.a' >"$work/does"
+cat >"$work/does" <<'END'
+mkdir -p target/staticlib
+for part in host host_write; do
+    echo object >$part.o
+    ar rc target/staticlib/lib$part.a $part.o
+done
+END
 puts "$work/library"
 called 3
 puts "$work/deep/er library"

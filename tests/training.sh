@@ -6,6 +6,6 @@ cd "$(dirname "$0")/.."
 . tests/lib/listings.sh
 archive host
 mkdir -p target/tests
-$CC $FLAGS -Iinclude training/calls.c target/staticlib/libhost.a -o target/tests/calls
+$CC $FLAGS -Iinclude training/calls.c $(archives host) -o target/tests/calls
 $RUN target/tests/calls >target/tests/calls.out
 judge training

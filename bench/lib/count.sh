@@ -20,7 +20,7 @@ build() {
     shift 2
     archive "$crate" >/dev/null
     # static: the emulator needs no x86-64 libraries then
-    $CC -static $FLAGS -Iinclude "$@" "target/staticlib/lib$crate.a" -o "target/bench/$program"
+    $CC -static $FLAGS -Iinclude "$@" $(archives "$crate") -o "target/bench/$program"
 }
 
 count() {

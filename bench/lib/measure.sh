@@ -1,10 +1,16 @@
 # Sourced in the repository's root by the bench scripts and tests/bars.sh: what is measured, in instructions.
 #   INPUTS                        the inputs that every table has (bench/stretches.h)
-#   build_read, build_fields      make the programs that are measured
+#   build_read, build_write,
+#   build_fields                  make the programs that are measured
 #   handed_out INPUT              what each decoder hands out for it: a checksum and totals; fails where they differ
 #   reading WAY INPUT TOTAL..     with what handed_out says: a line DECODER PER-BIT PER-ROW PER-MESSAGE TO-BITWISE
 #                                 TO-TUNED for each decoder; '-' where there are no rows
-#   stack DECODER FUNCTION        the deepest stack of read, walk or empty over all inputs, damaged ones too, in bytes
+#   written INPUT                 what each writer writes of it: messages, bits and rows; fails where the bytes are not
+#                                 the stretches' own, or the writers differ on what is no holding
+#   writing INPUT TOTAL..         with what written says: a line WRITER .. for each writer, as reading's
+#   measure_row INPUT             with such lines: what ours takes, and the others for a message, as a table's row
+#   stack FUNCTION                the deepest stack of read, walk, empty or write over all inputs, in bytes; damaged
+#                                 ones are read too
 #   per_call KIND WIDTH           of a call (bench/fields.c) and its return: the mean over the eight alignments
 #   build_listing                 makes the listing program, and what prints an input as its lines
 #   per_byte INPUT                of listing it: how many bytes the listing has, and what each takes, reading included
@@ -13,7 +19,13 @@
 INPUTS='a b c d e1 e2 e3 e4 f g2 g3 g4 g5 g11'
 
 build_read() {
-    build read host bench/read.c bench/stretches.c bench/encode.c bench/bitwise.c bench/getbit.c bench/tuned.c
+    build read host bench/read.c bench/meter.c bench/stretches.c bench/encode.c bench/bitwise.c bench/getbit.c \
+        bench/tuned.c
+}
+
+build_write() {
+    build write host bench/write.c bench/meter.c bench/stretches.c bench/encode.c bench/bitwise_write.c \
+        bench/bitwise_hold.c bench/setbit.c bench/tuned_write.c bench/tuned_hold.c bench/tuned_test.c
 }
 
 build_fields() {
@@ -39,15 +51,11 @@ handed_out() {
     echo "$host"
 }
 
-# reading WAY INPUT CHECKSUM STRETCHES BITS PADDING ROWS MESSAGES ..
-reading() {
-    host=$(marked read host "$2" "$1" marked)
-    tuned=$(marked read tuned "$2" "$1" marked)
-    bitwise=$(marked read bitwise "$2" "$1" marked)
-    awk -v host="$host" -v tuned="$tuned" -v bitwise="$bitwise" -v bits="$5" -v rows="$7" -v messages="$8" \
-        -v OFMT=%.6f '
-        function line(decoder, n) {
-            print decoder, n / bits, (rows > 0 ? n / rows : "-"), n / messages, n / bitwise, n / tuned
+# per HOST TUNED BITWISE BITS ROWS MESSAGES: instructions of each, for these
+per() {
+    awk -v host="$1" -v tuned="$2" -v bitwise="$3" -v bits="$4" -v rows="$5" -v messages="$6" -v OFMT=%.6f '
+        function line(name, n) {
+            print name, n / bits, (rows > 0 ? n / rows : "-"), n / messages, n / bitwise, n / tuned
         }
         BEGIN {
             line("host", host)
@@ -56,14 +64,56 @@ reading() {
         }'
 }
 
+# reading WAY INPUT CHECKSUM STRETCHES BITS PADDING ROWS MESSAGES ..
+reading() {
+    host=$(marked read host "$2" "$1" marked)
+    tuned=$(marked read tuned "$2" "$1" marked)
+    bitwise=$(marked read bitwise "$2" "$1" marked)
+    per "$host" "$tuned" "$bitwise" "$5" "$7" "$8"
+}
+
+written() {
+    host=$($RUN target/bench/write host "$1" check)
+    strays=$($RUN target/bench/write host "$1" strays)
+    for writer in tuned bitwise; do
+        $RUN target/bench/write $writer "$1" check >/dev/null
+        other=$($RUN target/bench/write $writer "$1" strays)
+        if [ "$strays" != "$other" ]; then
+            echo "input $1: host and $writer differ on strays" >&2
+            exit 1
+        fi
+    done
+    echo "$host"
+}
+
+# writing INPUT MESSAGES BITS ROWS
+writing() {
+    host=$(marked write host "$1" marked)
+    tuned=$(marked write tuned "$1" marked)
+    bitwise=$(marked write bitwise "$1" marked)
+    per "$host" "$tuned" "$bitwise" "$3" "$4" "$2"
+}
+
+measure_row() {
+    awk -v input="$1" '
+        $1 == "host" { per_bit = $2; per_row = $3; to_bitwise = $5; to_tuned = $6 }
+        { per_message[$1] = $4 }
+        END {
+            printf "| (%s) | %.2f | %s", input, per_bit, (per_row == "-" ? "-" : sprintf("%.1f", per_row))
+            printf " | %.0f | %.0f", per_message["host"], per_message["tuned"]
+            printf " | %.0f | %.3f | %.2f |\n", per_message["bitwise"], to_bitwise, to_tuned
+        }'
+}
+
 stack() {
-    case $2 in
-    read) way=messages ;;
-    walk) way=walks ;;
-    *) way=empty ;;
-    esac
     for input in $INPUTS damaged; do
-        $RUN target/bench/read "$1" $input $way stack
+        case $1-$input in
+        read-*) $RUN target/bench/read host $input messages stack ;;
+        walk-*) $RUN target/bench/read host $input walks stack ;;
+        empty-*) $RUN target/bench/read host $input empty stack ;;
+        write-damaged) ;;
+        write-*) $RUN target/bench/write host $input stack ;;
+        esac
     done | sort -n | tail -n 1
 }
 

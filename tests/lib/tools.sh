@@ -3,7 +3,9 @@
 #   FLAGS go with every C source
 #   RUN   goes in front of such a program; empty on x86-64
 # need COMMAND PACKAGE..: installs Debian's packages where the command is missing.
-# archive CRATE: makes its static library, target/staticlib/libCRATE.a, where there is none since the last change.
+# archive CRATE: makes its static library, target/staticlib/libCRATE.a, where there is none since the last change; for
+# host the writer's, too.
+# archives CRATE: what a program over it links.
 # compile NAME CRATE SOURCE..: makes target/tests/NAME of tests/NAME.c, further sources and the crate's static library.
 # second: makes the second program, target/tests/second.
 # agree NAME STREAM..: runs tests/NAME.c over crate host on these streams of the second program (second/README.md,
@@ -38,6 +40,13 @@ archive() {
     if [ ! -f "$archived" ] || [ -n "$(find crates crates.txt -newer "$archived")" ]; then
         rt staticlib "$1"
     fi
+    [ "$1" != host ] || archive host_write
+}
+
+# For C the writer has an archive of its own beside the reader's.
+archives() {
+    echo "target/staticlib/lib$1.a"
+    [ "$1" != host ] || echo target/staticlib/libhost_write.a
 }
 
 compile() {
@@ -47,7 +56,7 @@ compile() {
     archive "$crate"
     mkdir -p target/tests
     $CC $FLAGS -Iinclude -Itests/lib "tests/$program.c" "$@" \
-        "target/staticlib/lib$crate.a" -o "target/tests/$program"
+        $(archives "$crate") -o "target/tests/$program"
 }
 
 second() {

@@ -1,4 +1,3 @@
 pub mod Outcomes
 pub mod Walks
 pub mod HandedLines
-pub mod HandedWrites

@@ -1,3 +1,2 @@
 pub mod Handing
 pub mod Texts
-pub mod Writes

@@ -1,9 +1,9 @@
--- `host::writes::number_at` meets its contract. Assumes nothing.
+-- `host_write::number_at` meets its contract. Assumes nothing.
 use Rattle.bits.proofs.Words.{arith, needs, getD, pos}
 use mir.Facts.{toZ-ofZ}
-use Rattle.host.proofs.HandedWrites.{lent-number, no-number}
-use Rattle.host.proofs.writes.number_at.Statement.{statement}
-use Rattle.host.proofs.writes.number_at.Tie as tie
+use Rattle.host_write.proofs.HandedWrites.{lent-number, no-number}
+use Rattle.host_write.proofs.number_at.Statement.{statement}
+use Rattle.host_write.proofs.number_at.Tie as tie
 
 returns : tie.Need-returns
 returns c =

@@ -1,9 +1,9 @@
--- `host::writes::refused` meets its contract. Assumes nothing.
+-- `host_write::refused` meets its contract. Assumes nothing.
 use Rattle.bits.proofs.Words.{needs}
 use Rattle.format.specs.Answers.{undoneAt}
-use Rattle.host.specs.Writes.{writtenHanded}
-use Rattle.host.proofs.writes.refused.Statement.{statement}
-use Rattle.host.proofs.writes.refused.Tie as tie
+use Rattle.host_write.specs.Writes.{writtenHanded}
+use Rattle.host_write.proofs.refused.Statement.{statement}
+use Rattle.host_write.proofs.refused.Tie as tie
 
 pub refused-spec : {M : Type 1} → statement M
 unfolding writtenHanded undoneAt

@@ -7,8 +7,11 @@ use Rattle.format.specs.declared.Head.{Head}
 use Rattle.format.specs.Answers as Answers
 use Rattle.format.specs.Answers.{done, undone}
 use Rattle.format.specs.Rows.{absent}
-use Rattle.host.specs.declared.texts.Done.{Done}
-use Rattle.host.specs.Texts.{doneNumber}
+use Rattle.host_write.specs.declared.Done.{Done}
+
+-- the answer to what is done
+abbrev pub doneNumber : ℕ
+doneNumber = 255
 
 -- the first eight numbers; those that are not lent are absent
 unfoldable pub headIn : List ℤ → Head

@@ -1,4 +1,5 @@
-// A message written for a host in C (docs/HOST.md): head and rows as numbers, the bits into lent bytes.
+// A message written for a host in C (docs/HOST.md): head and rows as numbers, the bits into lent bytes. Not in crate
+// `host`: what reader and writer both call would then be one function, and reading take more (docs/DECISIONS.md 68).
 ghost use mathlib.Core.Path.{_≡_};
 ghost use Prim.Native.Nat.{_≤_};
 ghost use lib.ListN.{getD};
@@ -7,15 +8,24 @@ ghost use Rattle.format.specs.Rows.{absent};
 ghost use Rattle.format.specs.Writing.{writing, doneWriting, bytesAfter};
 ghost use Rattle.holding.specs.Pictures.{lentBy};
 ghost use Rattle.passing.specs.Passing.{holdingIn};
-ghost use Rattle.host.specs.Writes.{headIn, writtenHanded};
-use crate::texts::DONE;
-use crate::texts::Done;
+ghost use Rattle.host_write.specs.Writes.{headIn, writtenHanded};
 use format::ABSENT;
 use format::Head;
 use format::Refusal;
 use format::number;
 use passing::take::holding_in;
 use writer::Writing;
+
+// What is written: the answer's number, the place after the message or the start asked for, the message's length in bits.
+#[repr(C)]
+pub struct Done {
+    pub answer: u64,
+    pub place: usize,
+    pub count: usize,
+}
+
+// The answer to what is done.
+const DONE: u64 = 255;
 
 // A number of those lent; absent where fewer are.
 fn number_at(numbers: &[i32], i: usize) -> i32

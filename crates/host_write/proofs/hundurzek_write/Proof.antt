@@ -1,4 +1,4 @@
--- `host::writes::hundurzek_write` meets its contract. Assumes nothing.
+-- `host_write::hundurzek_write` meets its contract. Assumes nothing.
 use Rattle.bits.proofs.Words.{_≡_, sym, ap, ap₂, _∙_, _≤_, needs}
 use Rattle.format.specs.declared.Head.{Head}
 use Rattle.format.specs.Answers as Answers
@@ -7,10 +7,10 @@ use Rattle.holding.specs.declared.Holding.{Holding}
 use Rattle.holding.specs.Pictures.{lentBy}
 use Rattle.passing.specs.Passing.{holdingIn}
 use Rattle.writer.specs.Stages.{answered}
-use Rattle.host.specs.Writes.{headIn, writtenHanded}
-use Rattle.host.proofs.HandedWrites.{done-at, refused-at}
-use Rattle.host.proofs.writes.hundurzek_write.Statement.{statement}
-use Rattle.host.proofs.writes.hundurzek_write.Tie as tie
+use Rattle.host_write.specs.Writes.{headIn, writtenHanded}
+use Rattle.host_write.proofs.HandedWrites.{done-at, refused-at}
+use Rattle.host_write.proofs.hundurzek_write.Statement.{statement}
+use Rattle.host_write.proofs.hundurzek_write.Tie as tie
 
 -- what writing comes to by what the lent bytes and numbers say
 module _ (c : tie.After-write) where

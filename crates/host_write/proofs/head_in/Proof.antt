@@ -1,9 +1,9 @@
--- `host::writes::head_in` meets its contract. Assumes nothing.
+-- `host_write::head_in` meets its contract. Assumes nothing.
 use Rattle.bits.proofs.Words.{needs}
-use Rattle.host.specs.Writes.{headIn}
-use Rattle.host.proofs.HandedWrites.{read-back}
-use Rattle.host.proofs.writes.head_in.Statement.{statement}
-use Rattle.host.proofs.writes.head_in.Tie as tie
+use Rattle.host_write.specs.Writes.{headIn}
+use Rattle.host_write.proofs.HandedWrites.{read-back}
+use Rattle.host_write.proofs.head_in.Statement.{statement}
+use Rattle.host_write.proofs.head_in.Tie as tie
 
 returns : tie.Need-returns
 unfolding headIn
