@@ -1,5 +1,6 @@
 // For a host written in C (docs/HOST.md, include/hundurzek.h): numbers and lent slices, and nothing of its own.
 pub mod texts;
+pub mod writes;
 
 ghost use mathlib.Core.Path.{_≡_};
 ghost use mathlib.Core.Bool.{true};

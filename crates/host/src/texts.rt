@@ -33,7 +33,7 @@ pub struct Loaded {
 }
 
 // The answer to what is done.
-const DONE: u64 = 255;
+pub const DONE: u64 = 255;
 
 // Where a line begins: the start that its answers name (document 01, "Answer numbers").
 const START: usize = 0;
