@@ -34,16 +34,16 @@ use Rattle.reader.specs.Readings.{structOf, outcomeAt, readingOf}
 use Rattle.walk.specs.Walks.{walkAt, walkedOf}
 
 -- a slice that lies anywhere
-anywhere : {A : Type 0} → RefT (List A)
+pub anywhere : {A : Type 0} → RefT (List A)
 anywhere = record { ptr = (0, 0); name = 0; now = [] }
 
 -- ---- in Rattle
 
 -- a holding passed as a struct
-abbrev kept : Lent → Holding → Holding
+abbrev pub kept : Lent → Holding → Holding
 kept l h = structOf h l
 
-struct-passes : Passes lentBy kept
+pub struct-passes : Passes lentBy kept
 unfolding structOf isHolding
 struct-passes = record { lends = λ h held fine. lent-picture held fine; anew = λ h held l fine. anew h held l }
   where
@@ -53,7 +53,7 @@ struct-passes = record { lends = λ h held fine. lent-picture held fine; anew = 
 
 module _ (bytes : List ℕ) (end : ℕ) (h : Holding) (place : ℕ) (rows : List ℤ) (said : Said) (left : Holding) (after : List ℤ) where
   -- what the contract allows is what the reading there says, and the other way round
-  code-reads : CodeCall bytes end h place rows said left after → Read lentBy kept bytes end h place rows said left after
+  pub code-reads : CodeCall bytes end h place rows said left after → Read lentBy kept bytes end h place rows said left after
   unfolding readingOf outcomeAt
   code-reads c = record {
     says = sym (c .says) ∙ ap (λ r. saidAt place (r .answer)) (c .allowed .0);
@@ -108,7 +108,7 @@ said-back start (Refused Network missing) = refl
 said-back start (Refused Value missing) = refl
 
 -- a holding passed as bytes
-abbrev lentIn : List ℕ → Lent
+abbrev pub lentIn : List ℕ → Lent
 lentIn hb = lentBy (holdingIn hb)
 
 -- as many numbers over others hide these
@@ -116,7 +116,7 @@ over-over : {A : Type 0} (xs ys old : List A) → length xs ≡ length ys → ov
 unfolding over
 over-over {A} xs ys old e = ap (λ (l : List A). xs ++ l) (drop-at ys (drop (length ys) old) (length xs) (sym e) ∙ ap (λ (n : ℕ). drop n old) (sym e))
 
-bytes-passes : Passes lentIn bytesAfter
+pub bytes-passes : Passes lentIn bytesAfter
 unfolding bytesAfter isHolding heldIn
 bytes-passes = record {
   lends = λ hb held fine. ap lentBy (bytes-say hb (lent held) fine) ∙ lent-picture held fine;
@@ -135,7 +135,7 @@ module _ (bytes : List ℕ) (end : ℕ) (hb : List ℕ) (place : ℕ) (rows : Li
   outcome = hostOutcome hb bytes end place rows
 
   -- what the contract allows is what the reading there says, and the other way round
-  host-reads : HostCall bytes end hb place rows said left after → Read lentIn bytesAfter bytes end hb place rows said left after
+  pub host-reads : HostCall bytes end hb place rows said left after → Read lentIn bytesAfter bytes end hb place rows said left after
   unfolding hostOutcome outcomeAt
   host-reads c = record {
     says = sym (c .says) ∙ ap saidBy (c .allowed .0) ∙ said-back place (answerOf outcome);
