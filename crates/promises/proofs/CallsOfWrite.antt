@@ -21,9 +21,9 @@ use Rattle.host.specs.Texts.{doneNumber}
 use Rattle.host.specs.Writes.{headIn, writtenHanded}
 use Rattle.host.proofs.Outcomes.{bytes-stay}
 use Rattle.promises.specs.Calls.{CodeCall, HostCall}
-use Rattle.promises.specs.RoundTrips.{ReadingGivesBack, WritingGivesBack, WritingInPlace, RefusalLeaves, doneBy, CodeWrite, doneIn, HostWrite}
+use Rattle.promises.specs.RoundTrips.{ReadingGivesBack, WritingGivesBack, WritingInPlace, OneAnswer, RefusalLeaves, doneBy, CodeWrite, doneIn, HostWrite}
 use Rattle.promises.proofs.CallsOfRead.{anywhere, kept, struct-passes, code-reads, lentIn, bytes-passes, host-reads}
-use Rattle.promises.proofs.RoundTrips.{Write, refusal-leaves, reading-gives-back, writing-gives-back, writing-in-place}
+use Rattle.promises.proofs.RoundTrips.{Write, one-answer, refusal-leaves, reading-gives-back, writing-gives-back, writing-in-place}
 use Rattle.reader.specs.Readings.{structOf}
 use Rattle.writer.specs.Stages.{answered}
 
@@ -56,7 +56,7 @@ module _ (h : Holding) (head : Head) (rows : List ℤ) (count : ℕ) (bytes : Li
     stays = struct-stays h;
   }
 
-  -- "Each call ends with an answer": what the contract allows is there for every input, and `write-determined` says that it is one thing
+  -- "Each call ends with an answer": what the contract allows is there for every input
   pub write-answers : Bytes bytes → CodeWrite h head rows count bytes start (doneWriting start codeWriting) (Writing.bytesAfter codeWriting bytes start)
   write-answers small = record {
     κs = ([], ([], tt));
@@ -67,6 +67,12 @@ module _ (h : Holding) (head : Head) (rows : List ℤ) (count : ℕ) (bytes : Li
     says = done-back start codeWriting;
     allowed = (refl, refl);
   }
+
+pub write-one-answer : OneAnswer CodeWrite
+unfolding OneAnswer
+write-one-answer h head rows count bytes start said other left rest w v =
+    one-answer lentBy kept h head rows count bytes start said other left rest (code-writes h head rows count bytes start said left w)
+    (code-writes h head rows count bytes start other rest v)
 
 pub write-refusal-leaves : RefusalLeaves CodeWrite
 unfolding RefusalLeaves
@@ -146,6 +152,12 @@ module _ (hb : List ℕ) (words : List ℤ) (rows : List ℤ) (count : ℕ) (byt
     says = handed-back start hostWriting;
     allowed = (refl, refl);
   }
+
+pub hundurzek-write-one-answer : OneAnswer HostWrite
+unfolding OneAnswer
+hundurzek-write-one-answer h head rows count bytes start said other left rest w v =
+    one-answer lentIn bytesAfter h head rows count bytes start said other left rest (host-writes h head rows count bytes start said left w)
+    (host-writes h head rows count bytes start other rest v)
 
 pub hundurzek-write-refusal-leaves : RefusalLeaves HostWrite
 unfolding RefusalLeaves

@@ -25,8 +25,9 @@ use Rattle.format.proofs.HeldGood.{held-good, stays-good}
 use Rattle.format.proofs.Walks.{ends-inside}
 use Rattle.format.proofs.WrittenRead.{Took, took, written, reads-back, writes-read}
 use Rattle.lines.proofs.RowTexts.{length-rows}
-use Rattle.promises.specs.RoundTrips.{TheRecords, TheVeryBits, ReadingGivesBack, WritingGivesBack, WritingInPlace, RefusalLeaves}
+use Rattle.promises.specs.RoundTrips.{TheRecords, TheVeryBits, ReadingGivesBack, WritingGivesBack, WritingInPlace, OneAnswer, RefusalLeaves}
 use Rattle.promises.proofs.Calls.{Passes, Read, message-parts, never-both}
+use Rattle.promises.proofs.Determined.{alike}
 use Rattle.reader.proofs.EightNumbers.{Eight, accepted-eight, rows-left}
 
 -- ---- rows as numbers
@@ -71,7 +72,10 @@ module _ {H : Type 0} (lentIn : H → Lent) (leave : Lent → H → H) where
     pub octets : Bytes bytes
     pub stays : leave (lentIn h) h ≡ h
 
-  -- a refusal
+  pub one-answer : OneAnswer Write
+  unfolding OneAnswer
+  one-answer h head rows count bytes start said other left rest w v = (alike (w .says) (v .says), alike (w .leaves) (v .leaves))
+
   pub refusal-leaves : RefusalLeaves Write
   unfolding RefusalLeaves doneWriting bytesAfter undoneAt
   refusal-leaves h head rows count bytes start number place left w = go (writing (lentIn h) head rows count bytes start) (w .says) (w .leaves)

@@ -28,7 +28,7 @@ use Rattle.promises.specs.RoundTrips as RoundTrips
 use Rattle.promises.specs.Useless as Useless
 use Rattle.promises.specs.Useless.{ShutsOut}
 use Rattle.promises.specs.UselessWriter as Calls
-use Rattle.promises.specs.UselessWriter.{askable, Asked, Beside, Left, Fixed, BothDone, UselessWriter, refuses-everything, fixed-answer, fixed-place, fixed-bits, ignores-rows, ignores-head, writes-nothing, writes, hostWrites}
+use Rattle.promises.specs.UselessWriter.{askable, Asked, Beside, Left, Fixed, BothDone, SaysTheSame, OneHead, OneBody, UselessWriter, refuses-everything, fixed-answer, fixed-place, fixed-bits, ignores-rows, ignores-head, writes-nothing, writes, hostWrites}
 use Rattle.promises.proofs.Useless.{near-apart, passed}
 use Rattle.writer.proofs as writer
 use Rattle.writer.specs.Stages as Stages
@@ -82,7 +82,7 @@ byteAt k bytes = getD bytes k 0
 
 -- what they compute with
 seeing : Unit {0}
-unfolding asking short otherRow otherHead long writeHere placeSaid byteAt Calls.Fixed Calls.BothDone Calls.writes Calls.hostWrites RoundTrips.doneBy RoundTrips.doneIn Useless.ShutsOut Writes.headIn Writes.writtenHanded Stages.answered Writing.writing Writing.doneWriting Writing.bytesAfter Writing.limit Writing.rowsIn Writing.exact Writing.endedWith Writing.isOurs Writing.hasMask Writing.ofIssue Answers.undoneAt Same.sameℤ Same.sameHead Same.sameHeld Table.spelled Table.spelledBy Table.spellKind Table.kindOf Spelling.put Spelling.putPacket Rows.spellRows Rows.spellValues BitLists.setBytes BitLists.setBits Signed.unsigned
+unfolding asking short otherRow otherHead long writeHere placeSaid byteAt Calls.Fixed Calls.BothDone Calls.SaysTheSame Calls.OneHead Calls.OneBody Calls.writes Calls.hostWrites RoundTrips.doneBy RoundTrips.doneIn Useless.ShutsOut Writes.headIn Writes.writtenHanded Stages.answered Writing.writing Writing.doneWriting Writing.bytesAfter Writing.limit Writing.rowsIn Writing.exact Writing.endedWith Writing.isOurs Writing.hasMask Writing.ofIssue Answers.undoneAt Same.sameℤ Same.sameHead Same.sameHeld Table.spelled Table.spelledBy Table.spellKind Table.kindOf Spelling.put Spelling.putPacket Rows.spellRows Rows.spellValues BitLists.setBytes BitLists.setBits Signed.unsigned
 seeing = tt
 
 -- ---- a writer that shows what the definitions say
@@ -115,11 +115,11 @@ module _ (f : Asked → Left) (is : Shows f) where
   useful-writer (fixed-answer same) = other-place (λ c d s t. Unit {0}) tt same
   useful-writer (fixed-place same) = other-place BothDone ((65, refl), ((105, refl), refl)) same
   useful-writer (fixed-bits same) =
-      other-bytes (λ c d s t. s .said ≡ t .said) otherRow 8 (is .row-is) (record { holding = refl; bytes = refl; start = refl }) refl refl same
+      other-bytes SaysTheSame otherRow 8 (is .row-is) (record { holding = refl; bytes = refl; start = refl }) refl refl same
   useful-writer (ignores-rows same) =
-      other-bytes (λ c d s t. (c .head ≡ d .head) × (c .count ≡ d .count)) otherRow 8 (is .row-is) (record { holding = refl; bytes = refl; start = refl }) (refl, refl) refl same
+      other-bytes OneHead otherRow 8 (is .row-is) (record { holding = refl; bytes = refl; start = refl }) (refl, refl) refl same
   useful-writer (ignores-head same) =
-      other-bytes (λ c d s t. (c .rows ≡ d .rows) × (c .count ≡ d .count)) otherHead 2 (is .head-is) (record { holding = refl; bytes = refl; start = refl }) (refl, refl) refl same
+      other-bytes OneBody otherHead 2 (is .head-is) (record { holding = refl; bytes = refl; start = refl }) (refl, refl) refl same
   useful-writer (writes-nothing leaves) =
       eqb-false _ _ refl (ap (byteAt 0) (ap (λ (s : Left). s .bytes) (sym (is .short-is)) ∙ leaves short 65 (ap (λ (s : Left). s .said) (is .short-is))))
 

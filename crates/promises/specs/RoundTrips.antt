@@ -73,7 +73,14 @@ module _ {H : Type 0} (Writes : H → Head → List ℤ → ℕ → List ℕ →
       → (said : Done) (written : List ℕ) → Writes left head after count bytes start said written
       → (said ≡ done next) × (written ≡ bytes)
 
--- demand 1: "one refusal from the list", with the start asked for; "A refusal changes neither the held mask nor a lent buffer" (the holding is passed in, not back)
+-- demand 1: "Each call ends with an answer or one refusal from the list": never with two, wherever the slices lie
+unfoldable pub OneAnswer : {H : Type 0} → (H → Head → List ℤ → ℕ → List ℕ → ℕ → Done → List ℕ → Type 0) → Type 0
+OneAnswer {H} Writes =
+    (holding : H) (head : Head) (rows : List ℤ) (count : ℕ) (bytes : List ℕ) (start : ℕ) (said other : Done) (left rest : List ℕ)
+    → Writes holding head rows count bytes start said left → Writes holding head rows count bytes start other rest
+    → (said ≡ other) × (left ≡ rest)
+
+-- "one refusal from the list", with the start asked for; "A refusal changes neither the held mask nor a lent buffer" (the holding is passed in, not back)
 unfoldable pub RefusalLeaves : {H : Type 0} → (H → Head → List ℤ → ℕ → List ℕ → ℕ → Done → List ℕ → Type 0) → Type 0
 RefusalLeaves {H} Writes =
     (holding : H) (head : Head) (rows : List ℤ) (count : ℕ) (bytes : List ℕ) (start number place : ℕ) (left : List ℕ)

@@ -56,6 +56,17 @@ Fixed Alike part f = (c d : Asked) → Beside c d → Alike c d (f c) (f d) → 
 unfoldable pub BothDone : Asked → Asked → Left → Left → Type 0
 BothDone c d s t = ((m : ℕ) × (s .said ≡ done m)) × (((n : ℕ) × (t .said ≡ done n)) × (headIn (c .head) .subtype ≡ headIn (d .head) .subtype))
 
+-- of which the same is said
+unfoldable pub SaysTheSame : Asked → Asked → Left → Left → Type 0
+SaysTheSame c d s t = s .said ≡ t .said
+
+-- asked for one head, or for the same rows
+unfoldable pub OneHead : Asked → Asked → Left → Left → Type 0
+OneHead c d s t = (c .head ≡ d .head) × (c .count ≡ d .count)
+
+unfoldable pub OneBody : Asked → Asked → Left → Left → Type 0
+OneBody c d s t = (c .rows ≡ d .rows) × (c .count ≡ d .count)
+
 pub data UselessWriter (f : Asked → Left) : Type 0 where
   -- "one that refuses everything"
   refuses-everything : ((c : Asked) (next : ℕ) → f c .said ≡ done next → ⊥) → UselessWriter f
@@ -63,9 +74,9 @@ pub data UselessWriter (f : Asked → Left) : Type 0 where
   fixed-answer : Fixed (λ c d s t. Unit {0}) (λ s. s .said) f → UselessWriter f
   fixed-place : Fixed BothDone (λ s. s .said) f → UselessWriter f
   -- fixed bits: wherever it says the same; whatever the rows are, under one head; whatever the head is, with the same rows
-  fixed-bits : Fixed (λ c d s t. s .said ≡ t .said) (λ s. s .bytes) f → UselessWriter f
-  ignores-rows : Fixed (λ c d s t. (c .head ≡ d .head) × (c .count ≡ d .count)) (λ s. s .bytes) f → UselessWriter f
-  ignores-head : Fixed (λ c d s t. (c .rows ≡ d .rows) × (c .count ≡ d .count)) (λ s. s .bytes) f → UselessWriter f
+  fixed-bits : Fixed SaysTheSame (λ s. s .bytes) f → UselessWriter f
+  ignores-rows : Fixed OneHead (λ s. s .bytes) f → UselessWriter f
+  ignores-head : Fixed OneBody (λ s. s .bytes) f → UselessWriter f
   -- "one that does nothing": leaves the bytes, though it says that it wrote
   writes-nothing : ((c : Asked) (next : ℕ) → f c .said ≡ done next → f c .bytes ≡ c .bytes) → UselessWriter f
 
