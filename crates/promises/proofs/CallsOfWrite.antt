@@ -3,13 +3,10 @@ use mathlib.Core.Path.{_≡_, refl, sym, ap, _∙_}
 use mathlib.Core.Bool.{Bool, true, false, cond}
 use mathlib.Core.List.{List, []}
 use Prim.Native.Nat.{ℕ}
-use lib.Dec.{eqb}
 use lib.IntN.{ℤ}
 use Rattle.bits.proofs.Windows.{Bytes}
 use Rattle.format.specs.declared.Head.{Head}
-use Rattle.format.specs.declared.Refusal.{Refusal}
-use Rattle.format.specs.declared.Refusal.the-variants.{Room, Place, Short, Number, SubType, NoMask, OtherIssue, System, Reserved, Size, Network, Value}
-use Rattle.format.specs.Answers.{Done, done, undone, undoneAt, numberOf}
+use Rattle.format.specs.Answers.{Done, undoneAt}
 use Rattle.format.specs.Masks.{stray, lent}
 use Rattle.format.specs.Writing.{Written, wrote, refused, writing, doneWriting}
 use Rattle.format.specs.Writing as Writing
@@ -17,13 +14,12 @@ use Rattle.holding.specs.declared.Holding.{Holding}
 use Rattle.holding.specs.Pictures.{maskOf, sound, lentBy}
 use Rattle.holding.proofs.Sounds.{sounds}
 use Rattle.host.specs.Handing.{bytesAfter}
-use Rattle.host.specs.Texts.{doneNumber}
 use Rattle.host.specs.Writes.{headIn, writtenHanded}
 use Rattle.host.proofs.Outcomes.{bytes-stay}
 use Rattle.promises.specs.Calls.{CodeCall, HostCall}
 use Rattle.promises.specs.RoundTrips.{ReadingGivesBack, WritingGivesBack, WritingInPlace, OneAnswer, RefusalLeaves, doneBy, CodeWrite, doneIn, HostWrite}
-use Rattle.promises.proofs.CallsOfRead.{anywhere, kept, struct-passes, code-reads, lentIn, bytes-passes, host-reads}
-use Rattle.promises.proofs.RoundTrips.{Write, one-answer, refusal-leaves, reading-gives-back, writing-gives-back, writing-in-place}
+use Rattle.promises.proofs.CallsOfRead.{anywhere, not-answered, kept, struct-passes, code-reads, lentIn, bytes-passes, host-reads}
+use Rattle.promises.proofs.RoundTrips.{Write, one-answer, refusal-leaves, reading-gives-back, writing-gives-back, writing-in-place, one-so, refusal-so, records-too, bits-too, place-too}
 use Rattle.reader.specs.Readings.{structOf}
 use Rattle.writer.specs.Stages.{answered}
 
@@ -69,56 +65,26 @@ module _ (h : Holding) (head : Head) (rows : List ℤ) (count : ℕ) (bytes : Li
   }
 
 pub write-one-answer : OneAnswer CodeWrite
-unfolding OneAnswer
-write-one-answer h head rows count bytes start said other left rest w v =
-    one-answer lentBy kept h head rows count bytes start said other left rest (code-writes h head rows count bytes start said left w)
-    (code-writes h head rows count bytes start other rest v)
+write-one-answer = one-so code-writes (one-answer lentBy kept)
 
 pub write-refusal-leaves : RefusalLeaves CodeWrite
-unfolding RefusalLeaves
-write-refusal-leaves h head rows count bytes start number place left w =
-    refusal-leaves lentBy kept h head rows count bytes start number place left (code-writes h head rows count bytes start (undone number place) left w)
+write-refusal-leaves = refusal-so code-writes (refusal-leaves lentBy kept)
 
 pub reading-gives-back-the-records : ReadingGivesBack CodeWrite CodeCall
-unfolding ReadingGivesBack
-reading-gives-back-the-records h head rows count bytes start next there w end room few buffer enough said left after r =
-    reading-gives-back lentBy kept h head rows count bytes start next there (code-writes h head rows count bytes start (done next) there w) end room few buffer enough said
-    left after (code-reads there end h start buffer said left after r)
+reading-gives-back-the-records = records-too code-writes code-reads (reading-gives-back lentBy kept)
 
 pub writing-gives-back-the-bits : WritingGivesBack CodeWrite CodeCall
-unfolding WritingGivesBack
-writing-gives-back-the-bits bytes end h start rows head next count left after r others place room said there w =
-    writing-gives-back lentBy kept struct-passes bytes end h start rows head next count left after (code-reads bytes end h start rows _ left after r) others place room said
-    there (code-writes left head after count others place said there w)
+writing-gives-back-the-bits = bits-too code-writes code-reads (writing-gives-back lentBy kept struct-passes)
 
 pub writing-in-place-changes-nothing : WritingInPlace CodeWrite CodeCall
-unfolding WritingInPlace
-writing-in-place-changes-nothing bytes end h start rows head next count left after r said there w =
-    writing-in-place lentBy kept struct-passes bytes end h start rows head next count left after (code-reads bytes end h start rows _ left after r) said there
-    (code-writes left head after count bytes start said there w)
+writing-in-place-changes-nothing = place-too code-writes code-reads (writing-in-place lentBy kept struct-passes)
 
 -- ---- in C
-
--- no refusal has the number of what is done
-no-done : (r : Refusal) → eqb (numberOf r) doneNumber ≡ false
-unfolding numberOf
-no-done Room = refl
-no-done Place = refl
-no-done Short = refl
-no-done Number = refl
-no-done SubType = refl
-no-done NoMask = refl
-no-done OtherIssue = refl
-no-done System = refl
-no-done Reserved = refl
-no-done Size = refl
-no-done Network = refl
-no-done Value = refl
 
 handed-back : (start : ℕ) (o : Written) → doneIn (writtenHanded start (doneWriting start o)) ≡ doneWriting start o
 unfolding doneIn writtenHanded doneWriting undoneAt
 handed-back start (wrote new) = refl
-handed-back start (refused r) = rw (no-done r)
+handed-back start (refused r) = rw (not-answered r)
 
 module _ (hb : List ℕ) (head : Head) (rows : List ℤ) (count : ℕ) (bytes : List ℕ) (start : ℕ) where
   host-writes : (said : Done) (left : List ℕ) → HostWrite hb head rows count bytes start said left → Write lentIn bytesAfter hb head rows count bytes start said left
@@ -154,30 +120,16 @@ module _ (hb : List ℕ) (words : List ℤ) (rows : List ℤ) (count : ℕ) (byt
   }
 
 pub hundurzek-write-one-answer : OneAnswer HostWrite
-unfolding OneAnswer
-hundurzek-write-one-answer h head rows count bytes start said other left rest w v =
-    one-answer lentIn bytesAfter h head rows count bytes start said other left rest (host-writes h head rows count bytes start said left w)
-    (host-writes h head rows count bytes start other rest v)
+hundurzek-write-one-answer = one-so host-writes (one-answer lentIn bytesAfter)
 
 pub hundurzek-write-refusal-leaves : RefusalLeaves HostWrite
-unfolding RefusalLeaves
-hundurzek-write-refusal-leaves h head rows count bytes start number place left w =
-    refusal-leaves lentIn bytesAfter h head rows count bytes start number place left (host-writes h head rows count bytes start (undone number place) left w)
+hundurzek-write-refusal-leaves = refusal-so host-writes (refusal-leaves lentIn bytesAfter)
 
 pub hundurzek-reading-gives-back-the-records : ReadingGivesBack HostWrite HostCall
-unfolding ReadingGivesBack
-hundurzek-reading-gives-back-the-records h head rows count bytes start next there w end room few buffer enough said left after r =
-    reading-gives-back lentIn bytesAfter h head rows count bytes start next there (host-writes h head rows count bytes start (done next) there w) end room few buffer enough said
-    left after (host-reads there end h start buffer said left after r)
+hundurzek-reading-gives-back-the-records = records-too host-writes host-reads (reading-gives-back lentIn bytesAfter)
 
 pub hundurzek-writing-gives-back-the-bits : WritingGivesBack HostWrite HostCall
-unfolding WritingGivesBack
-hundurzek-writing-gives-back-the-bits bytes end h start rows head next count left after r others place room said there w =
-    writing-gives-back lentIn bytesAfter bytes-passes bytes end h start rows head next count left after (host-reads bytes end h start rows _ left after r) others place room said
-    there (host-writes left head after count others place said there w)
+hundurzek-writing-gives-back-the-bits = bits-too host-writes host-reads (writing-gives-back lentIn bytesAfter bytes-passes)
 
 pub hundurzek-writing-in-place-changes-nothing : WritingInPlace HostWrite HostCall
-unfolding WritingInPlace
-hundurzek-writing-in-place-changes-nothing bytes end h start rows head next count left after r said there w =
-    writing-in-place lentIn bytesAfter bytes-passes bytes end h start rows head next count left after (host-reads bytes end h start rows _ left after r) said there
-    (host-writes left head after count bytes start said there w)
+hundurzek-writing-in-place-changes-nothing = place-too host-writes host-reads (writing-in-place lentIn bytesAfter bytes-passes)

@@ -235,3 +235,37 @@ module _ {H : Type 0} (lentIn : H → Lent) (leave : Lent → H → H) where
       let whole : start + (next - start) ≡ next = omega (arith, room .0) in
       let it = bits-so passes bytes end h start rows head next count left after r bytes start (rw whole (room .1)) said there w in
       (it .answer ∙ ap done whole, it .set ∙ setBytes-same bytes start (next - start) (w .octets) (omega (arith, room .1)))
+
+-- ---- functions that allow no more than others
+
+module _ {H : Type 0} {W X : H → Head → List ℤ → ℕ → List ℕ → ℕ → Done → List ℕ → Type 0}
+    (f : (h : H) (head : Head) (rows : List ℤ) (count : ℕ) (bytes : List ℕ) (start : ℕ) (said : Done) (left : List ℕ)
+    → X h head rows count bytes start said left → W h head rows count bytes start said left) where
+  pub one-so : OneAnswer W → OneAnswer X
+  unfolding OneAnswer
+  one-so one h head rows count bytes start said other left rest w v =
+      one h head rows count bytes start said other left rest (f h head rows count bytes start said left w) (f h head rows count bytes start other rest v)
+
+  pub refusal-so : RefusalLeaves W → RefusalLeaves X
+  unfolding RefusalLeaves
+  refusal-so leaves h head rows count bytes start number place left w = leaves h head rows count bytes start number place left (f h head rows count bytes start _ left w)
+
+  module _ {R Q : List ℕ → ℕ → H → ℕ → List ℤ → Said → H → List ℤ → Type 0}
+      (g : (bytes : List ℕ) (end : ℕ) (h : H) (start : ℕ) (rows : List ℤ) (said : Said) (left : H) (after : List ℤ)
+      → Q bytes end h start rows said left after → R bytes end h start rows said left after) where
+    pub records-too : ReadingGivesBack W R → ReadingGivesBack X Q
+    unfolding ReadingGivesBack
+    records-too back h head rows count bytes start next there w end room few buffer enough said left after r =
+        back h head rows count bytes start next there (f h head rows count bytes start _ there w) end room few buffer enough said left after
+        (g there end h start buffer said left after r)
+
+    pub bits-too : WritingGivesBack W R → WritingGivesBack X Q
+    unfolding WritingGivesBack
+    bits-too back bytes end h start rows head next count left after r others place room said there w =
+        back bytes end h start rows head next count left after (g bytes end h start rows _ left after r) others place room said there
+        (f left head after count others place said there w)
+
+    pub place-too : WritingInPlace W R → WritingInPlace X Q
+    unfolding WritingInPlace
+    place-too back bytes end h start rows head next count left after r said there w =
+        back bytes end h start rows head next count left after (g bytes end h start rows _ left after r) said there (f left head after count bytes start said there w)
