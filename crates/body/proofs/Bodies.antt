@@ -1,6 +1,7 @@
 -- The lines of a body under a sound holding: how many they are, how wide, and that each makes eight numbers.
 -- Assumes nothing.
 use Rattle.bits.proofs.Words.{_≡_, refl, sym, ap, ap₂, _∙_, Bool, true, false, List, [], _∷_, map, ℕ, zero, suc, _+_, _-_, _*_, _/_, _^_, _≤_, _<_, arith, ltb, length, take, ℤ, pos}
+use mathlib.Core.List.{flatten}
 use native.Mathlib.Nat.{mul-comm, le-of-suc-le-suc}
 use borrow.Author.Tests.{ltb-true}
 use lib.Count.{ones}
@@ -23,6 +24,7 @@ use Rattle.holding.specs.Held.{View, stripCells, slotsOf, viewOf}
 use Rattle.holding.specs.Pictures.{maskOf, sound}
 use Rattle.rows.proofs.RowsAt.{Eights, rows-length}
 use Rattle.rows.proofs.Table.{five-at, columns-in, no-iode}
+use Rattle.rows.specs.At.{rowsAt}
 use Rattle.rows.specs.Shapes.{columnsIn, Laid, Narrow}
 use Rattle.rows.specs.Table.{shapes, listed, shapeAt, shapeFor}
 use Rattle.table.specs.declared.Body.{Body}
@@ -171,12 +173,16 @@ module _ {ids masks strips : List ℕ} (lent : Lent ids masks strips) (body : Bo
   unfolding linesIn
   few-in = few-lines (viewBy ids masks strips) (body .keys) (body .shape) (lent .satellites) (lent .cells) fits
 
-  -- 2048 numbers are room for every body
-  pub roomy : {keys : Keys} (bytes : List ℕ) (at bits : ℕ) (rows : List ℤ) → body .keys ≡ keys → bits ≡ bodyWidth lines → at + bits < 2 ^ 32 → 2048 ≤ length rows
+  pub numbers-long : (bytes : List ℕ) (at : ℕ) → length (flatten (rowsAt lines bytes at)) ≡ 8 * length lines
+  unfolding linesIn
+  numbers-long bytes at = rows-length lines bytes at (eights (viewBy ids masks strips) (body .keys) (body .shape) fits)
+
+  -- eight numbers for each line are room for a body
+  pub roomy : {keys : Keys} (bytes : List ℕ) (at bits : ℕ) (rows : List ℤ) → body .keys ≡ keys → bits ≡ bodyWidth lines → at + bits < 2 ^ 32 → 8 * length lines ≤ length rows
       → at + bits + 120 ≤ 8 * length bytes → Room (linesOver (viewBy ids masks strips) keys (body .shape)) bytes at rows
   unfolding linesIn
   roomy bytes at bits rows known wide near room whole =
-      let long = rows-length lines bytes at (eights (viewBy ids masks strips) (body .keys) (body .shape) fits) in
+      let long = numbers-long bytes at in
       let short = few-in .rows in
       rw (lines-known (viewBy ids masks strips) body known) (record { room = omega (arith, long, short); few = omega (arith, long, short); near = omega arith; whole = omega arith })
 

@@ -18,7 +18,7 @@ module _ (j : ℕ) (old new more : List ℤ) (room : j + length new ≤ length o
   short = length-take-le j old (omega arith)
 
   -- new numbers from the j-th on, and more of them after those
-  over-more : take j old ++ over (new ++ more) (drop j old)
+  pub over-more : take j old ++ over (new ++ more) (drop j old)
       ≡ take (j + length new) (take j old ++ over new (drop j old)) ++ over more (drop (j + length new) (take j old ++ over new (drop j old)))
   unfolding over
   over-more =
@@ -35,7 +35,7 @@ module _ (j : ℕ) (old new more : List ℤ) (room : j + length new ≤ length o
       ap (λ (k : ℕ). drop k (drop j old)) (length-append new more) ∙ sym (drop-drop (length more) (length new) (drop j old)) in
       rw (front, back, gone) (simp append-assoc)
 
-  over-length : length (take j old ++ over new (drop j old)) ≡ length old
+  pub over-length : length (take j old ++ over new (drop j old)) ≡ length old
   unfolding over
   over-length = simp (length-append, length-drop) (omega (arith, short))
 
@@ -49,7 +49,7 @@ flatten-append [] ys = refl
 flatten-append {A} (x ∷ xs) ys = ap (λ (l : List A). x ++ l) (flatten-append xs ys) ∙ sym (append-assoc x (flatten xs) (flatten ys))
 
 -- the numbers of some lines and of more after them
-numbers-append : (ls ms : List Line) (bs : List ℕ) (at : ℕ) → numbersAt (ls ++ ms) bs at ≡ numbersAt ls bs at ++ numbersAt ms bs (at + bodyWidth ls)
+pub numbers-append : (ls ms : List Line) (bs : List ℕ) (at : ℕ) → numbersAt (ls ++ ms) bs at ≡ numbersAt ls bs at ++ numbersAt ms bs (at + bodyWidth ls)
 numbers-append ls ms bs at = ap flatten (rows-at-append ls ms bs at) ∙ flatten-append (rowsAt ls bs at) (rowsAt ms bs (at + bodyWidth ls))
 
 -- ---- the loop

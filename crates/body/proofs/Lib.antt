@@ -8,3 +8,6 @@ pub mod Groups
 pub mod Sizes
 pub mod Bodies
 pub mod Tails
+pub mod Cuts
+pub mod Halving
+pub mod Endings

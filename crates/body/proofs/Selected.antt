@@ -21,7 +21,7 @@ spell-up u n c =
 
 module _ {A : Type 0} where
   -- a selection moved up picks with the bits behind those moved out
-  pick-up : (c n : ℕ) (xs : List A) → n ≤ 64 → pick (spell 64 (c * 2 ^ n % 2 ^ 64)) xs ≡ pick (drop n (spell 64 c)) xs
+  pub pick-up : (c n : ℕ) (xs : List A) → n ≤ 64 → pick (spell 64 (c * 2 ^ n % 2 ^ 64)) xs ≡ pick (drop n (spell 64 c)) xs
   pick-up c n xs few =
       let e : 64 ≡ 64 - n + n = omega arith in
       ap (λ (w : ℕ). pick (spell w (c * 2 ^ n % 2 ^ w)) xs) e

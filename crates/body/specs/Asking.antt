@@ -1,11 +1,10 @@
 -- What the functions that write rows ask of what they are lent, under one name each.
 use mathlib.Core.Path.{_≡_}
 use mathlib.Core.List.{List}
-use Prim.Native.Nat.{ℕ, _+_, _^_, _≤_, _<_}
+use Prim.Native.Nat.{ℕ, _+_, _*_, _^_, _≤_, _<_}
 use lib.IntN.{ℤ}
 use lib.ListN.{length}
 use Rattle.format.specs.Masks.{Satellite}
-use Rattle.format.specs.Reading.{rowRoom}
 use Rattle.format.specs.Rows.{Line, bodyWidth}
 use Rattle.rows.specs.declared.shape.Shape.{Shape}
 use Rattle.rows.specs.Shapes.{columnsIn, FormedShape}
@@ -29,10 +28,10 @@ pub record Asks (Kind : Shape → Type 0) (lines : List Line) (bytes : List ℕ)
   pub kind : Kind (wanted .shape)
   pub room : Room lines bytes (wanted .at) rows
 
--- a body under what is lent, of so many bits
+-- a body under what is lent, of so many bits, and room for its rows
 pub record Fills (ids masks strips : List ℕ) (placed : Placed) (rows : List ℤ) : Type 0 where
   pub lent : Lent ids masks strips
   pub fits : Fits (placed .body)
   pub bits : placed .bits ≡ bodyWidth (linesIn (viewBy ids masks strips) (placed .body))
   pub near : placed .at + placed .bits < 2 ^ 32
-  pub room : rowRoom ≤ length rows
+  pub room : 8 * length (linesIn (viewBy ids masks strips) (placed .body)) ≤ length rows

@@ -2,3 +2,4 @@ pub mod Chosen
 pub mod Lent
 pub mod Written
 pub mod Asking
+pub mod Cutting

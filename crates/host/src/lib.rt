@@ -14,7 +14,8 @@ ghost use Rattle.format.specs.Programs.{run};
 ghost use Rattle.format.specs.Reading.{bitsFrom, lentAfter, answerOf, over, rowsAfter};
 ghost use Rattle.heads.specs.Sorting.{adoptedBy};
 ghost use Rattle.holding.specs.Pictures.{maskOf, sound};
-ghost use Rattle.passing.specs.Passing.{size, bytesOf};
+ghost use Rattle.passing.specs.Passing.{size, bytesOf, holdingIn};
+ghost use Rattle.reader.specs.Readings.{soughtAt};
 ghost use Rattle.host.specs.Handing.{handedBy, handed, numberSaid, bytesAfter, holdingBytes, hostOutcome, hostWalk, walkedTo, leftBytes, walkBytes, emptied, emptiedNumber};
 use bits::part::begins;
 use bits::part::counts;
@@ -137,6 +138,17 @@ pub extern "C" fn hundurzek_empty(holding: &mut [u8]) -> u64
     0
 }
 
+// Reads one message, unless it is a mask. What is held is here alone: it and the holding that a mask makes can then lie
+// at the same place of the stack.
+fn sought(holding: &[u8], bytes: &[u8], end: usize, start: usize, rows: &mut [i32]) -> Found
+    ensures { λ r. ⌜ r ≡ soughtAt (holdingIn (now (holding .entry))) (now (bytes .entry)) end start (length (now (rows .entry))) ⌝ }
+    ensures { λ _. ⌜ now (rows .exit) ≡ rowsAfter (hostOutcome (now (holding .entry)) (now (bytes .entry)) end start (now (rows .entry))) (now (rows .entry)) ⌝ }
+{
+    let held = passing::take::holding_in(holding);
+    let is = held.is_sound();
+    walk::single::seek_under(is, held, bytes, end, start, rows)
+}
+
 // Reads one message.
 #[no_mangle]
 pub extern "C" fn hundurzek_read(
@@ -150,11 +162,13 @@ pub extern "C" fn hundurzek_read(
     ensures { λ _. ⌜ now (holding .exit) ≡ holdingBytes (hostOutcome (now (holding .entry)) (now (bytes .entry)) end start (now (rows .entry))) (now (holding .entry)) ⌝ }
     ensures { λ _. ⌜ now (rows .exit) ≡ rowsAfter (hostOutcome (now (holding .entry)) (now (bytes .entry)) end start (now (rows .entry))) (now (rows .entry)) ⌝ }
 {
-    let held = passing::take::holding_in(holding);
-    let found = walk::single::seek(held, bytes, end, start, rows);
+    let found = sought(holding, bytes, end, start, rows);
     match found {
         Found::Answered(answer) => hand(answer, start),
-        Found::Mask => hand(adopt(holding, held, bytes, end, start + OPENING), start),
+        Found::Mask => {
+            let held = passing::take::holding_in(holding);
+            hand(adopt(holding, held, bytes, end, start + OPENING), start)
+        }
     }
 }
 
@@ -182,7 +196,8 @@ pub extern "C" fn hundurzek_walk(
     ensures { λ _. ⌜ now (rows .exit) ≡ hostWalk (now (holding .entry)) (now (bytes .entry)) end (now (rows .entry)) .rows ⌝ }
 {
     let held = passing::take::holding_in(holding);
-    let halt = walk::walk(held, bytes, end, rows);
+    let is = held.is_sound();
+    let halt = walk::walk_under(is, held, bytes, end, rows);
     let stop = halt.stop;
     let tally = halt.tally;
     let after = halt.holding;

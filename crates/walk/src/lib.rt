@@ -4,6 +4,7 @@ pub mod single;
 pub mod under;
 
 ghost use mathlib.Core.Path.{_≡_};
+ghost use Rattle.holding.specs.Pictures.{sound};
 ghost use Rattle.walk.specs.Standing.{standFirst, Stands, walkedFrom, rowsFrom};
 ghost use Rattle.walk.specs.Walks.{walkAt, walkedOf};
 use crate::under::under;
@@ -12,6 +13,7 @@ use heads::OPENING;
 use holding::Holding;
 use reader::Verdict;
 use reader::message::Found;
+use reader::message::adopted;
 
 // A place, and how many messages and rows were handed out before it.
 pub struct Tally {
@@ -53,8 +55,9 @@ fn on(holding: Holding, bytes: &[u8], end: usize, rows: &mut [i32]) -> Halt
                 holding: held,
             };
         }
-        let adoption = adoption::adopt(bytes, end, here.place + OPENING);
-        let answer = adoption.answer;
+        let reading = adopted(held, bytes, end, here.place + OPENING);
+        let answer = reading.answer;
+        held = reading.holding;
         let Answer::Message(_, next, _) = answer else {
             return Halt {
                 stop: answer,
@@ -62,7 +65,6 @@ fn on(holding: Holding, bytes: &[u8], end: usize, rows: &mut [i32]) -> Halt
                 holding: held,
             };
         };
-        held = held.adopt(adoption.holding);
         tally = Tally {
             place: next,
             messages: here.messages + 1,
@@ -77,8 +79,17 @@ pub fn walk(holding: Holding, bytes: &[u8], end: usize, rows: &mut [i32]) -> Hal
     ensures { λ r. ⌜ r ≡ walkedOf holding (walkAt holding (now (bytes .entry)) end (now (rows .entry))) ⌝ }
     ensures { λ _. ⌜ now (rows .exit) ≡ walkAt holding (now (bytes .entry)) end (now (rows .entry)) .rows ⌝ }
 {
-    let room = rows.len();
     let held = holding.is_sound();
+    walk_under(held, holding, bytes, end, rows)
+}
+
+// The same, where the caller has seen whether the holding is one (as single::seek_under).
+pub fn walk_under(held: bool, holding: Holding, bytes: &[u8], end: usize, rows: &mut [i32]) -> Halt
+    requires { ⌜ held ≡ sound holding ⌝ }
+    ensures { λ r. ⌜ r ≡ walkedOf holding (walkAt holding (now (bytes .entry)) end (now (rows .entry))) ⌝ }
+    ensures { λ _. ⌜ now (rows .exit) ≡ walkAt holding (now (bytes .entry)) end (now (rows .entry)) .rows ⌝ }
+{
+    let room = rows.len();
     let verdict = reader::tested(held, bytes, end, 0, room);
     if let Verdict::Refused(r) = verdict {
         return Halt {

@@ -3,6 +3,7 @@
 ghost use mathlib.Core.Path.{_≡_};
 ghost use lib.ListN.{length};
 ghost use Rattle.format.specs.Reading.{rowsAfter};
+ghost use Rattle.holding.specs.Pictures.{sound};
 ghost use Rattle.reader.specs.Readings.{readingOf, outcomeAt, soughtAt};
 use crate::Tally;
 use crate::under::under;
@@ -20,8 +21,25 @@ pub fn seek(holding: Holding, bytes: &[u8], end: usize, start: usize, rows: &mut
     ensures { λ r. ⌜ r ≡ soughtAt holding (now (bytes .entry)) end start (length (now (rows .entry))) ⌝ }
     ensures { λ _. ⌜ now (rows .exit) ≡ rowsAfter (outcomeAt holding (now (bytes .entry)) end start (now (rows .entry))) (now (rows .entry)) ⌝ }
 {
-    let room = rows.len();
     let held = holding.is_sound();
+    seek_under(held, holding, bytes, end, start, rows)
+}
+
+// The same, where the caller has seen whether the holding is one: then the value that was tested is the one that is lent,
+// and no copy of it is made.
+pub fn seek_under(
+    held: bool,
+    holding: Holding,
+    bytes: &[u8],
+    end: usize,
+    start: usize,
+    rows: &mut [i32],
+) -> Found
+    requires { ⌜ held ≡ sound holding ⌝ }
+    ensures { λ r. ⌜ r ≡ soughtAt holding (now (bytes .entry)) end start (length (now (rows .entry))) ⌝ }
+    ensures { λ _. ⌜ now (rows .exit) ≡ rowsAfter (outcomeAt holding (now (bytes .entry)) end start (now (rows .entry))) (now (rows .entry)) ⌝ }
+{
+    let room = rows.len();
     let verdict = reader::tested(held, bytes, end, start, room);
     if let Verdict::Refused(r) = verdict {
         return Found::Answered(Answer::Refused(r, 0));

@@ -10,15 +10,15 @@ use Rattle.format.proofs.Sames.{and-true}
 use Rattle.format.specs.declared.Head.{Head}
 use Rattle.format.specs.Lengths.{total}
 use Rattle.format.specs.Spelling.{put, putCommon}
-use Rattle.writer.specs.declared.pen.Field.{Field}
-use Rattle.writer.specs.declared.pen.Pen.{Pen}
-use Rattle.writer.specs.FitHeads.{numberFits, commonFits}
+use Rattle.pens.specs.declared.pen.Field.{Field}
+use Rattle.pens.specs.declared.pen.Pen.{Pen}
+use Rattle.fitting.specs.FitHeads.{numberFits, commonFits}
 use Rattle.writer.specs.Fronts.{penAt, field, openingField, lastField, frontFields}
-use Rattle.writer.specs.Numbers.{wordOf}
-use Rattle.writer.specs.Pens.{penAfter, spellFields, Fine, Fines, none, more}
+use Rattle.pens.specs.Numbers.{wordOf}
+use Rattle.pens.specs.Pens.{penAfter, spellFields, Fine, Fines, none, more}
 use Rattle.writer.proofs.Fronts.{Smalls, common-smalls}
-use Rattle.writer.proofs.Gathered.{widths, joinedTo, all-join, joined-small, spell-joined}
-use Rattle.writer.proofs.Numbers.{fits-small}
+use Rattle.pens.proofs.Gathered.{widths, joinedTo, all-join, joined-small, spell-joined}
+use Rattle.pens.proofs.Numbers.{fits-small}
 
 -- a number that fits is spelled by its bits
 pub put-word : (w : ℕ) (z : ℤ) → numberFits w z ≡ true → put w z ≡ spell w (wordOf z)

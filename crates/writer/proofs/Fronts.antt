@@ -5,13 +5,13 @@ use Rattle.format.specs.Lengths.{total}
 use Rattle.format.specs.Rows.{absent}
 use Rattle.format.specs.Same.{sameℤ}
 use Rattle.format.proofs.Sames.{and-true}
-use Rattle.writer.specs.declared.pen.Pen.{Pen}
-use Rattle.writer.specs.FitHeads.{numberFits, commonFits}
+use Rattle.pens.specs.declared.pen.Pen.{Pen}
+use Rattle.fitting.specs.FitHeads.{numberFits, commonFits}
 use Rattle.writer.specs.Fronts.{penAt, openingField, lastField, frontFields, flagFields}
-use Rattle.writer.specs.Numbers.{wordOf}
-use Rattle.writer.specs.Pens.{penAfter}
-use Rattle.writer.proofs.Gathered.{joinedTo, all-join}
-use Rattle.writer.proofs.Numbers.{fits-small}
+use Rattle.pens.specs.Numbers.{wordOf}
+use Rattle.pens.specs.Pens.{penAfter}
+use Rattle.pens.proofs.Gathered.{joinedTo, all-join}
+use Rattle.pens.proofs.Numbers.{fits-small}
 
 -- ---- a head that fits
 

@@ -12,18 +12,18 @@ use Rattle.format.specs.Spelling.{putSystem}
 use Rattle.holding.proofs.Sounds.{sounds}
 use Rattle.holding.specs.declared.Holding.{Holding}
 use Rattle.holding.specs.Pictures.{maskOf, sound}
-use Rattle.writer.specs.declared.pen.Pen.{Pen}
-use Rattle.writer.specs.FitHeads.{numberFits, commonFits}
+use Rattle.pens.specs.declared.pen.Pen.{Pen}
+use Rattle.fitting.specs.FitHeads.{numberFits, commonFits}
 use Rattle.writer.specs.Fronts.{penAt, openingField, lastField, frontFields, maskFront}
-use Rattle.writer.specs.MaskFields.{maskFields}
-use Rattle.writer.specs.Numbers.{wordOf}
-use Rattle.writer.specs.Pens.{penAfter, spellFields, Fine, Fines, none, more, Ready}
+use Rattle.putting.specs.MaskFields.{maskFields}
+use Rattle.pens.specs.Numbers.{wordOf}
+use Rattle.pens.specs.Pens.{penAfter, spellFields, Fine, Fines, none, more, Ready}
 use Rattle.writer.specs.Written.{maskRight, maskSpelled}
 use Rattle.writer.proofs.FrontBits.{pen-bits, pen-place, pen-width, pen-fine, front-fines}
-use Rattle.writer.proofs.Gathered.{widths, length-fields}
-use Rattle.writer.proofs.MaskFields.{mask-fine, mask-spelled}
-use Rattle.writer.proofs.Numbers.{fits-small}
-use Rattle.writer.proofs.Pens.{fines-append}
+use Rattle.pens.proofs.Gathered.{widths, length-fields}
+use Rattle.putting.proofs.MaskFields.{mask-fine, mask-spelled}
+use Rattle.pens.proofs.Numbers.{fits-small}
+use Rattle.pens.proofs.Pens.{fines-append}
 
 module _ (held : Holding) (on : sound held ≡ true) (h : Head) (count : ℕ) (typed : numberFits 4 (h .subtype) ≡ true) (right : maskRight h (held .count) count ≡ true) where
   pub right-common : commonFits 20 h ≡ true

@@ -25,16 +25,16 @@ use Rattle.table.specs.Kinds.{OfTable}
 use Rattle.writer.specs.declared.gate.Gate.the-variants.{Open}
 use Rattle.writer.specs.declared.plan.Plan.{Plan}
 use Rattle.writer.specs.declared.planning.Asked.{Asked}
-use Rattle.writer.specs.Fits.{rowsFit}
-use Rattle.writer.specs.FitHeads.{numberFits, commonFits, rowless, maskFits, fits}
+use Rattle.fitting.specs.Fits.{rowsFit}
+use Rattle.fitting.specs.FitHeads.{numberFits, commonFits, rowless, maskFits, fits}
 use Rattle.writer.specs.Fronts.{maskFront}
 use Rattle.writer.specs.Kinds.{kindAt, gateBy, planBits}
-use Rattle.writer.specs.Pens.{spellFields}
+use Rattle.pens.specs.Pens.{spellFields}
 use Rattle.writer.specs.Stages.{behind}
 use Rattle.writer.specs.Writings.{pastGate}
 use Rattle.writer.specs.Written.{planned, maskRight, maskSpelled, masked}
 use Rattle.writer.proofs.Behind.{unfit}
-use Rattle.writer.proofs.FitMessages.{exact-is-fits}
+use Rattle.fitting.proofs.FitMessages.{exact-is-fits}
 use Rattle.writer.proofs.Masked.{right-common, right-count}
 use Rattle.writer.proofs.PlanBits.{small-type}
 use Rattle.writer.proofs.PlanMask.{mask-fits, mask-bits}

@@ -21,16 +21,16 @@ use Rattle.table.specs.declared.Layout.{Layout}
 use Rattle.table.specs.Bodies.{linesOver, linesIn}
 use Rattle.table.specs.Kinds.{kindFor, keysFor, overBy, maskedBy, kindBy}
 use Rattle.table.specs.Shapes.{shapesFrom}
-use Rattle.writer.specs.declared.pen.Pen.{Pen}
+use Rattle.pens.specs.declared.pen.Pen.{Pen}
 use Rattle.writer.specs.declared.plan.Plan.{Plan}
-use Rattle.writer.specs.Fits.{rowsFit}
-use Rattle.writer.specs.FitHeads.{Asks, numberFits, commonFits, aloneFits, flaggedFits, askedBy, fitsAs, fits}
+use Rattle.fitting.specs.Fits.{rowsFit}
+use Rattle.fitting.specs.FitHeads.{Asks, numberFits, commonFits, aloneFits, flaggedFits, askedBy, fitsAs, fits}
 use Rattle.writer.specs.Fronts.{penAt, openingField, lastField, frontFields}
 use Rattle.writer.specs.Kinds.{asksOf, planBits}
-use Rattle.writer.specs.Pens.{penAfter, spellFields, Fines}
+use Rattle.pens.specs.Pens.{penAfter, spellFields, Fines}
 use Rattle.writer.specs.Plans.{aloneHead, alonePlan}
 use Rattle.writer.proofs.FrontBits.{front-bits, front-fines, pen-bits}
-use Rattle.writer.proofs.Gathered.{widths}
+use Rattle.pens.proofs.Gathered.{widths}
 use Rattle.writer.proofs.SubTypes.{isOther, Numbered, numbered, asks-mean}
 
 -- ---- a sub type under the mask

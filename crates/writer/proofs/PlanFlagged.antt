@@ -22,19 +22,19 @@ use Rattle.table.specs.declared.Layout.{Layout}
 use Rattle.table.specs.Bodies.{linesOver, linesIn}
 use Rattle.table.specs.Kinds.{overBy}
 use Rattle.table.specs.Shapes.{shapesFrom}
-use Rattle.writer.specs.declared.pen.Field.{Field}
+use Rattle.pens.specs.declared.pen.Field.{Field}
 use Rattle.writer.specs.declared.plan.Plan.{Plan}
-use Rattle.writer.specs.Fits.{rowsFit}
-use Rattle.writer.specs.FitHeads.{numberFits, networkFits, commonFits, aloneFits, flaggedFits, fits}
+use Rattle.fitting.specs.Fits.{rowsFit}
+use Rattle.fitting.specs.FitHeads.{numberFits, networkFits, commonFits, aloneFits, flaggedFits, fits}
 use Rattle.writer.specs.Fronts.{penAt, openingField, lastField, frontFields, flagFields}
 use Rattle.writer.specs.Kinds.{planBits}
-use Rattle.writer.specs.Numbers.{wordOf}
-use Rattle.writer.specs.Pens.{penAfter, spellFields, Fine, Fines, none, more}
+use Rattle.pens.specs.Numbers.{wordOf}
+use Rattle.pens.specs.Pens.{penAfter, spellFields, Fine, Fines, none, more}
 use Rattle.writer.specs.Plans.{flaggedHead, flaggedPlan}
 use Rattle.writer.proofs.FrontBits.{put-word, front-fines, pen-bits}
-use Rattle.writer.proofs.Gathered.{widths}
-use Rattle.writer.proofs.Numbers.{fits-small}
-use Rattle.writer.proofs.Pens.{spell-fields-append, fines-append}
+use Rattle.pens.proofs.Gathered.{widths}
+use Rattle.pens.proofs.Numbers.{fits-small}
+use Rattle.pens.proofs.Pens.{spell-fields-append, fines-append}
 use Rattle.writer.proofs.PlanBits.{Under, under-fits, under-type, under-bits, regroup}
 
 -- the first n bits of a selection

@@ -14,14 +14,14 @@ use Rattle.format.specs.Table.{table, kindOf, spellKind, spelledBy, spelled}
 use Rattle.table.proofs.Tabled.{table-means}
 use Rattle.table.specs.declared.Kind.the-variants as Kinds
 use Rattle.table.specs.Kinds.{kindFor, kindBy}
-use Rattle.writer.specs.FitHeads.{Asks, numberFits, commonFits, maskFits, rowless, askedBy, fitsAs, fits}
+use Rattle.fitting.specs.FitHeads.{Asks, numberFits, commonFits, maskFits, rowless, askedBy, fitsAs, fits}
 use Rattle.writer.specs.Fronts.{penAt, field, openingField, lastField, frontFields, maskFront}
 use Rattle.writer.specs.Kinds.{asksOf}
-use Rattle.writer.specs.Numbers.{wordOf}
-use Rattle.writer.specs.Pens.{penAfter, spellFields, Fine, Fines, none, more}
+use Rattle.pens.specs.Numbers.{wordOf}
+use Rattle.pens.specs.Pens.{penAfter, spellFields, Fine, Fines, none, more}
 use Rattle.writer.proofs.FrontBits.{put-word, front-fines, front-bits, pen-bits}
-use Rattle.writer.proofs.Numbers.{fits-small}
-use Rattle.writer.proofs.Pens.{spell-fields-append, fines-append}
+use Rattle.pens.proofs.Numbers.{fits-small}
+use Rattle.pens.proofs.Pens.{spell-fields-append, fines-append}
 use Rattle.writer.proofs.PlanBits.{small-type}
 use Rattle.writer.proofs.SubTypes.{isOther, asks-mean}
 

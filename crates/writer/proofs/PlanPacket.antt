@@ -24,16 +24,16 @@ use Rattle.table.specs.declared.Kind.the-variants.{Packet}
 use Rattle.table.specs.Bodies.{linesOver, linesIn}
 use Rattle.table.specs.Kinds.{kindFor, kindBy}
 use Rattle.writer.specs.declared.plan.Plan.{Plan}
-use Rattle.writer.specs.Fits.{rowsFit}
-use Rattle.writer.specs.FitHeads.{Asks, numberFits, partsFit, packetFits, askedBy, fitsAs, fits}
+use Rattle.fitting.specs.Fits.{rowsFit}
+use Rattle.fitting.specs.FitHeads.{Asks, numberFits, partsFit, packetFits, askedBy, fitsAs, fits}
 use Rattle.writer.specs.Fronts.{penAt, openingField, packetFields}
 use Rattle.writer.specs.Kinds.{asksOf, planBits}
-use Rattle.writer.specs.Numbers.{wordOf}
-use Rattle.writer.specs.Pens.{spellFields, Fine, Fines, none, more}
+use Rattle.pens.specs.Numbers.{wordOf}
+use Rattle.pens.specs.Pens.{spellFields, Fine, Fines, none, more}
 use Rattle.writer.specs.Plans.{packetBare, packetHead, packetPlan}
-use Rattle.writer.proofs.FitRows.{fit-count}
+use Rattle.fitting.proofs.FitRows.{fit-count}
 use Rattle.writer.proofs.FrontBits.{put-word, opening-fine, opening-bits, pen-bits}
-use Rattle.writer.proofs.Numbers.{fits-small}
+use Rattle.pens.proofs.Numbers.{fits-small}
 use Rattle.writer.proofs.PlanBits.{small-type}
 use Rattle.writer.proofs.SubTypes.{isOther, asks-mean}
 

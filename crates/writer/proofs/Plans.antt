@@ -5,7 +5,7 @@ use borrow.Author.Tests.{eqb-true}
 use lib.IntN.{negsuc}
 use Rattle.format.specs.Rows.{absent}
 use Rattle.format.specs.Same.{sameℤ}
-use Rattle.writer.specs.FitHeads.{numberFits, networkFits}
+use Rattle.fitting.specs.FitHeads.{numberFits, networkFits}
 
 -- ---- a network
 

@@ -2,10 +2,10 @@
 use Rattle.bits.proofs.Words.{_≡_, refl, sym, ap, ap₂, _∙_, List, [], _++_, ℕ, arith}
 use mathlib.Core.List.{append-nil}
 use Rattle.bits.specs.BitLists.{spell, setBytes}
-use Rattle.writer.specs.declared.pen.Field.{Field}
-use Rattle.writer.specs.declared.pen.Pen.{Pen}
-use Rattle.writer.specs.Pens.{setBy, penAfter, inkAfter, spellFields, Ready}
-use Rattle.writer.proofs.Pens.{fields-set, pen-append, ink-append, ready-behind}
+use Rattle.pens.specs.declared.pen.Field.{Field}
+use Rattle.pens.specs.declared.pen.Pen.{Pen}
+use Rattle.pens.specs.Pens.{setBy, penAfter, inkAfter, spellFields, Ready}
+use Rattle.pens.proofs.Pens.{fields-set, pen-append, ink-append, ready-behind}
 
 -- what is gathered last has room
 pub ready-last : (fs : List Field) (p : Pen) (bytes : List ℕ) → Ready p fs bytes → {q : Pen} {b : List ℕ} → q ≡ penAfter p fs → b ≡ inkAfter p fs bytes → Ready q [] b

@@ -16,16 +16,16 @@ use Rattle.table.specs.declared.Keys.{Keys}
 use Rattle.table.specs.declared.Keys.the-variants.{Satellites, Cells, Parts}
 use Rattle.table.specs.Bodies.{linesOver, linesIn, FitsKeys, Fits}
 use Rattle.writer.specs.declared.plan.Plan.{Plan}
-use Rattle.writer.specs.Fits.{rowsFit}
+use Rattle.fitting.specs.Fits.{rowsFit}
 use Rattle.writer.specs.Kinds.{planBits}
-use Rattle.writer.specs.Marking.{selectionFields}
-use Rattle.writer.specs.Pens.{spellFields, Fines, Ready}
-use Rattle.writer.specs.Putting.{Shaped, rowFields}
+use Rattle.putting.specs.Marking.{selectionFields}
+use Rattle.pens.specs.Pens.{spellFields, Fines, Ready}
+use Rattle.putting.specs.Putting.{Shaped, rowFields}
 use Rattle.writer.specs.Written.{planFields, Puts, Made}
-use Rattle.writer.proofs.FitRows.{fit-rows}
-use Rattle.writer.proofs.Pens.{spell-fields-append, fines-append}
-use Rattle.writer.proofs.RowFields.{Putting, putting, satellites-shaped, cells-shaped, packet-shaped}
-use Rattle.writer.proofs.SelectionFields.{selection-spelled, selection-fines}
+use Rattle.fitting.proofs.FitRows.{fit-rows}
+use Rattle.pens.proofs.Pens.{spell-fields-append, fines-append}
+use Rattle.putting.proofs.RowFields.{Putting, putting, satellites-shaped, cells-shaped, packet-shaped}
+use Rattle.putting.proofs.SelectionFields.{selection-spelled, selection-fines}
 
 packets : (shape system : ℕ) → shape ≡ 7 → shapeAt shape system ≡ packetShape
 unfolding shapeAt listed shapes

@@ -23,10 +23,10 @@ use Rattle.table.specs.declared.Kind.the-variants.{Other, Mask, Packet, Masked}
 use Rattle.table.specs.Kinds.{codeKinds, kindFor, kindBy, overBy}
 use Rattle.writer.specs.declared.gate.Gate.{Gate}
 use Rattle.writer.specs.declared.gate.Gate.the-variants.{Open, Shut}
-use Rattle.writer.specs.FitHeads.{Asks, never, asked, askedBy}
+use Rattle.fitting.specs.FitHeads.{Asks, never, asked, askedBy}
 use Rattle.writer.specs.Kinds.{kindAt, asksOf, issueGate, gateBy}
-use Rattle.writer.specs.Numbers.{wordOf}
-use Rattle.writer.proofs.Numbers.{halved}
+use Rattle.pens.specs.Numbers.{wordOf}
+use Rattle.pens.proofs.Numbers.{halved}
 
 -- ---- the kind of a sub type by its bits
 

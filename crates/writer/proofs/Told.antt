@@ -29,18 +29,18 @@ use Rattle.writer.specs.declared.gate.Gate.the-variants.{Open, Shut}
 use Rattle.writer.specs.declared.plan.Plan.{Plan}
 use Rattle.writer.specs.declared.planning.Planned.{Planned}
 use Rattle.writer.specs.declared.planning.Planned.the-variants.{Message, Never}
-use Rattle.writer.specs.Fits.{rowsFit}
-use Rattle.writer.specs.FitHeads.{commonFits, fits}
+use Rattle.fitting.specs.Fits.{rowsFit}
+use Rattle.fitting.specs.FitHeads.{commonFits, fits}
 use Rattle.writer.specs.Fronts.{openingField, lastField, frontFields, flagFields, packetFields}
 use Rattle.writer.specs.Kinds.{kindAt, issueGate, gateBy, planBits}
-use Rattle.writer.specs.Marking.{marksWord}
-use Rattle.writer.specs.Numbers.{wordOf}
-use Rattle.writer.specs.Pens.{Fine}
+use Rattle.putting.specs.Marking.{marksWord}
+use Rattle.pens.specs.Numbers.{wordOf}
+use Rattle.pens.specs.Pens.{Fine}
 use Rattle.writer.specs.Plans.{everyone, aloneHead, alonePlan, flaggedHead, flaggedPlan, packetHead, packetPlan}
 use Rattle.writer.specs.Writings.{selectedBy, maskedPlan, planFor}
 use Rattle.writer.specs.Written.{Made}
 use Rattle.writer.proofs.FrontBits.{front-fines, pen-fine, pen-place}
-use Rattle.writer.proofs.MarkWords.{word-small, word-picks, word-top}
+use Rattle.putting.proofs.MarkWords.{word-small, word-picks, word-top}
 use Rattle.writer.proofs.PlanBits.{Under, under-type, alone-fits, alone-bits}
 use Rattle.writer.proofs.PlanFlagged.{a-small, b-small, few-bits, flagged-unfit, flagged-fits, flagged-fines, flagged-bits}
 use Rattle.writer.proofs.PlanPacket.{packet-unfit, packet-fits, packet-size, packet-fines, packet-bits}

@@ -6,9 +6,9 @@ use lib.IntN.{ℤ}
 use Rattle.format.specs.declared.Head.{Head}
 use Rattle.format.specs.Rows.{absent}
 use Rattle.format.specs.Same.{sameℤ}
-use Rattle.writer.specs.declared.pen.Field.{Field}
-use Rattle.writer.specs.declared.pen.Pen.{Pen}
-use Rattle.writer.specs.Numbers.{wordOf}
+use Rattle.pens.specs.declared.pen.Field.{Field}
+use Rattle.pens.specs.declared.pen.Pen.{Pen}
+use Rattle.pens.specs.Numbers.{wordOf}
 
 -- nothing is gathered yet
 abbrev pub penAt : ℕ → Pen

@@ -17,7 +17,7 @@ use Rattle.table.specs.Shapes.{shapesFrom}
 use Rattle.writer.specs.declared.gate.Gate.{Gate}
 use Rattle.writer.specs.declared.gate.Gate.the-variants.{Open, Shut}
 use Rattle.writer.specs.declared.plan.Plan.{Plan}
-use Rattle.writer.specs.FitHeads.{Asks, never, freely, underIssue, ofMask, maskFits, packetFits, aloneFits, flaggedFits}
+use Rattle.fitting.specs.FitHeads.{Asks, never, freely, underIssue, ofMask, maskFits, packetFits, aloneFits, flaggedFits}
 
 -- the kind of a head's sub type
 unfoldable pub kindAt : ℤ → Kind

@@ -1,14 +1,6 @@
-pub mod Fits
-pub mod FitHeads
-pub mod Pens
-pub mod Marking
-pub mod Numbers
 pub mod Fronts
 pub mod Plans
 pub mod Kinds
 pub mod Stages
-pub mod MaskFields
-pub mod Matching
-pub mod Putting
 pub mod Written
 pub mod Writings

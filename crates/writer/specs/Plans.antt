@@ -10,10 +10,10 @@ use Rattle.table.specs.declared.Keys.the-variants.{Satellites, Parts}
 use Rattle.table.specs.declared.Layout.{Layout}
 use Rattle.table.specs.Kinds.{keysFor}
 use Rattle.writer.specs.declared.plan.Plan.{Plan}
-use Rattle.writer.specs.FitHeads.{numberFits, commonFits, networkFits}
+use Rattle.fitting.specs.FitHeads.{numberFits, commonFits, networkFits}
 use Rattle.writer.specs.Fronts.{penAt, frontFields, flagFields, packetFields}
-use Rattle.writer.specs.Numbers.{wordOf}
-use Rattle.writer.specs.Pens.{penAfter}
+use Rattle.pens.specs.Numbers.{wordOf}
+use Rattle.pens.specs.Pens.{penAfter}
 
 -- a selection of every satellite
 abbrev pub everyone : ℕ

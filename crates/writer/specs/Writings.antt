@@ -20,7 +20,7 @@ use Rattle.table.specs.declared.Layout.{Layout}
 use Rattle.writer.specs.declared.planning.Asked.{Asked}
 use Rattle.writer.specs.declared.planning.Planned.{Planned}
 use Rattle.writer.specs.declared.planning.Planned.the-variants.{Message, Never}
-use Rattle.writer.specs.Marking.{marksWord}
+use Rattle.putting.specs.Marking.{marksWord}
 use Rattle.writer.specs.Plans.{everyone, aloneHead, alonePlan, flaggedHead, flaggedPlan, packetHead, packetPlan}
 use Rattle.writer.specs.Stages.{behind}
 

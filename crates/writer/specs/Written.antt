@@ -18,15 +18,15 @@ use Rattle.holding.specs.Held.{View}
 use Rattle.holding.specs.Pictures.{maskOf}
 use Rattle.rows.specs.Table.{shapeFor}
 use Rattle.table.specs.Bodies.{linesIn, Fits}
-use Rattle.writer.specs.declared.pen.Field.{Field}
+use Rattle.pens.specs.declared.pen.Field.{Field}
 use Rattle.writer.specs.declared.plan.Plan.{Plan}
-use Rattle.writer.specs.Fits.{rowsFit}
-use Rattle.writer.specs.FitHeads.{commonFits}
+use Rattle.fitting.specs.Fits.{rowsFit}
+use Rattle.fitting.specs.FitHeads.{commonFits}
 use Rattle.writer.specs.Fronts.{maskFront}
 use Rattle.writer.specs.Kinds.{planBits}
-use Rattle.writer.specs.Marking.{selectionFields}
-use Rattle.writer.specs.Pens.{spellFields, Fine, Ready}
-use Rattle.writer.specs.Putting.{rowFields, Fitting}
+use Rattle.putting.specs.Marking.{selectionFields}
+use Rattle.pens.specs.Pens.{spellFields, Fine, Ready}
+use Rattle.putting.specs.Putting.{rowFields, Fitting}
 use Rattle.writer.specs.Stages.{behind}
 
 -- ---- a message with rows

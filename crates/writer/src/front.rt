@@ -3,14 +3,14 @@ ghost use mathlib.Core.Path.{_≡_};
 ghost use mathlib.Core.Bool.{true};
 ghost use mathlib.Core.List.{_++_};
 ghost use Prim.Native.Nat.{_^_, _≤_, _<_};
-ghost use Rattle.writer.specs.FitHeads.{numberFits, commonFits};
+ghost use Rattle.fitting.specs.FitHeads.{numberFits, commonFits};
 ghost use Rattle.writer.specs.Fronts.{penAt, openingField, lastField, frontFields, flagFields, packetFields, maskFront};
-ghost use Rattle.writer.specs.Pens.{penAfter};
-use crate::number::fits;
-use crate::number::is_absent;
-use crate::number::word;
-use crate::pen::Pen;
+ghost use Rattle.pens.specs.Pens.{penAfter};
 use format::Head;
+use pens::number::fits;
+use pens::number::is_absent;
+use pens::number::word;
+use pens::pen::Pen;
 
 // How many bits the numbers of a head have.
 pub const EPOCH: usize = 12;

@@ -6,10 +6,10 @@ ghost use lib.IntN.{pos};
 ghost use Rattle.format.specs.declared.Refusal.the-variants.{Network};
 ghost use Rattle.format.specs.Same.{sameℤ};
 ghost use Rattle.writer.specs.Kinds.{kindAt, issueGate, gateBy};
-use crate::number::is;
-use crate::number::word;
 use format::Head;
 use format::Refusal;
+use pens::number::is;
+use pens::number::word;
 use table::Kind;
 use table::kind_of;
 

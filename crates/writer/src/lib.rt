@@ -1,17 +1,10 @@
 // The writer of one message (document 01, "Writer").
-pub mod column;
-pub mod fits;
 pub mod front;
 pub mod gate;
-pub mod marks;
-pub mod mask;
 pub mod message;
-pub mod number;
-pub mod pen;
 pub mod plan;
 pub mod planning;
 pub mod room;
-pub mod row;
 
 ghost use mathlib.Core.Path.{_≡_};
 ghost use mathlib.Core.Bool.{true};

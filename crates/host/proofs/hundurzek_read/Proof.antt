@@ -26,9 +26,9 @@ use Rattle.reader.proofs.message.Found.{the-type}
 use Rattle.reader.proofs.Sought.{SoughtMask, sought-mask, sought-answer}
 
 -- what was found, under the holding that the lent bytes say
-module _ (c : tie.After-seek) where
+module _ (c : tie.After-sought) where
   abbrev s : tie.Start
-  s = c .before .before .before .before .before .before
+  s = c .before .before .before .before .before
 
   abbrev lent : List ℕ
   lent = s .args .holding .now
@@ -37,11 +37,10 @@ module _ (c : tie.After-seek) where
   outcome = hostOutcome lent (s .args .bytes .now) (s .args .end) (s .args .start) (s .args .rows .now)
 
   small : Bytes lent
-  small k = omega (arith, c .before .before .before .before .before .slice-known .given k)
+  small k = omega (arith, c .before .before .before .before .slice-known .given k)
 
-  said : (c .seek .result ≡ soughtAt (holdingIn lent) (s .args .bytes .now) (s .args .end) (s .args .start) (length (s .args .rows .now))) × (c .seek .last .1 .1 .1 .1 .0 ≡ rowsAfter outcome (s .args .rows .now))
-  unfolding hostOutcome
-  said = rw (c .before .before .holding-in .ensures) at (c .seek .ensures)
+  said : (c .sought .result ≡ soughtAt (holdingIn lent) (s .args .bytes .now) (s .args .end) (s .args .start) (length (s .args .rows .now))) × (c .sought .last .1 .1 .1 .1 .0 ≡ rowsAfter outcome (s .args .rows .now))
+  said = c .sought .ensures
 
 returns : tie.Need-returns
 unfolding hostOutcome
@@ -56,7 +55,7 @@ returns c =
 
 -- a mask
 module _ (c : tie.After-enum-told) where
-  abbrev k : tie.After-seek
+  abbrev k : tie.After-sought
   k = c .before .before .before
 
   found : SoughtMask (holdingIn (lent k)) (s k .args .bytes .now) (s k .args .end) (s k .args .start) (s k .args .rows .now)
@@ -68,35 +67,40 @@ module _ (c : tie.After-enum-told) where
   abbrev adoptedUnder : Holding → Outcome
   adoptedUnder h = adoptedBy (maskOf h) (s k .args .start + 16) (run maskMessage (bitsFrom (s k .args .bytes .now) (s k .args .end) (s k .args .start + 16)))
 
-  same : k .before .before .holding-in .result ≡ holdingIn (lent k)
-  same = k .before .before .holding-in .ensures
+module _ (c : tie.After-holding-in) where
+  abbrev e : tie.After-enum-told
+  e = c .before .before
 
-  adopts : adoptedUnder (k .before .before .holding-in .result) ≡ outcome k
+  same : c .holding-in .result ≡ holdingIn (lent (k e))
+  same = c .holding-in .ensures
+
+  adopts : adoptedUnder e (c .holding-in .result) ≡ outcome (k e)
   unfolding hostOutcome
-  adopts = ap adoptedUnder same ∙ sym (found .reads ∙ found .found .adopts)
+  adopts = ap (adoptedUnder e) same ∙ sym (found e .reads ∙ found e .found .adopts)
 
 adopt-requires : tie.Need-adopt-requires
 adopt-requires c κs =
-    let e = c .before in
-    let hb = lent (k e) in
-    let f = found e in (
+    let h = c .before in
+    let hb = lent (k (e h)) in
+    let f = found (e h) in (
       record { inside = f .fine .inside .lent; short = omega (arith, f .fine .inside .limit); room = f .found .room },
-      ap sound (same e) ∙ f .fine .held,
+      ap sound (same h) ∙ f .fine .held,
       bytes-pass hb (f .fine .held),
-      ap (λ (h : Holding). over (bytesOf h) hb) (same e) ∙ bytes-return hb (small (k e)) (f .fine .held),
+      ap (λ (g : Holding). over (bytesOf g) hb) (same h) ∙ bytes-return hb (small (k (e h))) (f .fine .held),
     )
 
 returns-2 : tie.Need-returns-2
 returns-2 c =
     let a = c .before .before .before in
-    let e = a .before .before in (
-      c .hand2 .ensures ∙ ap (λ (b : Answer). handedBy (s (k e) .args .start) (saidAt (s (k e) .args .start) b)) (a .adopt .ensures .0 ∙ ap answerOf (adopts e)),
-      (a .adopt .ensures .1 ∙ ap (λ (o : Outcome). bytesAfter (lentAfter o) (lent (k e))) (adopts e), said (k e) .1),
+    let h = a .before .before in
+    let t = k (e h) in (
+      c .hand2 .ensures ∙ ap (λ (b : Answer). handedBy (s t .args .start) (saidAt (s t .args .start) b)) (a .adopt .ensures .0 ∙ ap answerOf (adopts h)),
+      (a .adopt .ensures .1 ∙ ap (λ (o : Outcome). bytesAfter (lentAfter o) (lent t)) (adopts h), said t .1),
     )
 
 pub hundurzek-read-spec : {M : Type 1} → statement M
 hundurzek-read-spec =
     tie.close
-    (tie.spec (λ c κs. search needs) (λ c κs. search needs) (λ c. search needs) (λ c κs. search needs) (λ c. search needs)
-    (λ c. let f = found (c .before) in omega (arith, f .found .room, f .fine .inside .limit)) adopt-requires (λ c κs. search needs)
+    (tie.spec (λ c κs. search needs) (λ c. search needs) (λ c κs. search needs) (λ c. search needs) (λ c κs. search needs)
+    (λ c. let f = found (e (c .before)) in omega (arith, f .found .room, f .fine .inside .limit)) adopt-requires (λ c κs. search needs)
     (λ c. search needs) (λ c. search needs) returns (λ c. search needs) (λ c. search needs) returns-2)

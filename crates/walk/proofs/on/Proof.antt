@@ -5,16 +5,9 @@ use native.Mathlib.Omega.{arith}
 use lib.ListN.{length}
 use borrow.Author.Needs.{needs}
 use denote.Enum.Declared.{tagOf}
-use Rattle.format.specs.Ends.{endFrom}
-use Rattle.format.specs.Messages.{maskMessage}
-use Rattle.format.specs.Programs.{run}
-use Rattle.format.specs.Reading.{Outcome, bitsFrom}
-use Rattle.heads.specs.Sorting.{adoptedBy}
+use Rattle.format.specs.Reading.{Outcome}
 use Rattle.holding.specs.declared.Holding.{Holding}
-use Rattle.holding.specs.Pictures.{maskOf}
-use Rattle.reader.specs.declared.Reading.{Reading}
 use Rattle.reader.specs.Readings.{readAt, readingOf, foundAt}
-use Rattle.reader.proofs.Adopted.{adopted-new, adopted-not}
 use Rattle.reader.proofs.message.Found.{the-type}
 use Rattle.walk.specs.declared.under.Pause.{Pause}
 use Rattle.walk.specs.Pausing.{foundIn, pausesIn}
@@ -84,53 +77,46 @@ module _ (c : tie.After-enum-told Inv-loop μ-loop) where
   masked : tagOf the-type (foundAt (l u .loop .held) (s u .args .bytes .now) (s u .args .end) (u .under .result .tally .place)) ≡ 0
   masked = ap (tagOf the-type) (sym (found u) ∙ c .enum-told .given .1)
 
-add-adopt : tie.Need-add-adopt Inv-loop μ-loop
-add-adopt c =
+add-adopted : tie.Need-add-adopted Inv-loop μ-loop
+add-adopted c =
     let stands = came (u (c .before)) .stands in
     omega (arith, stands .there, stands .limit)
 
-adopt-requires : tie.Need-adopt-requires Inv-loop μ-loop
-adopt-requires c κs =
+adopted-requires : tie.Need-adopted-requires Inv-loop μ-loop
+adopted-requires c κs =
     let e = c .before in
     let stands = came (u e) .stands in
-    record { inside = stands .lent; short = omega (arith, stands .limit); room = mask-found _ _ (here (u e)) stands (masked e) .room }
+    (stands .lent, stands .limit, mask-found _ _ (here (u e)) stands (masked e) .room, stands .held)
 
-module _ (c : tie.After-adopt Inv-loop μ-loop) where
+module _ (c : tie.After-adopted Inv-loop μ-loop) where
   abbrev k : tie.After-enum-told Inv-loop μ-loop
   k = c .before .before
 
   abbrev h : Holding
   h = l (u k) .loop .held
 
-  reads : {r : Reading} → r ≡ readingOf h (adoptedBy (maskOf h) (u k .under .result .tally .place + 16) (run maskMessage (bitsFrom (s (u k) .args .bytes .now) (s (u k) .args .end) (u k .under .result .tally .place + 16))))
-      → r ≡ readingOf h (outcome (u k))
-  reads e = e ∙ ap (readingOf h) (sym (mask-found _ _ (here (u k)) (came (u k) .stands) (masked k) .adopts))
+  reads : c .adopted .result ≡ readingOf h (outcome (u k))
+  reads = c .adopted .ensures ∙ ap (readingOf h) (sym (mask-found _ _ (here (u k)) (came (u k) .stands) (masked k) .adopts))
 
 returns-2 : tie.Need-returns-2 Inv-loop μ-loop
-unfolding endFrom
 returns-2 c =
-    let d = c .before in
+    let d = c .before .before in
     let v = u (k d) in
-    let r = adopted-not (h d) (came v .stands .held) (v .under .result .tally .place + 16) _ (d .adopt .ensures) (c .match2 .keys2) in
-    let stop = mask-stop _ _ (here v) (came v .stands) (masked (k d)) _ (reads d r) (no-message _ (c .match2 .keys2)) in
+    let stop = mask-stop _ _ (here v) (came v .stands) (masked (k d)) _ (reads d) (no-message _ (c .match2 .keys2)) in
     (stop .0 ∙ sym (gone v .walked), stop .1 ∙ sym (gone v .numbers))
 
-module _ (c : tie.After-adopt2 Inv-loop μ-loop) where
-  abbrev d : tie.After-adopt Inv-loop μ-loop
+module _ (c : tie.After-known-told2 Inv-loop μ-loop) where
+  abbrev d : tie.After-adopted Inv-loop μ-loop
   d = c .before .before .before .before
 
   abbrev v : tie.After-under Inv-loop μ-loop
   v = u (k d)
 
   goes : Goes (s v .args .bytes .now) (s v .args .end) (here v)
-      (standAt (c .adopt2 .result) (record { place = c .before .before .answer .given .0 .1 .0; messages = v .under .result .tally .messages + 1; rows = v .under .result .tally .rows }) (v .under .last .1 .1 .1 .1 .1 .0))
-  unfolding endFrom
+      (standAt (d .adopted .result .holding) (record { place = c .before .answer .given .0 .1 .0; messages = v .under .result .tally .messages + 1; rows = v .under .result .tally .rows }) (v .under .last .1 .1 .1 .1 .1 .0))
   goes =
-      let a = c .before .before .answer .given in
-      let r = adopted-new (h d) (came v .stands .held) (v .under .result .tally .place + 16) _ (d .adopt .ensures) (c .before .before .before .match2 .keys1) in
-      subst (λ (g : Holding). Goes (s v .args .bytes .now) (s v .args .end) (here v) (standAt g (record { place = a .0 .1 .0; messages = v .under .result .tally .messages + 1; rows = v .under .result .tally .rows }) (v .under .last .1 .1 .1 .1 .1 .0)))
-      (sym (c .adopt2 .ensures))
-      (mask-goes _ _ (here v) (came v .stands) (masked (k d)) _ (reads d r) (a .0 .0) (a .0 .1 .0) (a .0 .1 .1 .0) (a .1))
+      let a = c .before .answer .given in
+      mask-goes _ _ (here v) (came v .stands) (masked (k d)) _ (reads d) (a .0 .0) (a .0 .1 .0) (a .0 .1 .1 .0) (a .1)
 
 add-t16 : tie.Need-add-t16 Inv-loop μ-loop
 add-t16 c =
@@ -148,5 +134,5 @@ loop-again c =
 pub on-spec : {M : Type 1} → statement M
 on-spec =
     tie.close
-    (tie.spec Inv-loop μ-loop loop-holds under-requires (λ c. search needs) (λ c. search needs) returns (λ c. search needs) add-adopt
-    adopt-requires (λ c. search needs) (λ c. search needs) returns-2 (λ c κs. search needs) add-t16 loop-less loop-again)
+    (tie.spec Inv-loop μ-loop loop-holds under-requires (λ c. search needs) (λ c. search needs) returns (λ c. search needs) add-adopted
+    adopted-requires (λ c. search needs) (λ c. search needs) returns-2 add-t16 loop-less loop-again)

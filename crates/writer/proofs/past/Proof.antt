@@ -12,7 +12,7 @@ use Rattle.table.specs.declared.Kind.the-variants as Kinds
 use Rattle.writer.specs.declared.gate.Gate.the-variants.{Open}
 use Rattle.writer.specs.declared.planning.Planned.{Planned}
 use Rattle.writer.specs.declared.planning.Planned.the-variants.{Message, Never}
-use Rattle.writer.specs.FitHeads.{numberFits, fits}
+use Rattle.fitting.specs.FitHeads.{numberFits, fits}
 use Rattle.writer.specs.Kinds.{kindAt, gateBy}
 use Rattle.writer.specs.Stages.{answered}
 use Rattle.writer.proofs.PastGate.{of-table, too-few, past-never, past-well, past-mask}

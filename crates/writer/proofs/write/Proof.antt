@@ -9,7 +9,7 @@ use Rattle.writer.specs.Kinds.{kindAt, gateBy}
 use Rattle.writer.specs.declared.planning.Asked.{Asked}
 use Rattle.writer.specs.Stages.{byGate, answered}
 use Rattle.writer.specs.Writings.{pastGate}
-use Rattle.writer.proofs.Numbers.{of-struct}
+use Rattle.pens.proofs.Numbers.{of-struct}
 use Rattle.writer.proofs.Order.{out-of-place}
 use Rattle.writer.proofs.WholeOrder.{stray-writing, sound-writing}
 use Rattle.writer.proofs.write.Statement.{statement}

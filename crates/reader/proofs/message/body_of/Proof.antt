@@ -1,7 +1,7 @@
 -- `reader::message::body_of` meets its contract. Assumes nothing.
 use Rattle.bits.proofs.Words.{_≡_, refl, sym, ap, _∙_, subst, List, ℕ, _+_, _-_, _≤_, arith, needs, length}
 use mathlib.Core.List.{flatten}
-use Rattle.body.proofs.Bodies.{lent-view, lent-well}
+use Rattle.body.proofs.Bodies.{few-in, lent-view, lent-well}
 use Rattle.format.specs.declared.Answer.the-variants as Answers
 use Rattle.format.specs.Masks.{Held}
 use Rattle.format.specs.Reading.{Outcome, accepted, answerOf, over, rowsAfter}
@@ -90,7 +90,16 @@ fill-requires c κs =
     let e = c .before .before .before in
     let p = s (t e) .pre in
     let bits = z e .size .ensures .bits ∙ ap (λ (v : View). bodyWidth (linesIn v (body (t e)))) (sym (lent-view (p .1))) in
-    record { lent = lent-well (p .1) (p .0 .held); fits = fits (t e); bits = bits; near = omega (arith, begins (t e), p .0 .limit, e .if1 .left); room = p .0 .room }
+    let lent = lent-well (p .1) (p .0 .held) in (
+      record {
+        lent = lent;
+        fits = fits (t e);
+        bits = bits;
+        near = omega (arith, begins (t e), p .0 .limit, e .if1 .left);
+        room = omega (arith, p .0 .room, few-in lent (body (t e)) (fits (t e)) .rows);
+      },
+      omega (arith, begins (t e), p .0 .lent, e .if1 .left),
+    )
 
 returns-4 : tie.Need-returns-4
 unfolding rowsAfter

@@ -2,9 +2,9 @@
 use Rattle.bits.proofs.Words.{_≡_, ap, sym, _∙_, ℕ, arith, needs}
 use Rattle.format.specs.Lengths.{total}
 use Rattle.writer.specs.Fronts.{penAt, frontFields, openingField, lastField}
-use Rattle.writer.specs.Numbers.{wordOf}
-use Rattle.writer.proofs.Gathered.{joinedTo, all-join}
-use Rattle.writer.proofs.Numbers.{of-struct}
+use Rattle.pens.specs.Numbers.{wordOf}
+use Rattle.pens.proofs.Gathered.{joinedTo, all-join}
+use Rattle.pens.proofs.Numbers.{of-struct}
 use Rattle.writer.proofs.front.common.Statement.{statement}
 use Rattle.writer.proofs.front.common.Tie as tie
 

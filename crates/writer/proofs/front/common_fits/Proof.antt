@@ -1,8 +1,8 @@
 -- `writer::front::common_fits` meets its contract. Assumes nothing.
 use Rattle.bits.proofs.Words.{_≡_, sym, _∙_, true, false, arith, needs}
 use borrow.Author.Tests.{not-true, not-false}
-use Rattle.writer.specs.FitHeads.{numberFits, commonFits}
-use Rattle.writer.proofs.Numbers.{of-struct}
+use Rattle.fitting.specs.FitHeads.{numberFits, commonFits}
+use Rattle.pens.proofs.Numbers.{of-struct}
 use Rattle.writer.proofs.front.common_fits.Statement.{statement}
 use Rattle.writer.proofs.front.common_fits.Tie as tie
 

@@ -3,9 +3,9 @@ use Rattle.bits.proofs.Words.{_≡_, sym, _∙_, needs}
 use mir.Facts.{toZ-ofZ}
 use Rattle.format.specs.Rows.{absent}
 use Rattle.format.specs.Same.{sameℤ}
-use Rattle.writer.specs.Numbers.{wordOf}
+use Rattle.pens.specs.Numbers.{wordOf}
 use Rattle.writer.proofs.Fronts.{flags-alone, flags-network}
-use Rattle.writer.proofs.Numbers.{of-struct}
+use Rattle.pens.proofs.Numbers.{of-struct}
 use Rattle.writer.proofs.front.flagged.Statement.{statement}
 use Rattle.writer.proofs.front.flagged.Tie as tie
 

@@ -1,8 +1,8 @@
 -- `writer::front::last` meets its contract. Assumes nothing.
 use Rattle.bits.proofs.Words.{_≡_, arith, needs}
 use Rattle.writer.specs.Fronts.{lastField}
-use Rattle.writer.specs.Numbers.{wordOf}
-use Rattle.writer.proofs.Numbers.{of-struct}
+use Rattle.pens.specs.Numbers.{wordOf}
+use Rattle.pens.proofs.Numbers.{of-struct}
 use Rattle.writer.proofs.front.last.Statement.{statement}
 use Rattle.writer.proofs.front.last.Tie as tie
 

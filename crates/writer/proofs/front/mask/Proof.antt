@@ -2,10 +2,10 @@
 use Rattle.bits.proofs.Words.{_≡_, ap, sym, _∙_, ℕ, _+_, _*_, _^_, _<_, arith, needs}
 use Rattle.format.specs.Lengths.{total}
 use Rattle.writer.specs.Fronts.{penAt, frontFields, maskFront, openingField, lastField}
-use Rattle.writer.specs.Numbers.{wordOf}
+use Rattle.pens.specs.Numbers.{wordOf}
 use Rattle.writer.proofs.Fronts.{common-smalls}
-use Rattle.writer.proofs.Gathered.{joinedTo, all-join}
-use Rattle.writer.proofs.Numbers.{of-struct, fits-small}
+use Rattle.pens.proofs.Gathered.{joinedTo, all-join}
+use Rattle.pens.proofs.Numbers.{of-struct, fits-small}
 use Rattle.writer.proofs.front.mask.Statement.{statement}
 use Rattle.writer.proofs.front.mask.Tie as tie
 

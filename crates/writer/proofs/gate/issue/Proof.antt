@@ -3,7 +3,7 @@ use Rattle.bits.proofs.Words.{_≡_, sym, _∙_, pos, Bool, needs, ℤ}
 use borrow.Author.Tests.{not-true, not-false}
 use Rattle.format.specs.Same.{sameℤ}
 use Rattle.writer.specs.Kinds.{issueGate}
-use Rattle.writer.proofs.Numbers.{of-struct}
+use Rattle.pens.proofs.Numbers.{of-struct}
 use Rattle.writer.proofs.gate.issue.Statement.{statement}
 use Rattle.writer.proofs.gate.issue.Tie as tie
 

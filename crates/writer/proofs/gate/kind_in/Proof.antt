@@ -2,7 +2,7 @@
 use Rattle.bits.proofs.Words.{_≡_, ap, _∙_, needs}
 use mir.Facts.{toZ-ofZ}
 use Rattle.table.specs.Kinds.{kindFor}
-use Rattle.writer.specs.Numbers.{wordOf}
+use Rattle.pens.specs.Numbers.{wordOf}
 use Rattle.writer.proofs.SubTypes.{kind-word}
 use Rattle.writer.proofs.gate.kind_in.Statement.{statement}
 use Rattle.writer.proofs.gate.kind_in.Tie as tie

@@ -5,7 +5,7 @@ use Rattle.format.specs.Same.{sameℤ}
 use Rattle.writer.specs.declared.gate.Gate.{Gate}
 use Rattle.writer.specs.declared.gate.Gate.the-variants.{Open, Shut}
 use Rattle.writer.specs.Kinds.{issueGate, gateBy}
-use Rattle.writer.proofs.Numbers.{of-struct}
+use Rattle.pens.proofs.Numbers.{of-struct}
 use Rattle.writer.proofs.gate.of.Statement.{statement}
 use Rattle.writer.proofs.gate.of.Tie as tie
 

@@ -3,7 +3,7 @@ use Rattle.bits.proofs.Words.{_≡_, sym, _∙_, Bool, pos, ℤ, arith, needs}
 use borrow.Author.Tests.{not-true, not-false}
 use Rattle.format.specs.Same.{sameℤ}
 use Rattle.writer.specs.Written.{maskRight}
-use Rattle.writer.proofs.Numbers.{of-struct, isAbsent}
+use Rattle.pens.proofs.Numbers.{of-struct, isAbsent}
 use Rattle.writer.proofs.message.mask_fits.Statement.{statement}
 use Rattle.writer.proofs.message.mask_fits.Tie as tie
 

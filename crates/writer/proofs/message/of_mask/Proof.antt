@@ -4,11 +4,11 @@ use borrow.Author.Tests.{not-true, not-false}
 use Rattle.bits.specs.BitLists.{setBytes}
 use Rattle.format.specs.Writing.{limit, bytesAfter}
 use Rattle.holding.proofs.Sounds.{sounds}
-use Rattle.writer.specs.declared.pen.Pen.{Pen}
+use Rattle.pens.specs.declared.pen.Pen.{Pen}
 use Rattle.writer.specs.declared.Writing.the-variants.{Done}
 use Rattle.writer.specs.Fronts.{penAt, maskFront}
-use Rattle.writer.specs.MaskFields.{maskFields}
-use Rattle.writer.specs.Pens.{penAfter, inkAfter, Ready}
+use Rattle.putting.specs.MaskFields.{maskFields}
+use Rattle.pens.specs.Pens.{penAfter, inkAfter, Ready}
 use Rattle.writer.specs.Stages.{answered}
 use Rattle.writer.specs.Written.{maskRight, maskSpelled, masked}
 use Rattle.writer.proofs.Behind.{unfit, roomless, done}

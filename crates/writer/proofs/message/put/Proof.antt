@@ -4,12 +4,12 @@ use Rattle.rows.proofs.Table.{formed}
 use Rattle.rows.specs.declared.shape.Shape.{Shape}
 use Rattle.rows.specs.Table.{shapeFor}
 use Rattle.format.specs.Writing.{rowsIn}
-use Rattle.writer.specs.declared.pen.Field.{Field}
-use Rattle.writer.specs.Marking.{selectionFields}
-use Rattle.writer.specs.Pens.{penAfter, inkAfter, Ready}
-use Rattle.writer.specs.Putting.{rowFields}
+use Rattle.pens.specs.declared.pen.Field.{Field}
+use Rattle.putting.specs.Marking.{selectionFields}
+use Rattle.pens.specs.Pens.{penAfter, inkAfter, Ready}
+use Rattle.putting.specs.Putting.{rowFields}
 use Rattle.writer.specs.Written.{planFields}
-use Rattle.writer.proofs.Pens.{ready-first, ready-behind}
+use Rattle.pens.proofs.Pens.{ready-first, ready-behind}
 use Rattle.writer.proofs.Putting.{ready-last, all-set, both-pens, both-inks}
 use Rattle.writer.proofs.message.put.Statement.{statement}
 use Rattle.writer.proofs.message.put.Tie as tie

@@ -9,7 +9,7 @@ use Rattle.holding.proofs.Sounds.{sounds}
 use Rattle.holding.specs.Held.{View, viewOf}
 use Rattle.table.specs.Bodies.{linesIn}
 use Rattle.writer.specs.declared.Writing.the-variants.{Done}
-use Rattle.writer.specs.Fits.{rowsFit}
+use Rattle.fitting.specs.Fits.{rowsFit}
 use Rattle.writer.specs.Kinds.{planBits}
 use Rattle.writer.specs.Stages.{answered}
 use Rattle.writer.specs.Written.{planned}

@@ -6,9 +6,9 @@ use mathlib.Core.Bool.{cond}
 use Prim.Native.Nat.{ℕ}
 use lib.IntN.{ℤ}
 use Rattle.table.specs.declared.Keys.the-variants.{Satellites}
-use Rattle.writer.specs.Numbers.{wordOf}
+use Rattle.pens.specs.Numbers.{wordOf}
 use Rattle.writer.specs.Plans.{flaggedPlan}
-use Rattle.writer.proofs.Numbers.{of-struct}
+use Rattle.pens.proofs.Numbers.{of-struct}
 use Rattle.writer.proofs.plan.flagged.Statement.{statement}
 use Rattle.writer.proofs.plan.flagged.Tie as tie
 

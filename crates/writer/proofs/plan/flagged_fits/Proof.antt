@@ -1,9 +1,9 @@
 -- `writer::plan::flagged_fits` meets its contract. Assumes nothing.
 use Rattle.bits.proofs.Words.{_≡_, sym, _∙_, arith, needs}
 use borrow.Author.Tests.{not-true, not-false}
-use Rattle.writer.specs.FitHeads.{numberFits, networkFits}
+use Rattle.fitting.specs.FitHeads.{numberFits, networkFits}
 use Rattle.writer.specs.Plans.{flaggedHead}
-use Rattle.writer.proofs.Numbers.{of-struct}
+use Rattle.pens.proofs.Numbers.{of-struct}
 use Rattle.writer.proofs.plan.flagged_fits.Statement.{statement}
 use Rattle.writer.proofs.plan.flagged_fits.Tie as tie
 

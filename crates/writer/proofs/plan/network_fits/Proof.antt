@@ -3,7 +3,7 @@ use Rattle.bits.proofs.Words.{_≡_, sym, _∙_, pos, needs}
 use mir.Facts.{toZ-ofZ}
 use Rattle.format.specs.Rows.{absent}
 use Rattle.format.specs.Same.{sameℤ}
-use Rattle.writer.specs.FitHeads.{numberFits}
+use Rattle.fitting.specs.FitHeads.{numberFits}
 use Rattle.writer.proofs.Plans.{no-network, network-zero, some-network}
 use Rattle.writer.proofs.plan.network_fits.Statement.{statement}
 use Rattle.writer.proofs.plan.network_fits.Tie as tie

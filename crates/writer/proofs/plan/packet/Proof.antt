@@ -1,9 +1,9 @@
 -- `writer::plan::packet` meets its contract. Assumes nothing.
 use Rattle.bits.proofs.Words.{_≡_, ap, ℕ, _+_, needs}
 use Rattle.table.specs.declared.Keys.the-variants.{Parts}
-use Rattle.writer.specs.Numbers.{wordOf}
+use Rattle.pens.specs.Numbers.{wordOf}
 use Rattle.writer.specs.Plans.{packetPlan, everyone}
-use Rattle.writer.proofs.Numbers.{of-struct}
+use Rattle.pens.proofs.Numbers.{of-struct}
 use Rattle.writer.proofs.plan.packet.Statement.{statement}
 use Rattle.writer.proofs.plan.packet.Tie as tie
 

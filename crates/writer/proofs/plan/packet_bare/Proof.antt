@@ -2,7 +2,7 @@
 use Rattle.bits.proofs.Words.{_≡_, sym, _∙_, arith, needs}
 use borrow.Author.Tests.{not-true, not-false}
 use Rattle.writer.specs.Plans.{packetBare}
-use Rattle.writer.proofs.Numbers.{of-struct, isAbsent}
+use Rattle.pens.proofs.Numbers.{of-struct, isAbsent}
 use Rattle.writer.proofs.plan.packet_bare.Statement.{statement}
 use Rattle.writer.proofs.plan.packet_bare.Tie as tie
 

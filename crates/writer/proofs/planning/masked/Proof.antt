@@ -7,7 +7,7 @@ use Rattle.holding.specs.Held.{slotsOf}
 use Rattle.writer.specs.declared.planning.Planned.the-variants.{Message}
 use Rattle.writer.specs.Plans.{flaggedHead, alonePlan, flaggedPlan}
 use Rattle.writer.specs.Writings.{selectedBy, maskedPlan}
-use Rattle.writer.proofs.Numbers.{of-struct}
+use Rattle.pens.proofs.Numbers.{of-struct}
 use Rattle.writer.proofs.planning.masked.Statement.{statement}
 use Rattle.writer.proofs.planning.masked.Tie as tie
 

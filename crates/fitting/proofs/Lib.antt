@@ -1,0 +1,5 @@
+pub mod FitRows
+pub mod FitHeads
+pub mod FitFlagged
+pub mod FitMasks
+pub mod FitMessages

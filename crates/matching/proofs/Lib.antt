@@ -1,0 +1,5 @@
+pub mod Matching
+pub mod ColumnTests
+pub mod RowTests
+pub mod Lines
+pub mod Passing

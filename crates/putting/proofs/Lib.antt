@@ -1,0 +1,12 @@
+pub mod Marking
+pub mod MarkWords
+pub mod SelectionFields
+pub mod MaskFields
+pub mod MaskPens
+pub mod MaskLengths
+pub mod ColumnBits
+pub mod RowFields
+pub mod RowBits
+pub mod FirstColumns
+pub mod RowPens
+pub mod RowLoops

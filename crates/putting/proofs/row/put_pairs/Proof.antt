@@ -1,0 +1,30 @@
+-- `putting::row::put_pairs` meets its contract. The loop's invariant: the rows that are left, from what stands. Assumes nothing.
+use Rattle.bits.proofs.Words.{_-_, needs}
+use Rattle.putting.proofs.RowLoops.{Going, going-start, going-row, going-next, going-end, row-part}
+use Rattle.putting.proofs.row.put_pairs.Statement.{statement}
+use Rattle.putting.proofs.row.put_pairs.Tie as tie
+
+abbrev Inv-loop : tie.InvT-loop
+Inv-loop bytes₀ rows count s p₀ i₀ bytes p i = Going s rows count p₀ bytes₀ i p bytes
+
+abbrev μ-loop : tie.MeasureT-loop
+μ-loop bytes₀ rows count s p₀ i₀ bytes p i = count - i
+
+put-pair-requires : tie.Need-put-pair-requires Inv-loop μ-loop
+put-pair-requires c κs =
+    let t = c .before .before in
+    let l = t .before in
+    (l .before .before .pre .0, going-row (l .loop .inv) (t .loop-test .taken) (row-part (l .before .before .args .rows .now) (l .loop .i)))
+
+loop-again : tie.Need-loop-again Inv-loop μ-loop
+loop-again c =
+    let r = c .before .before in
+    let t = r .before .before .before in
+    let l = t .before in
+    going-next (l .loop .inv) (t .loop-test .taken) (row-part (l .before .before .args .rows .now) (l .loop .i)) (r .put-pair .ensures .0) (r .put-pair .ensures .1)
+
+pub put-pairs-spec : {M : Type 1} → statement M
+put-pairs-spec =
+    tie.close
+    (tie.spec Inv-loop μ-loop (λ c. going-start (c .before .pre .1)) (λ c. search needs) (λ c. search needs) (λ c. search needs) (λ c. search needs) (λ c. search needs) (λ c. search needs) put-pair-requires
+    (λ c. search needs) (λ c. search needs) loop-again (λ c. c .before .loop .inv .inks .same) (λ c. going-end (c .before .loop .inv) (c .loop-test .left)))
