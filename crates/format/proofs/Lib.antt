@@ -28,3 +28,5 @@ pub mod Walks
 pub mod CutWalks
 pub mod AlikeWalks
 pub mod Numbered
+pub mod Gates
+pub mod WrittenRead

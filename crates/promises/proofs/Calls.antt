@@ -1,26 +1,23 @@
 -- Single calls of a function that reads, each answering and leaving what the reading at its place says, are the walk: one run of them gives what the walk
 -- gives, and no other run gives anything else. For any way in which a holding is passed. Assumes nothing.
 use mathlib.Core.Path.{_≡_, refl, subst}
-use mathlib.Core.Bool.{Bool, true, false, false≢true}
+use mathlib.Core.Bool.{true, false≢true}
 use mathlib.Core.List.{List, []}
 use Prim.Native.Nat.{ℕ, _+_}
-use lib.Dec.{leb}
 use lib.IntN.{ℤ}
 use lib.ListN.{length}
 use Rattle.format.specs.declared.Head.{Head}
-use Rattle.format.specs.declared.Refusal.{Refusal}
-use Rattle.format.specs.declared.Refusal.the-variants.{Room, Place, Value}
 use Rattle.format.specs.Answers.{Said, stop, message, saidAt}
 use Rattle.format.specs.Good.{good, isHolding}
 use Rattle.format.specs.Masks.{Held, Lent, lent, heldIn}
 use Rattle.format.specs.Programs.{well, run}
-use Rattle.format.specs.Reading.{rowRoom, Outcome, accepted, idle, refused, bitsFrom, placed, lentTests, readingBy, reading, lentAfter, rowsAfter, answerOf}
+use Rattle.format.specs.Reading.{Outcome, accepted, idle, refused, bitsFrom, reading, lentAfter, rowsAfter, answerOf}
 use Rattle.format.specs.Table.{Message, table, messageBy}
-use Rattle.format.specs.Tests.{verdict}
 use Rattle.format.specs.Walking.{HandedOut, handedAt, Walk, hand, walk}
 use Rattle.format.proofs.HeldGood.{held-good, stays-good}
 use Rattle.format.proofs.Stops.{Stopped}
 use Rattle.format.proofs.Walks.{Law, every-walk, all-good}
+use Rattle.format.proofs.WrittenRead.{took}
 use Rattle.host.specs.Handing.{numberSaid, walkedTo}
 use Rattle.promises.specs.Calls.{Got, answered, gets, Calls, stops, goes, gotBy}
 use Rattle.promises.proofs.Determined.{alike}
@@ -30,10 +27,10 @@ use Rattle.reader.proofs.EightNumbers.{Eight, rows-left, message-eight}
 stop-parts : {m n p q : ℕ} → stop m p ≡ stop n q → (m ≡ n) × (p ≡ q)
 stop-parts e = (cc, cc)
 
-message-parts : {h k : Head} {m n p q : ℕ} → message h m p ≡ message k n q → (h ≡ k) × ((m ≡ n) × (p ≡ q))
+pub message-parts : {h k : Head} {m n p q : ℕ} → message h m p ≡ message k n q → (h ≡ k) × ((m ≡ n) × (p ≡ q))
 message-parts e = (cc, (cc, cc))
 
-never-both : {h : Head} {m n p q : ℕ} {A : Type 0} → stop m p ≡ message h n q → A
+pub never-both : {h : Head} {m n p q : ℕ} {A : Type 0} → stop m p ≡ message h n q → A
 never-both e = absurd (false≢true cc)
 
 -- a function that allows no more than another has no more runs of calls
@@ -42,26 +39,6 @@ pub calls-so : {H : Type 0} {C D : H → ℕ → List ℤ → Said → H → Lis
     → Calls C h place rows got → Calls D h place rows got
 calls-so f (stops c) = stops (f _ _ _ _ _ _ c)
 calls-so f (goes c cs) = goes (f _ _ _ _ _ _ c) (calls-so f cs)
-
--- a message is accepted under a holding only
-accepts-holding : (holding : Lent) (bytes : List ℕ) (end place : ℕ) (rows : List ℤ) (m : Message) (next : ℕ)
-    → reading holding bytes end place rows ≡ accepted m next → isHolding holding ≡ true
-unfolding readingBy lentTests verdict
-accepts-holding holding bytes end place rows m next e = go (leb rowRoom (length rows)) (placed bytes end place) (isHolding holding) _ e
-  where
-    never : {A : Type 0} {r : Refusal} → refused r 0 holding ≡ accepted m next → A
-    never f = absurd (false≢true cc)
-
-    go : (room there held : Bool) (o : Outcome)
-        → elim room [
-          | true ↦ elim there [ true ↦ elim held [ true ↦ o | false ↦ refused Value 0 holding ] | false ↦ refused Place 0 holding ]
-          | false ↦ refused Room 0 holding
-        ] ≡ accepted m next
-        → held ≡ true
-    go true true true o e = refl
-    go true true false o e = never e
-    go true false held o e = never e
-    go false there held o e = never e
 
 -- ---- a holding that is passed in some way: what it lends, and what a reading leaves of it
 
@@ -114,7 +91,7 @@ module _ {H : Type 0} (lentIn : H → Lent) (leave : Lent → H → H) where
       unfolding gotBy gets hand walkedTo saidAt answerOf lentAfter
       goes-so h place rows m taken w e ran stays it =
           let next = place + taken in
-          let fine = stays-good (heldIn (lentIn h)) (held-good (lentIn h) (accepts-holding (lentIn h) bytes end place rows m next e)) (bitsFrom bytes end place) m taken ran in
+          let fine = stays-good (heldIn (lentIn h)) (held-good (lentIn h) (took (lentIn h) bytes end place rows m next e .held)) (bitsFrom bytes end place) m taken ran in
           let left : H = leave (lent (m .after)) h in
           let anew : leave (lentAfter (w .stop)) left ≡ leave (lentAfter (w .stop)) h = passes .anew h (m .after) (lentAfter (w .stop)) fine (stays fine) in
           let rest = rw anew at (it left (passes .lends h (m .after) fine)) in

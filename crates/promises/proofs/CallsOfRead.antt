@@ -1,15 +1,17 @@
 -- Reading a stretch by calls of `read`, or in C of `hundurzek_read`, hands out what its walk hands out, record for record, stops where it stops and leaves
 -- what it leaves; and so demand 3 holds of a receiver that calls so. By the contracts. Assumes nothing.
 use mathlib.Core.Path.{_≡_, refl, sym, ap, _∙_}
-use mathlib.Core.Bool.{true, false≢true}
+use mathlib.Core.Bool.{true, false, false≢true}
 use mathlib.Core.List.{List, [], _++_}
 use Prim.Native.Nat.{ℕ}
+use lib.Dec.{eqb}
 use lib.IntN.{ℤ}
 use lib.ListN.{length, drop}
 use lib.Seq.{drop-at}
 use denote.Ref.{RefT}
 use Rattle.format.specs.declared.Answer.{Answer}
 use Rattle.format.specs.declared.Answer.the-variants.{Message, Idle, Refused}
+use Rattle.format.specs.declared.Refusal.{Refusal}
 use Rattle.format.specs.declared.Refusal.the-variants.{Room, Place, Short, Number, SubType, NoMask, OtherIssue, System, Reserved, Size, Network, Value}
 use Rattle.format.specs.Answers.{Said, saidAt, numberOf}
 use Rattle.format.specs.Good.{good, isHolding}
@@ -22,7 +24,7 @@ use Rattle.holding.specs.Pictures.{pictureOf, lentBy}
 use Rattle.holding.proofs.Pictured.{sound-picture}
 use Rattle.holding.proofs.Sounds.{sounds}
 use Rattle.host.specs.declared.Walked.{Walked}
-use Rattle.host.specs.Handing.{handedBy, bytesAfter, hostOutcome, hostWalk, walkedTo, walkBytes}
+use Rattle.host.specs.Handing.{messageNumber, handedBy, bytesAfter, hostOutcome, hostWalk, walkedTo, walkBytes}
 use Rattle.passing.specs.Passing.{size, bytesOf, holdingIn}
 use Rattle.passing.proofs.Returns.{bytes-length}
 use Rattle.promises.specs.Calls.{Got, Calls, gotBy, CodeCall, saidBy, HostCall, HostWalk}
@@ -34,16 +36,16 @@ use Rattle.reader.specs.Readings.{structOf, outcomeAt, readingOf}
 use Rattle.walk.specs.Walks.{walkAt, walkedOf}
 
 -- a slice that lies anywhere
-anywhere : {A : Type 0} → RefT (List A)
+pub anywhere : {A : Type 0} → RefT (List A)
 anywhere = record { ptr = (0, 0); name = 0; now = [] }
 
 -- ---- in Rattle
 
 -- a holding passed as a struct
-abbrev kept : Lent → Holding → Holding
+abbrev pub kept : Lent → Holding → Holding
 kept l h = structOf h l
 
-struct-passes : Passes lentBy kept
+pub struct-passes : Passes lentBy kept
 unfolding structOf isHolding
 struct-passes = record { lends = λ h held fine. lent-picture held fine; anew = λ h held l fine. anew h held l }
   where
@@ -53,7 +55,7 @@ struct-passes = record { lends = λ h held fine. lent-picture held fine; anew = 
 
 module _ (bytes : List ℕ) (end : ℕ) (h : Holding) (place : ℕ) (rows : List ℤ) (said : Said) (left : Holding) (after : List ℤ) where
   -- what the contract allows is what the reading there says, and the other way round
-  code-reads : CodeCall bytes end h place rows said left after → Read lentBy kept bytes end h place rows said left after
+  pub code-reads : CodeCall bytes end h place rows said left after → Read lentBy kept bytes end h place rows said left after
   unfolding readingOf outcomeAt
   code-reads c = record {
     says = sym (c .says) ∙ ap (λ r. saidAt place (r .answer)) (c .allowed .0);
@@ -89,26 +91,31 @@ module _ (h : Holding) (bytes : List ℕ) (end : ℕ) (rows : List ℤ) where
 
 -- ---- in C
 
--- what is handed of an answer says the answer: no refusal's number is a message's
+-- no refusal has the number of a message, or of what is done
+pub not-answered : (r : Refusal) → eqb (numberOf r) messageNumber ≡ false
+unfolding numberOf
+not-answered Room = refl
+not-answered Place = refl
+not-answered Short = refl
+not-answered Number = refl
+not-answered SubType = refl
+not-answered NoMask = refl
+not-answered OtherIssue = refl
+not-answered System = refl
+not-answered Reserved = refl
+not-answered Size = refl
+not-answered Network = refl
+not-answered Value = refl
+
+-- so what is handed of an answer says the answer
 said-back : (start : ℕ) (a : Answer) → saidBy (handedBy start (saidAt start a)) ≡ saidAt start a
-unfolding saidBy handedBy saidAt numberOf
+unfolding saidBy handedBy saidAt
 said-back start (Message h next rows) = refl
 said-back start Idle = refl
-said-back start (Refused Room missing) = refl
-said-back start (Refused Place missing) = refl
-said-back start (Refused Short missing) = refl
-said-back start (Refused Number missing) = refl
-said-back start (Refused SubType missing) = refl
-said-back start (Refused NoMask missing) = refl
-said-back start (Refused OtherIssue missing) = refl
-said-back start (Refused System missing) = refl
-said-back start (Refused Reserved missing) = refl
-said-back start (Refused Size missing) = refl
-said-back start (Refused Network missing) = refl
-said-back start (Refused Value missing) = refl
+said-back start (Refused r missing) = rw (not-answered r)
 
 -- a holding passed as bytes
-abbrev lentIn : List ℕ → Lent
+abbrev pub lentIn : List ℕ → Lent
 lentIn hb = lentBy (holdingIn hb)
 
 -- as many numbers over others hide these
@@ -116,7 +123,7 @@ over-over : {A : Type 0} (xs ys old : List A) → length xs ≡ length ys → ov
 unfolding over
 over-over {A} xs ys old e = ap (λ (l : List A). xs ++ l) (drop-at ys (drop (length ys) old) (length xs) (sym e) ∙ ap (λ (n : ℕ). drop n old) (sym e))
 
-bytes-passes : Passes lentIn bytesAfter
+pub bytes-passes : Passes lentIn bytesAfter
 unfolding bytesAfter isHolding heldIn
 bytes-passes = record {
   lends = λ hb held fine. ap lentBy (bytes-say hb (lent held) fine) ∙ lent-picture held fine;
@@ -135,7 +142,7 @@ module _ (bytes : List ℕ) (end : ℕ) (hb : List ℕ) (place : ℕ) (rows : Li
   outcome = hostOutcome hb bytes end place rows
 
   -- what the contract allows is what the reading there says, and the other way round
-  host-reads : HostCall bytes end hb place rows said left after → Read lentIn bytesAfter bytes end hb place rows said left after
+  pub host-reads : HostCall bytes end hb place rows said left after → Read lentIn bytesAfter bytes end hb place rows said left after
   unfolding hostOutcome outcomeAt
   host-reads c = record {
     says = sym (c .says) ∙ ap saidBy (c .allowed .0) ∙ said-back place (answerOf outcome);

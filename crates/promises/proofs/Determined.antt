@@ -14,6 +14,7 @@ use Rattle.probe.proofs as probe
 use Rattle.reader.proofs as reader
 use Rattle.saved.proofs as saved
 use Rattle.walk.proofs as walk
+use Rattle.writer.proofs as writer
 use Rattle.promises.specs.Determination.{Result, Content, Allows, DeterminedBy, Determined, SamePart}
 
 -- two values that are equal to a third are equal
@@ -68,6 +69,12 @@ seek-determined = says _ _ _ λ κs args x v p. (p .0, λ i. (tt, (tt, (tt, (tt,
 pub walk-determined : Determined walk.walk.Kinds.ps walk.walk.Kinds.r walk.walk.Reads.Learnt
 walk-determined = says _ _ _ λ κs args x v p. (p .0, λ i. (tt, (tt, (tt, (p .1 i, tt)))))
 
+-- ---- writer
+
+-- writing one message: the place after it or the refusal, and the bytes
+pub write-determined : Determined writer.write.Kinds.ps writer.write.Kinds.r writer.write.Reads.Learnt
+write-determined = says _ _ _ λ κs args x v p. (p .0, λ i. (tt, (tt, (tt, (tt, (p .1 i, (tt, tt)))))))
+
 -- ---- saved
 
 -- saving into lent bytes: the line's length or the refusal, and the bytes
@@ -103,6 +110,10 @@ hundurzek-read-determined = says _ _ _ λ κs args x v p. (p .0, λ i. (p .1 .0 
 -- reading a stretch: the numbers handed out, the holding's bytes, and the row buffer
 pub hundurzek-walk-determined : Determined host.hundurzek_walk.Kinds.ps host.hundurzek_walk.Kinds.r host.hundurzek_walk.Reads.Learnt
 hundurzek-walk-determined = says _ _ _ λ κs args x v p. (p .0, λ i. (p .1 .0 i, (tt, (tt, (p .1 .1 i, tt)))))
+
+-- writing one message: the numbers handed out, and the bytes
+pub hundurzek-write-determined : Determined host.writes.hundurzek_write.Kinds.ps host.writes.hundurzek_write.Kinds.r host.writes.hundurzek_write.Reads.Learnt
+hundurzek-write-determined = says _ _ _ λ κs args x v p. (p .0, λ i. (tt, (tt, (tt, (tt, (p .1 i, (tt, tt)))))))
 
 -- saving: the numbers handed out, and the line
 pub hundurzek-save-determined : Determined host.texts.hundurzek_save.Kinds.ps host.texts.hundurzek_save.Kinds.r host.texts.hundurzek_save.Reads.Learnt

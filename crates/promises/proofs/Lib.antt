@@ -10,3 +10,6 @@ pub mod Useless
 pub mod Calls
 pub mod CallsOfRead
 pub mod Listings
+pub mod RoundTrips
+pub mod CallsOfWrite
+pub mod UselessWriter

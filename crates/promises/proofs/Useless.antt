@@ -69,9 +69,14 @@ masked =
     1 ∷ 3 ∷ 1 ∷ 2 ∷ 3 ∷ 0 ∷ 0 ∷ 0 ∷ 0 ∷ 0 ∷ 0 ∷ 1 ∷ 0 ∷ 0 ∷ 0 ∷ 0 ∷ 0 ∷ 0x81 ∷ replicate 8 0
     ++ (0 ∷ 0 ∷ 0 ∷ 0 ∷ 0xA0 ∷ replicate 35 0 ++ (0 ∷ 0x80 ∷ 0 ∷ 0x81 ∷ replicate 124 0))
 
+-- what is passed as a holding computes with these
+unfoldable pub passed : Unit {0}
+unfolding computing Same.sameList Spread.spread Pictures.filled Pictures.stripsFrom Pictures.stripsOf Pictures.pictureOf Pictures.systemOf Pictures.systemsOf Pictures.maskOf Pictures.sameHolding Pictures.sound Bytes.little Bytes.littles Bytes.parts Bytes.partsOf Passing.truth Passing.passes Passing.said Passing.holdingIn Passing.bytesOf Pictures.lentBy Calls.words Bounds.every
+passed = tt
+
 -- what these compute with
 lending : Unit {0}
-unfolding computing listing clocks packet masksFirst zeros call empty masked Calls.lendable Calls.words Bounds.every
+unfolding passed listing clocks packet masksFirst zeros call empty masked Calls.lendable
 lending = tt
 
 -- two masks, two clocks and two packets under the mask held
@@ -126,18 +131,24 @@ numberAt k rows = unsigned 32 (getD rows k absent)
 
 -- what they compute with
 promising : Unit {0}
-unfolding lending listed neighbour clock otherClock short long whole torn readHere walkHere numberAt Calls.FixedAnswer Calls.Fixed Calls.OneType Calls.SaysTheSame Calls.OpenAlike Calls.ShutsOut Calls.reads Calls.walks Calls.hostReads Calls.hostWalks Same.sameList Spread.spread Pictures.filled Pictures.stripsFrom Pictures.stripsOf Pictures.pictureOf Pictures.systemOf Pictures.systemsOf Pictures.maskOf Pictures.sameHolding Pictures.sound Bytes.little Bytes.littles Bytes.parts Bytes.partsOf Passing.truth Passing.passes Passing.said Passing.holdingIn Passing.bytesOf Pictures.lentBy Readings.structOf Readings.outcomeAt Handing.bytesAfter Handing.hostOutcome Readings.readingOf Walks.walkAt Walks.walkedOf Handing.numberSaid Handing.handedBy Handing.hostWalk Handing.walkedTo Walking.messages Walking.rowCount rawEnd unsigned
+unfolding lending listed neighbour clock otherClock short long whole torn readHere walkHere numberAt Calls.FixedAnswer Calls.Fixed Calls.OneType Calls.SaysTheSame Calls.OpenAlike Calls.ShutsOut Calls.reads Calls.walks Calls.hostReads Calls.hostWalks Readings.structOf Readings.outcomeAt Handing.bytesAfter Handing.hostOutcome Readings.readingOf Walks.walkAt Walks.walkedOf Handing.numberSaid Handing.handedBy Handing.hostWalk Handing.walkedTo Walking.messages Walking.rowCount rawEnd unsigned
 promising = tt
 
 -- ---- what is the same at two calls though it must differ
+
+-- at two calls of which something shows that they are near each other
+pub near-apart : {C S A : Type 0} (f : C → S) (Near : C → C → S → S → Type 0) (part : S → A) (number : A → ℕ) {c d : C} {s t : S}
+    → f c ≡ s → f d ≡ t → Near c d s t → eqb (number (part s)) (number (part t)) ≡ false → ((c d : C) → Near c d (f c) (f d) → part (f c) ≡ part (f d)) → ⊥
+near-apart f Near part number {c} {d} {s} p q near other same =
+    let here = subst (λ x. Near c d x (f d)) (sym p) (subst (λ y. Near c d s y) (sym q) near) in
+    eqb-false _ _ other (ap number (ap part (sym p) ∙ same c d here ∙ ap part q))
 
 module _ {S : Type 0} (f : Call → Seen S) (Alike : Call → Call → Seen S → Seen S → Type 0) where
   apart : {A : Type 0} (part : Seen S → A) (number : A → ℕ) {c d : Call} {s t : Seen S}
       → f c ≡ s → f d ≡ t → Beside c d → Alike c d s t → eqb (number (part s)) (number (part t)) ≡ false → Fixed Alike part f → ⊥
   unfolding Fixed
-  apart part number {c} {d} {s} p q beside alike other same =
-      let here = subst (λ x. Alike c d x (f d)) (sym p) (subst (λ y. Alike c d s y) (sym q) alike) in
-      eqb-false _ _ other (ap number (ap part (sym p) ∙ same c d beside here ∙ ap part q))
+  apart part number p q beside alike other same =
+      near-apart f (λ c d s t. Beside c d × Alike c d s t) part number p q (beside, alike) other (λ c d near. same c d (near .0) (near .1))
 
   -- what is left as it was is the same
   same-rows : LeavesRows f → Fixed Alike (λ s. s .rows) f

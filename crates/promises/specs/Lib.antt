@@ -3,3 +3,5 @@ pub mod Determination
 pub mod LateJoiners
 pub mod Useless
 pub mod Listings
+pub mod RoundTrips
+pub mod UselessWriter

@@ -125,15 +125,15 @@ pub data UselessWalk (f : Call → Seen Walked) : Type 0 where
 
 module _ {n : ℕ} (ps : List (PK n)) (r : RK n) where
   -- a call as a function's arguments, and what is seen of its result and of what each lent buffer then holds
-  pub record Sight (S : Type 0) : Type 0 where
-    pub args : (κs : Lfts n) → Call → Dens κs ps
-    pub seen : (κs : Lfts n) (c : Call) → Result ps r κs → Content ps r κs (args κs c) → Seen S
+  pub record Sight (C S : Type 0) : Type 0 where
+    pub args : (κs : Lfts n) → C → Dens κs ps
+    pub seen : (κs : Lfts n) (c : C) → Result ps r κs → Content ps r κs (args κs c) → S
 
   -- no build that the promise `P` allows at every call is one of these
-  unfoldable pub ShutsOut : {S : Type 0} → Out n ps r → Sight S → ((Call → Seen S) → Type 0) → Type 0
-  ShutsOut P s These =
-      (κs : Lfts n) (result : Call → Result ps r κs) (content : (c : Call) → Content ps r κs (s .args κs c)) →
-      ((c : Call) → P κs (s .args κs c) (result c) (atExit (endedOf n ps r) κs (s .args κs c) (content c))) →
+  unfoldable pub ShutsOut : {C S : Type 0} → Out n ps r → Sight C S → ((C → S) → Type 0) → Type 0
+  ShutsOut {C} {S} P s These =
+      (κs : Lfts n) (result : C → Result ps r κs) (content : (c : C) → Content ps r κs (s .args κs c)) →
+      ((c : C) → P κs (s .args κs c) (result c) (atExit (endedOf n ps r) κs (s .args κs c) (content c))) →
       These (λ c. s .seen κs c (result c) (content c)) → ⊥
 
 -- ---- the four functions that read
@@ -142,14 +142,14 @@ module _ {n : ℕ} (ps : List (PK n)) (r : RK n) where
 abbrev pub lentAs : {A : Type 0} → ℕ → A → RefT A
 lentAs k x = record { ptr = (k, 0); name = k; now = x }
 
-unfoldable pub reads : Sight walk.single.read.Kinds.ps walk.single.read.Kinds.r Handed
+unfoldable pub reads : Sight walk.single.read.Kinds.ps walk.single.read.Kinds.r Call (Seen Handed)
 reads =
     record {
       args = λ κs c. (holdingIn (c .holding), (lentAs 1 (c .bytes), (c .end, (0, (lentAs 2 (c .rows), tt)))));
       seen = λ κs c x v. record { said = handedBy 0 (saidAt 0 (x .answer)); holding = x .holding; rows = v .1 .1 .1 .1 .0 };
     }
 
-unfoldable pub walks : Sight walk.walk.Kinds.ps walk.walk.Kinds.r Walked
+unfoldable pub walks : Sight walk.walk.Kinds.ps walk.walk.Kinds.r Call (Seen Walked)
 walks =
     record {
       args = λ κs c. (holdingIn (c .holding), (lentAs 1 (c .bytes), (c .end, (lentAs 2 (c .rows), tt))));
@@ -161,14 +161,14 @@ walks =
           };
     }
 
-unfoldable pub hostReads : Sight host.hundurzek_read.Kinds.ps host.hundurzek_read.Kinds.r Handed
+unfoldable pub hostReads : Sight host.hundurzek_read.Kinds.ps host.hundurzek_read.Kinds.r Call (Seen Handed)
 hostReads =
     record {
       args = λ κs c. (lentAs 0 (c .holding), (lentAs 1 (c .bytes), (c .end, (0, (lentAs 2 (c .rows), tt)))));
       seen = λ κs c x v. record { said = x; holding = holdingIn (v .0); rows = v .1 .1 .1 .1 .0 };
     }
 
-unfoldable pub hostWalks : Sight host.hundurzek_walk.Kinds.ps host.hundurzek_walk.Kinds.r Walked
+unfoldable pub hostWalks : Sight host.hundurzek_walk.Kinds.ps host.hundurzek_walk.Kinds.r Call (Seen Walked)
 hostWalks =
     record {
       args = λ κs c. (lentAs 0 (c .holding), (lentAs 1 (c .bytes), (c .end, (lentAs 2 (c .rows), tt))));
