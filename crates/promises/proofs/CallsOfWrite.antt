@@ -14,7 +14,7 @@ use Rattle.holding.specs.declared.Holding.{Holding}
 use Rattle.holding.specs.Pictures.{maskOf, sound, lentBy}
 use Rattle.holding.proofs.Sounds.{sounds}
 use Rattle.host.specs.Handing.{bytesAfter}
-use Rattle.host.specs.Writes.{headIn, writtenHanded}
+use Rattle.host_write.specs.Writes.{headIn, writtenHanded}
 use Rattle.host.proofs.Outcomes.{bytes-stay}
 use Rattle.promises.specs.Calls.{CodeCall, HostCall}
 use Rattle.promises.specs.RoundTrips.{ReadingGivesBack, WritingGivesBack, WritingInPlace, OneAnswer, RefusalLeaves, doneBy, CodeWrite, doneIn, HostWrite}

@@ -8,6 +8,7 @@ use contract.Lifetimes.{Lfts}
 use borrow.Fn.Kinds.{PK, RK, Out, Dens}
 use Rattle.holding.proofs.Holding as holding
 use Rattle.host.proofs as host
+use Rattle.host_write.proofs as host_write
 use Rattle.lines.proofs as lines
 use Rattle.lister.proofs as lister
 use Rattle.probe.proofs as probe
@@ -112,7 +113,7 @@ pub hundurzek-walk-determined : Determined host.hundurzek_walk.Kinds.ps host.hun
 hundurzek-walk-determined = says _ _ _ λ κs args x v p. (p .0, λ i. (p .1 .0 i, (tt, (tt, (p .1 .1 i, tt)))))
 
 -- writing one message: the numbers handed out, and the bytes
-pub hundurzek-write-determined : Determined host.writes.hundurzek_write.Kinds.ps host.writes.hundurzek_write.Kinds.r host.writes.hundurzek_write.Reads.Learnt
+pub hundurzek-write-determined : Determined host_write.hundurzek_write.Kinds.ps host_write.hundurzek_write.Kinds.r host_write.hundurzek_write.Reads.Learnt
 hundurzek-write-determined = says _ _ _ λ κs args x v p. (p .0, λ i. (tt, (tt, (tt, (tt, (p .1 i, (tt, tt)))))))
 
 -- saving: the numbers handed out, and the line

@@ -20,9 +20,9 @@ use Rattle.format.specs.Table as Table
 use Rattle.format.specs.Writing as Writing
 use Rattle.format.specs.Writing.{writing, doneWriting, bytesAfter}
 use Rattle.holding.specs.Pictures.{lentBy}
-use Rattle.host.proofs as host
-use Rattle.host.specs.Writes as Writes
-use Rattle.host.specs.Writes.{headIn}
+use Rattle.host_write.proofs as host_write
+use Rattle.host_write.specs.Writes as Writes
+use Rattle.host_write.specs.Writes.{headIn}
 use Rattle.passing.specs.Passing.{size, holdingIn}
 use Rattle.promises.specs.RoundTrips as RoundTrips
 use Rattle.promises.specs.Useless as Useless
@@ -131,7 +131,7 @@ write-useful κs result content meets useless =
     (subst UselessWriter (λ i c. writes .seen κs c (meets c .0 i) (tt, (tt, (tt, (tt, (meets c .1 i, (tt, tt))))))) useless)
 
 -- from C
-pub hundurzek-write-useful : ShutsOut host.writes.hundurzek_write.Kinds.ps host.writes.hundurzek_write.Kinds.r host.writes.hundurzek_write.Reads.Learnt hostWrites UselessWriter
+pub hundurzek-write-useful : ShutsOut host_write.hundurzek_write.Kinds.ps host_write.hundurzek_write.Kinds.r host_write.hundurzek_write.Reads.Learnt hostWrites UselessWriter
 unfolding seeing
 hundurzek-write-useful κs result content meets useless =
     useful-writer _ (record { short-is = refl; row-is = refl; head-is = refl; long-is = refl })

@@ -17,10 +17,10 @@ use Rattle.format.specs.Answers.{Said, message, Done, done, undone, undoneAt, n
 use Rattle.format.specs.Reading.{rowRoom, over}
 use Rattle.format.specs.Writing.{limit}
 use Rattle.holding.specs.declared.Holding.{Holding}
-use Rattle.host.proofs as host
-use Rattle.host.specs.declared.texts.Done as Handed
-use Rattle.host.specs.Texts.{doneNumber}
-use Rattle.host.specs.Writes.{headIn}
+use Rattle.host_write.proofs as host_write
+use Rattle.host_write.specs.declared.Done as Handed
+use Rattle.host_write.specs.Writes.{doneNumber}
+use Rattle.host_write.specs.Writes.{headIn}
 use Rattle.promises.specs.Determination.{Allows}
 use Rattle.writer.proofs as writer
 use Rattle.writer.specs.declared.Writing.{Writing}
@@ -124,6 +124,6 @@ pub record HostWrite (holding : List ℕ) (head : Head) (rows : List ℤ) (count
   pub result : Handed.Done
   pub says : doneIn result ≡ said
   pub allowed :
-      Allows host.writes.hundurzek_write.Kinds.ps host.writes.hundurzek_write.Kinds.r host.writes.hundurzek_write.Reads.Learnt κs
+      Allows host_write.hundurzek_write.Kinds.ps host_write.hundurzek_write.Kinds.r host_write.hundurzek_write.Reads.Learnt κs
       (at-last lent holding, (at-last headed words, (at-last numbers rows, (count, (at-last target bytes, (start, tt)))))) result
       (tt, (tt, (tt, (tt, (left, (tt, tt))))))

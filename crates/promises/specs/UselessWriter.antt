@@ -9,8 +9,8 @@ use lib.ListN.{length}
 use Rattle.format.specs.Answers.{Done, done}
 use Rattle.format.specs.Reading.{rowRoom, stretchLimit}
 use Rattle.holding.specs.Bounds.{below}
-use Rattle.host.proofs as host
-use Rattle.host.specs.Writes.{headIn}
+use Rattle.host_write.proofs as host_write
+use Rattle.host_write.specs.Writes.{headIn}
 use Rattle.passing.specs.Passing.{size, holdingIn}
 use Rattle.promises.specs.RoundTrips.{doneBy, doneIn}
 use Rattle.promises.specs.Useless.{words, Sight, lentAs}
@@ -89,7 +89,7 @@ writes =
       seen = λ κs c x v. record { said = doneBy (c .start) x; bytes = v .1 .1 .1 .1 .0 };
     }
 
-unfoldable pub hostWrites : Sight host.writes.hundurzek_write.Kinds.ps host.writes.hundurzek_write.Kinds.r Asked Left
+unfoldable pub hostWrites : Sight host_write.hundurzek_write.Kinds.ps host_write.hundurzek_write.Kinds.r Asked Left
 hostWrites =
     record {
       args = λ κs c. (lentAs 0 (c .holding), (lentAs 1 (c .head), (lentAs 2 (c .rows), (c .count, (lentAs 3 (c .bytes), (c .start, tt))))));
