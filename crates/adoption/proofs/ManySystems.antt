@@ -6,8 +6,6 @@ use borrow.Author.Tests.{lt-ltb, le-leb, lt-leb}
 use lib.Count.{ones}
 use lib.ListN.{set, replicate, length-append, length-map}
 use lib.Seq.{append-snoc, take-at, drop-at, sets}
-use Rattle.adoption.specs.Adoptions.{adoptionBy}
-use Rattle.adoption.specs.declared.Adoption.{Adoption}
 use Rattle.adoption.specs.declared.cells.Masks.{Masks}
 use Rattle.adoption.specs.declared.cells.System as cells
 use Rattle.adoption.specs.declared.cells.System.the-variants.{Fine, Refused}
@@ -24,8 +22,8 @@ use Rattle.format.specs.declared.Refusal.the-variants.{Size}
 use Rattle.format.specs.Ends.{Within, endFrom}
 use Rattle.format.specs.Good.{goodSystem, goodSystems, good}
 use Rattle.format.specs.Masks.{System, Mask, mask, satellites, cells}
-use Rattle.format.specs.Messages.{idsOf, systemCells, flaggedCells, fewCells, system, systems}
-use Rattle.format.specs.Programs.{_>>=_, taking, numbered, well, badly}
+use Rattle.format.specs.Messages.{Adopted, idsOf, systemCells, flaggedCells, fewCells, system, systems}
+use Rattle.format.specs.Programs.{Ended, _>>=_, taking, numbered, well, badly}
 use Rattle.holding.proofs.Built.{few-systems, cells-with, system-built}
 use Rattle.holding.proofs.PicturedStrips.{picture-strips, length-strips}
 use Rattle.holding.proofs.Places.{ones-places}
@@ -72,31 +70,31 @@ few-end before s bs end place = rw (test-end, done-end)
 
 -- ---- the systems left, after those that the holding has
 
--- the answer to n of them
-abbrev pub answer : Head → List ℕ → ℕ → Mask → ℕ → ℕ → Adoption
-answer head bs end m place n = adoptionBy (endFrom (withSystems head n m) bs end place)
+-- where n of them end
+abbrev pub ended : Head → List ℕ → ℕ → Mask → ℕ → ℕ → Ended Adopted
+ended head bs end m place n = endFrom (withSystems head n m) bs end place
 
--- the holding is the picture of a good mask, and all systems are answered as n more at a place after that mask's
-pub record Stands (head : Head) (bs : List ℕ) (end : ℕ) (all : Adoption) (h : Holding) (at n : ℕ) : Type 0 where
+-- the holding is the picture of a good mask, and all systems end as n more at a place after that mask's
+pub record Stands (head : Head) (bs : List ℕ) (end : ℕ) (all : Ended Adopted) (h : Holding) (at n : ℕ) : Type 0 where
   pub m : Mask
   pub held : Sounds (mask m) h
   pub there : Within bs end at
-  pub left : all ≡ answer head bs end m at n
+  pub left : all ≡ ended head bs end m at n
 
 -- before the first
 abbrev pub firstMask : ℕ → Mask
 firstMask iod = record { iod = iod; systems = [] }
 
-pub none-yet : {bs : List ℕ} {end place : ℕ} (head : Head) (iod n : ℕ) → iod < 16 → Within bs end place → Stands head bs end (answer head bs end (firstMask iod) place n) (pictureOf (mask (firstMask iod))) place n
+pub none-yet : {bs : List ℕ} {end place : ℕ} (head : Head) (iod n : ℕ) → iod < 16 → Within bs end place → Stands head bs end (ended head bs end (firstMask iod) place n) (pictureOf (mask (firstMask iod))) place n
 unfolding good goodSystems
 none-yet head iod n small at = record { m = firstMask iod; held = picture-sounds (mask (firstMask iod)) (true-and (lt-ltb iod 16 small) refl); there = at; left = refl }
 
 -- after the last
-pub none-left : {head : Head} {bs : List ℕ} {end : ℕ} {all : Adoption} {h : Holding} {at : ℕ} (s : Stands head bs end all h at 0) → all ≡ adoptionBy (well (record { head = head; made = s .m }) at)
+pub none-left : {head : Head} {bs : List ℕ} {end : ℕ} {all : Ended Adopted} {h : Holding} {at : ℕ} (s : Stands head bs end all h at 0) → all ≡ well (record { head = head; made = s .m }) at
 unfolding withSystems systems _>>=_
-none-left s = s .left ∙ ap adoptionBy (done-end _ _ _ _)
+none-left s = s .left ∙ done-end _ _ _ _
 
-module _ {head : Head} {bs : List ℕ} {end : ℕ} {all : Adoption} {h : Holding} {at n : ℕ} (s : Stands head bs end all h at n) where
+module _ {head : Head} {bs : List ℕ} {end : ℕ} {all : Ended Adopted} {h : Holding} {at n : ℕ} (s : Stands head bs end all h at n) where
   count-is : h .count ≡ length (s .m .systems)
   unfolding pictureOf
   count-is = ap (λ (g : Holding). g .count) (sym (s .held .picture))
@@ -122,7 +120,7 @@ module _ {head : Head} {bs : List ℕ} {end : ℕ} {all : Adoption} {h : Holding
 
 -- ---- one more
 
-module _ {head : Head} {bs : List ℕ} {end : ℕ} {all : Adoption} {h : Holding} {at n : ℕ} (s : Stands head bs end all h at (suc n)) where
+module _ {head : Head} {bs : List ℕ} {end : ℕ} {all : Ended Adopted} {h : Holding} {at n : ℕ} (s : Stands head bs end all h at (suc n)) where
   abbrev before : List System
   before = s .m .systems
 
@@ -131,11 +129,11 @@ module _ {head : Head} {bs : List ℕ} {end : ℕ} {all : Adoption} {h : Holding
     unfolding satellitesHeld
     ends = rw (← (ids-named s .1), ← (s .held .nsat)) (sym is)
 
-    pub one-refused : {q : Refusal} {missing : ℕ} → r ≡ Refused q missing → all ≡ adoptionBy (badly q missing)
+    pub one-refused : {q : Refusal} {missing : ℕ} → r ≡ Refused q missing → all ≡ badly q missing
     unfolding endSystem
     one-refused same =
         let cut = then-badly (s .there) (untested (idsOf before) (length (satellites before))) (fewCells before) (ends ∙ ap (endSystem bs) same) in
-        s .left ∙ ap adoptionBy (rw (one-first head n (s .m)) (then-badly (s .there) (system before) _ (rw (then-tested before) cut)))
+        s .left ∙ rw (one-first head n (s .m)) (then-badly (s .there) (system before) _ (rw (then-tested before) cut))
 
     -- read up to its cells
     module _ {k : Masks} {flag : Bool} {from : ℕ} (same : r ≡ Fine k flag from) where
@@ -175,9 +173,9 @@ module _ {head : Head} {bs : List ℕ} {end : ℕ} {all : Adoption} {h : Holding
           (then-well (s .there) (untested (idsOf before) (length (satellites before))) (fewCells before) ran ∙ few-end before new bs end next
           ∙ ap (λ (c : ℕ). cond (leb c 256) (well new next) (badly Size 0)) cells-are)
 
-      pub too-many : 256 < ncell → all ≡ adoptionBy (badly Size 0)
+      pub too-many : 256 < ncell → all ≡ badly Size 0
       too-many over =
-          s .left ∙ ap adoptionBy (rw (one-first head n (s .m)) (then-badly (s .there) (system before) _ (tested ∙ rw (lt-leb ncell 256 over))))
+          s .left ∙ rw (one-first head n (s .m)) (then-badly (s .there) (system before) _ (tested ∙ rw (lt-leb ncell 256 over)))
 
       -- few enough
       module _ (few : ncell ≤ 256) where
@@ -228,5 +226,5 @@ module _ {head : Head} {bs : List ℕ} {end : ℕ} {all : Adoption} {h : Holding
                 m = withOne (s .m) new;
                 held = subst (λ (g : Holding). Sounds (mask (withOne (s .m) new)) g) (sym built) (picture-sounds (mask (withOne (s .m) new)) good-more);
                 there = after;
-                left = s .left ∙ ap adoptionBy (rw (one-first head n (s .m)) (then-well (s .there) (system before) _ fine));
+                left = s .left ∙ rw (one-first head n (s .m)) (then-well (s .there) (system before) _ fine);
               })

@@ -8,7 +8,7 @@ pub mod systems;
 ghost use mathlib.Core.Path.{_≡_};
 ghost use mathlib.Core.List.{List};
 ghost use Prim.Native.Nat.{ℕ, _+_};
-ghost use Rattle.adoption.specs.Adoptions.{adoptionBy};
+ghost use Rattle.adoption.specs.Adoptions.{adoptionBy, made, madeBy};
 ghost use Rattle.format.specs.Ends.{Within, endFrom};
 ghost use Rattle.adoption.specs.Stages.{afterCommonHead};
 ghost use Rattle.format.specs.Messages.{common, maskMessage};
@@ -29,20 +29,23 @@ use heads::heading;
 use heads::parted;
 use heads::taken;
 use holding::Holding;
+use holding::Outline;
 
-// A mask message: the answer to it, and the holding that it makes; an empty one where it is refused.
+// A mask message: the answer to it, and the outline of the holding that it makes, whose masks and strips are left in what
+// is lent for them; an empty one's where it is refused.
 pub struct Adoption {
     pub answer: Answer,
-    pub holding: Holding,
+    pub outline: Outline,
 }
 
 // A refusal, and how many bits were missing.
 fn refused(r: Refusal, missing: usize) -> Adoption
     ensures { λ x. ⌜ x ≡ adoptionBy (badly r missing) ⌝ }
 {
+    let empty = Holding::empty();
     Adoption {
         answer: Answer::Refused(r, missing),
-        holding: Holding::empty(),
+        outline: empty.outline(),
     }
 }
 
@@ -73,9 +76,15 @@ fn head(f: Front) -> CommonTaken
 }
 
 // A mask message from its number of systems on.
-fn after_head(h: CommonHead, f: Front, bytes: &[u8]) -> Adoption
+fn after_head(
+    h: CommonHead,
+    f: Front,
+    bytes: &[u8],
+    satellites: &mut [u64; Holding::SYSTEMS],
+    strips: &mut [u16; Holding::SATELLITES],
+) -> Adoption
     requires { ⌜ Small h × Within (now bytes) (f .end) (f .start + 29) × Opens (now bytes) f ⌝ }
-    ensures { λ r. ⌜ r ≡ adoptionBy (endFrom (afterCommonHead h) (now (bytes .entry)) (f .end) (f .start + 29)) ⌝ }
+    ensures { λ r. ⌜ made r (now (satellites .exit)) (now (strips .exit)) ≡ madeBy (endFrom (afterCommonHead h) (now (bytes .entry)) (f .end) (f .start + 29)) (now (satellites .entry)) (now (strips .entry)) ⌝ }
 {
     let taken = taken(f, COMMON, COUNT);
     match taken {
@@ -83,19 +92,35 @@ fn after_head(h: CommonHead, f: Front, bytes: &[u8]) -> Adoption
         Taken::Whole(n) => {
             let numbers = heading::head(table::MASK, h, n as i32, ABSENT, ABSENT);
             let at = f.start + COMMON + COUNT;
-            systems::all(h.iod as u8, numbers, bytes, f.end, at, n as usize)
+            systems::all(
+                h.iod as u8,
+                numbers,
+                bytes,
+                f.end,
+                at,
+                n as usize,
+                satellites,
+                strips,
+            )
         }
     }
 }
 
-// A mask message at the place behind its number and sub type. What was held stays with the caller.
-pub fn adopt(bytes: &[u8], end: usize, place: usize) -> Adoption
+// A mask message at the place behind its number and sub type. Where it is accepted, its masks and strips are in the arrays
+// lent; where it is refused they are as they were.
+pub fn adopt(
+    bytes: &[u8],
+    end: usize,
+    place: usize,
+    satellites: &mut [u64; Holding::SYSTEMS],
+    strips: &mut [u16; Holding::SATELLITES],
+) -> Adoption
     requires { ⌜ Within (now bytes) end place ⌝ }
-    ensures { λ r. ⌜ r ≡ adoptionBy (endFrom maskMessage (now (bytes .entry)) end place) ⌝ }
+    ensures { λ r. ⌜ made r (now (satellites .exit)) (now (strips .exit)) ≡ madeBy (endFrom maskMessage (now (bytes .entry)) end place) (now (satellites .entry)) (now (strips .entry)) ⌝ }
 {
     let f = front_at(bytes, end, place);
     match head(f) {
         CommonTaken::Short(missing) => refused(Refusal::Short, missing),
-        CommonTaken::Whole(h) => after_head(h, f, bytes),
+        CommonTaken::Whole(h) => after_head(h, f, bytes, satellites, strips),
     }
 }

@@ -3,7 +3,7 @@ ghost use mathlib.Core.Path.{_≡_};
 ghost use mathlib.Core.List.{[]};
 ghost use Prim.Native.Nat.{_≤_, _<_};
 ghost use lib.ListN.{length, take};
-ghost use Rattle.adoption.specs.Adoptions.{adoptionBy};
+ghost use Rattle.adoption.specs.Adoptions.{made, madeBy};
 ghost use Rattle.adoption.specs.Stages.{untested, endSystem, FitsSystem, withSystems};
 ghost use Rattle.format.specs.Ends.{Within, endFrom};
 use crate::Adoption;
@@ -53,11 +53,21 @@ fn read_system(
 }
 
 // n systems from a place on, under an issue, and the message that they end under a head. The holding is written out
-// here and changed in place: each function that it went through by value would be a copy. The test of 256 cells comes
+// here and changed in place: each function that it went through by value would be a copy. What is lent gets its masks and
+// strips where all is well. The test of 256 cells comes
 // after the cell mask, or after a zero flag (document 01, "Reader's order").
-pub fn all(iod: u8, numbers: Head, bytes: &[u8], end: usize, mut at: usize, n: usize) -> Adoption
+pub fn all(
+    iod: u8,
+    numbers: Head,
+    bytes: &[u8],
+    end: usize,
+    mut at: usize,
+    n: usize,
+    satellites: &mut [u64; Holding::SYSTEMS],
+    strips: &mut [u16; Holding::SATELLITES],
+) -> Adoption
     requires { ⌜ (iod < 16) × Within (now bytes) end at ⌝ }
-    ensures { λ r. ⌜ r ≡ adoptionBy (endFrom (withSystems numbers n (record { iod = iod; systems = [] })) (now (bytes .entry)) end at) ⌝ }
+    ensures { λ r. ⌜ made r (now (satellites .exit)) (now (strips .exit)) ≡ madeBy (endFrom (withSystems numbers n (record { iod = iod; systems = [] })) (now (bytes .entry)) end at) (now (satellites .entry)) (now (strips .entry)) ⌝ }
 {
     let mut h = Holding {
         held: true,
@@ -91,6 +101,12 @@ pub fn all(iod: u8, numbers: Head, bytes: &[u8], end: usize, mut at: usize, n: u
             }
         }
     }
-    let answer = Answer::Message(numbers, at, 0);
-    Adoption { answer, holding: h }
+    let masks = h.satellites;
+    let cells = h.strips;
+    *satellites = masks;
+    *strips = cells;
+    Adoption {
+        answer: Answer::Message(numbers, at, 0),
+        outline: h.outline(),
+    }
 }

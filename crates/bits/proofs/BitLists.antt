@@ -6,7 +6,7 @@ use native.Mathlib.Nat.{add-mul-div-right, zero-add, add-zero, suc-add, add-comm
 use native.Mathlib.Numerals.{one-add}
 use lib.ListN.{length-append, length-drop, take-append-drop}
 use lib.Seq.{take-at, drop-at, length-take-le}
-use lib.Pow.{high, pow-pos, pow-add, shr-shr, mod-pow-add}
+use lib.Pow.{high, split, pow-pos, pow-add, shr-shr, mod-pow-add}
 use Rattle.bits.specs.BitLists.{digit, number, spell, bits, bytes}
 use Rattle.bits.proofs.Windows.{Bytes}
 
@@ -66,6 +66,13 @@ spell-below (suc w) k h n =
 pub spell-low : (w h n : ℕ) → spell w (h * 2 ^ w + n) ≡ spell w n
 spell-low w h n = rw add-zero at (spell-below w 0 h n)
 
+-- so a number cut to as many bits, or to more, is spelled alike
+pub spell-cut : (w k n : ℕ) → spell w (n % 2 ^ (w + k)) ≡ spell w n
+spell-cut w k n = sym (spell-below w k (n / 2 ^ (w + k)) (n % 2 ^ (w + k))) ∙ ap (spell w) (split n (w + k))
+
+pub spell-mod : (w n : ℕ) → spell w (n % 2 ^ w) ≡ spell w n
+spell-mod w n = rw add-zero at (spell-cut w 0 n)
+
 pub spell-number : (l : List Bool) → spell (length l) (number l) ≡ l
 unfolding number spell
 spell-number [] = refl
@@ -79,6 +86,12 @@ spell-append (suc u) w h n small =
     let top : (h * 2 ^ w + n) / 2 ^ (u + w) ≡ h / 2 ^ u =
     rw (add-comm u w, ← (shr-shr (h * 2 ^ w + n) w u), high h w small) in
     rw (suc-add u w) (ap₂ _∷_ (ap (λ (x : ℕ). eqb (x % 2) 1) top) (spell-append u w h n small))
+
+-- a spelling in two parts
+pub spell-split : (u w n : ℕ) → spell (u + w) n ≡ spell u (n / 2 ^ w) ++ spell w n
+spell-split u w n =
+    ap (spell (u + w)) (sym (split n w)) ∙ spell-append u w (n / 2 ^ w) (n % 2 ^ w) (mod-lt n (pow-pos w))
+    ∙ ap (λ (l : List Bool). spell u (n / 2 ^ w) ++ l) (spell-mod w n)
 
 -- the bit at k of a spelling
 pub spell-at : (w n k : ℕ) → k < w → getD (spell w n) k false ≡ eqb (n / 2 ^ (w - 1 - k) % 2) 1

@@ -36,7 +36,7 @@ halves : (x t : ℕ) → x / 2 ^ (t + 1) * 2 + x / 2 ^ t % 2 ≡ x / 2 ^ t
 halves x t = rw (← (shr-shr x t 1)) (omega arith)
 
 -- the w high bits of a byte
-top : (bs : List ℕ) (i w t : ℕ) → getD bs i 0 < 256 → w + t ≡ 8 → field bs (8 * i) w ≡ getD bs i 0 / 2 ^ t
+pub top : (bs : List ℕ) (i w t : ℕ) → getD bs i 0 < 256 → w + t ≡ 8 → field bs (8 * i) w ≡ getD bs i 0 / 2 ^ t
 unfolding field
 top bs i zero t small e =
     let u : t ≡ 8 = omega arith in

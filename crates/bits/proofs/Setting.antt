@@ -183,3 +183,13 @@ setField-none bs place n small = rw (add-zero place, take-append-drop place (bit
 pub setField-same : (bs : List ℕ) (place w : ℕ) → Bytes bs → place + w ≤ 8 * length bs → setField bs place w (field bs place w) ≡ bs
 unfolding setField
 setField-same bs place w small room = rw (spell-field bs place w room) (setBytes-same bs place w small room)
+
+-- nor does it in front of what is set behind it
+pub set-behind : (bs : List ℕ) (place w : ℕ) (new : List Bool) → Bytes bs → place + w ≤ 8 * length bs
+    → setBytes bs place (spell w (field bs place w) ++ new) ≡ setBytes bs (place + w) new
+unfolding setField
+set-behind bs place w new small room =
+    let own : List Bool = spell w (field bs place w) in
+    sym (setBytes-append bs place own (spelled bs place w (field bs place w) room) new)
+    ∙ ap (λ (n : ℕ). setBytes (setBytes bs place own) (place + n) new) (length-spell w (field bs place w))
+    ∙ ap (λ (l : List ℕ). setBytes l (place + w) new) (setField-same bs place w small room)

@@ -12,19 +12,14 @@ use Rattle.bits.specs.Places.{field}
 use Rattle.bits.specs.BitLists.{number, spell, bits, bytes, setBits, setBytes, setField}
 use Rattle.bits.proofs.Fields.{field-lt, field-add}
 use Rattle.bits.proofs.Windows.{Bytes, in-window}
-use Rattle.bits.proofs.BitLists.{length-spell, number-spell, spell-low, spell-append, length-bits, length-bytes, bits-bytes, bytes-bits}
+use Rattle.bits.proofs.BitLists.{length-spell, number-spell, spell-mod, spell-append, spell-split, length-bits, length-bytes, bits-bytes, bytes-bits}
 use Rattle.bits.proofs.Bridge.{spell-field}
 use Rattle.bits.proofs.Setting.{bytes-small}
 
 -- ---- the eight bytes of a window
 
-spell-mod : (w n : ℕ) → spell w (n % 2 ^ w) ≡ spell w n
-spell-mod w n = sym (spell-low w (n / 2 ^ w) (n % 2 ^ w)) ∙ ap (spell w) (split n w)
-
 spell-byte : (k n : ℕ) → spell (8 + k) n ≡ spell 8 (n / 2 ^ k % 256) ++ spell k n
-spell-byte k n =
-    ap (spell (8 + k)) (sym (split n k)) ∙ spell-append 8 k (n / 2 ^ k) (n % 2 ^ k) (mod-lt n (pow-pos k))
-    ∙ ap₂ _++_ (sym (spell-mod 8 (n / 2 ^ k))) (spell-mod k n)
+spell-byte k n = spell-split 8 k n ∙ ap (λ (l : List Bool). l ++ spell k n) (sym (spell-mod 8 (n / 2 ^ k)))
 
 bytes-spell : (count n : ℕ) → bytes (suc count) (spell (8 + 8 * count) n) ≡ n / 2 ^ (8 * count) % 256 ∷ bytes count (spell (8 * count) n)
 unfolding bytes

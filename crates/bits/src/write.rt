@@ -16,10 +16,10 @@ fn replaced(window: u64, skip: usize, w: usize, value: u64) -> u64
     window - (old << after) + (value << after)
 }
 
-// Sets w bits to a number and keeps every other bit. The part begins with the byte that holds the
-// first of them, after skip others.
+// Sets w bits to a number and keeps every other bit. The part begins with skip bits before them, and
+// all of these lie within a window.
 pub fn write_field(part: &mut [u8], skip: usize, w: usize, value: u64)
-    requires { ⌜ (skip < 8) × (w ≤ 56) × (skip + w ≤ 8 * length (now part)) × (value < 2 ^ w) ⌝ }
+    requires { ⌜ (skip + w < 64) × (skip + w ≤ 8 * length (now part)) × (value < 2 ^ w) ⌝ }
     ensures { λ _. ⌜ now (part .exit) ≡ setField (now (part .entry)) skip w value ⌝ }
 {
     if w == 0 {

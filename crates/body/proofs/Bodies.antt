@@ -20,7 +20,7 @@ use Rattle.format.specs.Rows.{Column, Line, absent, widthOf, shapeWidth, bodyWi
 use Rattle.holding.proofs.Sounds.{Sounds, sounds}
 use Rattle.holding.specs.Bounds.{narrow, every}
 use Rattle.holding.specs.declared.Holding.{Holding}
-use Rattle.holding.specs.Held.{View, stripCells, slotsOf, viewOf}
+use Rattle.holding.specs.Held.{View, slotSatellites, stripCells, slotsOf, viewOf}
 use Rattle.holding.specs.Pictures.{maskOf, sound}
 use Rattle.rows.proofs.RowsAt.{Eights, rows-length}
 use Rattle.rows.proofs.Table.{five-at, columns-in, no-iode}
@@ -32,7 +32,7 @@ use Rattle.table.specs.declared.Keys.{Keys}
 use Rattle.table.specs.declared.Keys.the-variants.{Satellites, Cells, Parts}
 use Rattle.table.specs.Bodies.{linesOver, linesIn, FitsKeys, Fits}
 use Rattle.body.specs.Chosen.{alone, cellsIn, striped, chosenLines}
-use Rattle.body.specs.Lent.{viewBy, Lent, Lends}
+use Rattle.body.specs.Lent.{viewBy, Lent, Sized, Lends}
 use Rattle.body.specs.Written.{Room, Counts}
 use Rattle.body.proofs.Groups.{no-cells, alone-chosen, striped-chosen}
 use Rattle.body.proofs.Sizes.{Few, few-satellites, total-most, satellites-alike}
@@ -219,25 +219,41 @@ module _ (h : Holding) (e : sound h ≡ true) where
         cells = omega (arith, all-cells, s .few-cells);
       }
 
+  pub sizes : Sized (take (h .count) (h .ids)) (h .satellites) (h .strips) (h .nsat) (h .ncell)
+  sizes = record { lent = lends; satellites = many; cells = all-cells; thin = s .shaped .strips-narrow; most = omega (arith, s .shaped .strips) }
+
+-- ---- under slots and strips of so many satellites and cells
+
+module _ {ids masks strips : List ℕ} {nsat ncell : ℕ} (z : Sized ids masks strips nsat ncell) where
+  abbrev sats : List Satellite
+  sats = slotSatellites ids masks
+
+  pub sized-few : nsat ≤ 64
+  sized-few = omega (arith, z .satellites, z .lent .satellites)
+
+  pub sized-covered : nsat ≤ length strips
+  sized-covered = omega (arith, z .satellites, z .lent .covered)
+
   -- ---- the cells that are chosen
 
-  pub every-cell : (chosen : ℕ) → chosen ≡ 2 ^ 64 - 1 → h .ncell ≡ length (stripCells (pick (spell 64 chosen) (slotsOf h)) (pick (spell 64 chosen) (h .strips)))
+  pub some-cells : (chosen : ℕ) → total ones (pick (spell 64 chosen) (take nsat strips)) ≡ length (stripCells (pick (spell 64 chosen) sats) (pick (spell 64 chosen) strips))
+  some-cells chosen = ap (λ (n : ℕ). total ones (pick (spell 64 chosen) (take n strips))) (sym (z .satellites)) ∙ sym (cells-count (spell 64 chosen) sats strips (z .thin) (z .lent .covered))
+
+  pub every-cell : (chosen : ℕ) → chosen ≡ 2 ^ 64 - 1 → ncell ≡ total ones (pick (spell 64 chosen) (take nsat strips))
   every-cell chosen all =
-      rw (all, pick-all (slotsOf h) (omega (arith, many, few)), pick-all (h .strips) (omega (arith, s .shaped .strips))) all-cells
+      let picked : ncell ≡ length (stripCells (pick (spell 64 chosen) sats) (pick (spell 64 chosen) strips)) = rw (all, pick-all sats (z .lent .satellites), pick-all strips (z .most)) (z .cells) in
+      picked ∙ sym (some-cells chosen)
 
-  pub some-cells : (chosen : ℕ) → total ones (pick (spell 64 chosen) (take (h .nsat) (h .strips))) ≡ length (stripCells (pick (spell 64 chosen) (slotsOf h)) (pick (spell 64 chosen) (h .strips)))
-  some-cells chosen = ap (λ (n : ℕ). total ones (pick (spell 64 chosen) (take n (h .strips)))) (sym many) ∙ sym (cells-count (spell 64 chosen) (slotsOf h) (h .strips) (s .shaped .strips-narrow) (lends .covered))
+  pub few-chosen : (chosen : ℕ) → total ones (pick (spell 64 chosen) (take nsat strips)) ≤ 256
+  few-chosen chosen = omega (arith, some-cells chosen, z .lent .cells, cells-few (spell 64 chosen) sats strips)
 
-  pub few-chosen : (chosen : ℕ) → length (stripCells (pick (spell 64 chosen) (slotsOf h)) (pick (spell 64 chosen) (h .strips))) ≤ 256
-  few-chosen chosen = omega (arith, all-cells, s .few-cells, cells-few (spell 64 chosen) (slotsOf h) (h .strips))
+-- ---- satellites whose rows have no IODE
 
-  -- ---- satellites whose rows have no IODE
-
-  pub alike : (chosen shape width : ℕ) → chosen < 2 ^ 64 → (shape ≡ 2 → ⊥) → (shape ≡ 3 → ⊥) → width ≡ shapeWidth (shapeAt shape 0)
-      → let some = ones (chosen / 2 ^ (64 - h .nsat)) in Counts (linesOver (viewOf h) (Satellites chosen) shape) (record { bits = some * width; rows = some })
-  unfolding linesOver
-  alike chosen shape width small not-orbit not-both wide =
-      satellites-alike (shapeAt shape) width chosen (h .nsat) _ (slotsOf h) (λ system. ap shapeWidth (one-shape system shape (no-iode shape not-orbit not-both)) ∙ sym wide) small many few refl
+pub alike : (sats : List Satellite) (n : ℕ) → length sats ≡ n → n ≤ 64 → (chosen shape width : ℕ) → chosen < 2 ^ 64 → (shape ≡ 2 → ⊥) → (shape ≡ 3 → ⊥) → width ≡ shapeWidth (shapeAt shape 0)
+    → let some = ones (chosen / 2 ^ (64 - n)) in Counts (chosenLines chosen (alone (shapeAt shape) sats)) (record { bits = some * width; rows = some })
+alike sats n many few chosen shape width small not-orbit not-both wide =
+    rw (alone-chosen (shapeAt shape) chosen sats)
+    (satellites-alike (shapeAt shape) width chosen n _ sats (λ system. ap shapeWidth (one-shape system shape (no-iode shape not-orbit not-both)) ∙ sym wide) small many few refl)
 
 -- ---- what is lent is the holding's
 
@@ -247,3 +263,6 @@ module _ {h : Holding} {ids masks strips : List ℕ} (l : Lends h ids masks stri
 
   pub lent-well : sound h ≡ true → Lent ids masks strips
   lent-well e = rw (l .named, l .masked, l .striped) (lends h e)
+
+  pub lent-sizes : sound h ≡ true → Sized ids masks strips (h .nsat) (h .ncell)
+  lent-sizes e = rw (l .named, l .masked, l .striped) (sizes h e)

@@ -24,6 +24,14 @@ pub record Lent (ids masks strips : List ℕ) : Type 0 where
   pub satellites : length (slotSatellites ids masks) ≤ 64
   pub cells : length (stripCells (slotSatellites ids masks) strips) ≤ 256
 
+-- how many satellites and cells they have, of strips that are strips
+pub record Sized (ids masks strips : List ℕ) (nsat ncell : ℕ) : Type 0 where
+  pub lent : Lent ids masks strips
+  pub satellites : length (slotSatellites ids masks) ≡ nsat
+  pub cells : ncell ≡ length (stripCells (slotSatellites ids masks) strips)
+  pub thin : narrow 16 strips ≡ true
+  pub most : length strips ≤ 64
+
 -- they are a holding's: the IDs of its slots, and its masks and strips whole
 pub record Lends (h : Holding) (ids masks strips : List ℕ) : Type 0 where
   pub named : ids ≡ take (h .count) (h .ids)

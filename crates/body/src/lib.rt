@@ -7,22 +7,21 @@ pub mod tail;
 pub mod whole;
 
 ghost use mathlib.Core.Path.{_≡_};
-ghost use mathlib.Core.Bool.{true};
-ghost use mathlib.Core.List.{flatten};
-ghost use Prim.Native.Nat.{_+_, _*_, _≤_};
-ghost use lib.ListN.{length};
+ghost use mathlib.Core.Bool.{cond};
+ghost use Prim.Native.Nat.{_+_, _-_, _*_, _^_, _≤_};
+ghost use lib.Count.{ones};
+ghost use lib.ListN.{length, take};
 ghost use Rattle.bits.specs.BitLists.{spell};
 ghost use Rattle.body.specs.Asking.{Fills};
-ghost use Rattle.body.specs.Lent.{viewBy, Lends};
-ghost use Rattle.body.specs.Written.{Counts};
+ghost use Rattle.body.specs.Chosen.{alone, chosenLines};
+ghost use Rattle.body.specs.Lent.{viewBy, Slots, Sized};
+ghost use Rattle.body.specs.Written.{numbersAt, windowed, Counts};
+ghost use Rattle.format.specs.Lengths.{total};
 ghost use Rattle.format.specs.Masks.{pick};
 ghost use Rattle.format.specs.Reading.{over};
-ghost use Rattle.holding.specs.Held.{stripCells, slotsOf, viewOf};
-ghost use Rattle.holding.specs.Pictures.{sound};
-ghost use Rattle.rows.specs.At.{rowsAt};
-ghost use Rattle.table.specs.declared.Keys.the-variants.{Satellites};
-ghost use Rattle.table.specs.Bodies.{linesIn, linesOver, Fits};
-use holding::Holding;
+ghost use Rattle.holding.specs.Held.{slotSatellites};
+ghost use Rattle.rows.specs.Table.{shapeAt};
+ghost use Rattle.table.specs.Bodies.{linesIn, Fits};
 use rows::shape::Shape;
 use rows::shapes;
 use table::ALL;
@@ -81,45 +80,55 @@ fn alike(rows: usize, width: usize) -> Extent
     }
 }
 
-// How long the rows of the satellites that are chosen are: of one width, unless an IODE is in them.
-fn satellites_size(h: Holding, ids: &[u8], masks: &[u64], shape: usize, chosen: u64) -> Extent
-    requires { ⌜ (sound h ≡ true) × Lends h (now ids) (now masks) (h .strips) ⌝ }
-    ensures { λ r. ⌜ Counts (linesOver (viewOf h) (Satellites chosen) shape) r ⌝ }
+// How long the rows of the satellites that are chosen are, of n: of one width, unless an IODE is in them.
+fn satellites_size(n: usize, ids: &[u8], masks: &[u64], shape: usize, chosen: u64) -> Extent
+    requires { ⌜ Slots (now ids) (now masks) × (length (slotSatellites (now ids) (now masks)) ≡ n) × (n ≤ 64) ⌝ }
+    ensures { λ r. ⌜ Counts (chosenLines chosen (alone (shapeAt shape) (slotSatellites (now (ids .entry)) (now (masks .entry))))) r ⌝ }
 {
     if shape < shapes::ORBIT || shape > shapes::COMBINED {
-        return satellites::size_alike(h.nsat, shapes::width_of(shape), chosen);
+        return satellites::size_alike(n, shapes::width_of(shape), chosen);
     }
-    satellites::size(h.nsat, ids, masks, shape, chosen)
+    satellites::size(n, ids, masks, shape, chosen)
 }
 
-// How many cells the satellites that are chosen have.
-fn cells_chosen(h: Holding, strips: &[u16], chosen: u64) -> usize
-    requires { ⌜ (sound h ≡ true) × (now strips ≡ h .strips) ⌝ }
-    ensures { λ r. ⌜ r ≡ length (stripCells (pick (spell 64 chosen) (slotsOf h)) (pick (spell 64 chosen) (h .strips))) ⌝ }
+// How many cells those of n satellites have that are chosen; all of them are known.
+fn cells_chosen(n: usize, all: usize, strips: &[u16], chosen: u64) -> usize
+    requires { ⌜ (n ≤ 64) × (n ≤ length (now strips)) × ((chosen ≡ 2 ^ 64 - 1) → all ≡ total ones (pick (spell 64 chosen) (take n (now strips)))) ⌝ }
+    ensures { λ r. ⌜ r ≡ total ones (pick (spell 64 chosen) (take n (now (strips .entry)))) ⌝ }
 {
     if chosen == ALL {
-        return h.ncell;
+        return all;
     }
-    let n = h.nsat;
     cells::count(&strips[..n], chosen)
 }
 
-// How long the body is.
-pub fn size(h: Holding, ids: &[u8], masks: &[u64], strips: &[u16], body: Body) -> Extent
-    requires { ⌜ (sound h ≡ true) × Lends h (now ids) (now masks) (now strips) × Fits body ⌝ }
-    ensures { λ r. ⌜ Counts (linesIn (viewOf h) body) r ⌝ }
+// How long the body is, under slots and strips of so many satellites and cells.
+pub fn size(
+    nsat: usize,
+    ncell: usize,
+    ids: &[u8],
+    masks: &[u64],
+    strips: &[u16],
+    body: Body,
+) -> Extent
+    requires { ⌜ Sized (now ids) (now masks) (now strips) nsat ncell × Fits body ⌝ }
+    ensures { λ r. ⌜ Counts (linesIn (viewBy (now (ids .entry)) (now (masks .entry)) (now (strips .entry))) body) r ⌝ }
 {
     let keys = body.keys;
     let shape = body.shape;
     match keys {
-        Keys::Satellites(chosen) => satellites_size(h, ids, masks, shape, chosen),
-        Keys::Cells(chosen) => alike(cells_chosen(h, strips, chosen), shapes::width_of(shape)),
+        Keys::Satellites(chosen) => satellites_size(nsat, ids, masks, shape, chosen),
+        Keys::Cells(chosen) => alike(
+            cells_chosen(nsat, ncell, strips, chosen),
+            shapes::width_of(shape),
+        ),
         Keys::Parts(parts) => alike(parts, shapes::width_of(shape)),
     }
 }
 
-// The rows of a body under the slots and strips that are lent, into the row buffer. Where the string ends too soon
-// behind the body for windows, its end is read from a copy.
+// The rows of a body under the slots and strips that are lent, into the row buffer, and whether they are there: where the
+// string ends too soon behind the body for windows they are left to ending::fill. (It would take more of the stack: who
+// reads message after message hands such a body out first.)
 pub fn fill(
     ids: &[u8],
     masks: &[u64],
@@ -127,18 +136,14 @@ pub fn fill(
     placed: Placed,
     bytes: &[u8],
     rows: &mut [i32],
-)
-    requires { ⌜ Fills (now ids) (now masks) (now strips) placed (now rows) × (placed .at + placed .bits ≤ 8 * length (now bytes)) ⌝ }
-    ensures { λ _. ⌜ now (rows .exit) ≡ over (flatten (rowsAt (linesIn (viewBy (now (ids .entry)) (now (masks .entry)) (now (strips .entry))) (placed .body)) (now (bytes .entry)) (placed .at))) (now (rows .entry)) ⌝ }
+) -> bool
+    requires { ⌜ Fills (now ids) (now masks) (now strips) placed (now rows) ⌝ }
+    ensures { λ r. ⌜ r ≡ windowed (now (bytes .entry)) (placed .at + placed .bits) ⌝ }
+    ensures { λ _. ⌜ now (rows .exit) ≡ cond (windowed (now (bytes .entry)) (placed .at + placed .bits)) (over (numbersAt (linesIn (viewBy (now (ids .entry)) (now (masks .entry)) (now (strips .entry))) (placed .body)) (now (bytes .entry)) (placed .at)) (now (rows .entry))) (now (rows .entry)) ⌝ }
 {
-    // two tests and two calls, so that LLVM leaves it out of the loop over messages
-    if bytes.len() == 0 {
-        ending::fill(ids, masks, strips, placed, bytes, rows);
-        return;
-    }
     if (placed.at + placed.bits + 127) / 8 > bytes.len() {
-        ending::fill(ids, masks, strips, placed, bytes, rows);
-        return;
+        return false;
     }
-    whole::fill(ids, masks, strips, placed, bytes, rows)
+    whole::fill(ids, masks, strips, placed, bytes, rows);
+    true
 }

@@ -1,9 +1,10 @@
 -- What the types of the struct's fields say of its lists, and with it: the test of the code is that of the definitions. Assumes nothing.
-use Rattle.bits.proofs.Words.{_≡_, refl, sym, _∙_, Bool, true, false, List, [], _∷_, map, ℕ, _^_, length}
+use Rattle.bits.proofs.Words.{_≡_, refl, sym, _∙_, Bool, true, false, List, [], _∷_, map, ℕ, suc, _^_, length}
 use borrow.Author.Tests.{lt-ltb}
 use denote.Struct.Laws.{u16-laws}
-use lib.ListN.{length-map}
-use mir.Val.{WTs, ofList}
+use lib.ListN.{getD, length-map}
+use mir.Syntax.{w16}
+use mir.Val.{WTs, ofList, Fits}
 use Rattle.format.proofs.Sames.{true-and}
 use Rattle.holding.specs.declared.Holding.{Holding}
 use Rattle.holding.specs.Bounds.{narrow, every}
@@ -23,6 +24,11 @@ pub narrow-typed : (xs : List ℕ) → WTs (ofList (map (u16-laws .val) (map (λ
 unfolding every
 narrow-typed [] w = refl
 narrow-typed (x ∷ xs) w = true-and (lt-ltb x (2 ^ 16) (w .0 .fits)) (narrow-typed xs (w .1))
+
+pub narrow-lent : (xs : List ℕ) → ((i : ℕ) → Fits w16 (getD xs i 0)) → narrow 16 xs ≡ true
+unfolding every
+narrow-lent [] w = refl
+narrow-lent (x ∷ xs) w = true-and (lt-ltb x (2 ^ 16) (w 0 .fits)) (narrow-lent xs (λ i. w (suc i)))
 
 pub tested-is-sound : (h : Holding) → Shaped h → tested h ≡ sound h
 tested-is-sound h shaped = same-test (tested h) (sound h) (tested-sound h shaped) (sound-tested h)

@@ -6,3 +6,4 @@ pub mod Held
 pub mod Testing
 pub mod Assigning
 pub mod Gathering
+pub mod Outlines

@@ -10,8 +10,10 @@ pub mod testing;
 
 ghost use mathlib.Core.Path.{_≡_};
 ghost use Prim.Native.Nat.{_<_};
+ghost use lib.ListN.{length};
 ghost use Rattle.format.specs.Masks.{nothing};
 ghost use Rattle.holding.specs.Building.{withSystem};
+ghost use Rattle.holding.specs.Outlines.{outlineOf, wholeOf};
 ghost use Rattle.holding.specs.Pictures.{pictureOf, sound};
 
 // What is held, as specs/Pictures.antt pictures it: a slot for each system in the order sent (its ID, its
@@ -30,6 +32,82 @@ pub struct Holding {
     pub ncell: usize,
     pub satellites: [u64; Holding::SYSTEMS],
     pub strips: [u16; Holding::SATELLITES],
+}
+
+// What is held but for its masks and strips, which are lent beside it: a struct cannot be lent, and by value the whole of
+// it would be a copy for each function that it goes to.
+pub struct Outline {
+    pub held: bool,
+    pub iod: u8,
+    pub ids: [u8; Holding::SYSTEMS],
+    pub flags: [bool; Holding::SYSTEMS],
+    pub signals: [u16; Holding::SYSTEMS],
+    pub count: usize,
+    pub nsat: usize,
+    pub ncell: usize,
+}
+
+impl Outline {
+    // Whether it is sound with these masks and strips.
+    pub fn is_sound(
+        self,
+        satellites: &[u64; Holding::SYSTEMS],
+        strips: &[u16; Holding::SATELLITES],
+    ) -> bool
+        ensures { λ r. ⌜ r ≡ sound (wholeOf self (now (satellites .entry)) (now (strips .entry))) ⌝ }
+    {
+        self.fits(satellites, strips)
+    }
+
+    fn fits(self, satellites: &[u64], strips: &[u16]) -> bool
+        requires { ⌜ (length (now satellites) ≡ 5) × (length (now strips) ≡ 64) ⌝ }
+        ensures { λ r. ⌜ r ≡ sound (wholeOf self (now (satellites .entry)) (now (strips .entry))) ⌝ }
+    {
+        if !testing::issue_fits(self.held, self.iod, self.count) {
+            return false;
+        }
+        if self.count > Holding::SYSTEMS {
+            return false;
+        }
+        let ids = self.ids;
+        let signals = self.signals;
+        let flags = self.flags;
+        testing::slots_fit(
+            &ids,
+            satellites,
+            &signals,
+            &flags,
+            strips,
+            self.count,
+            self.nsat,
+            self.ncell,
+        )
+    }
+
+    // The holding that it is with these masks and strips.
+    pub fn with(
+        self,
+        satellites: [u64; Holding::SYSTEMS],
+        strips: [u16; Holding::SATELLITES],
+    ) -> Holding
+        ensures { λ r. ⌜ r ≡ wholeOf self satellites strips ⌝ }
+    {
+        let ids = self.ids;
+        let flags = self.flags;
+        let signals = self.signals;
+        Holding {
+            held: self.held,
+            iod: self.iod,
+            ids,
+            flags,
+            signals,
+            count: self.count,
+            nsat: self.nsat,
+            ncell: self.ncell,
+            satellites,
+            strips,
+        }
+    }
 }
 
 impl Holding {
@@ -68,27 +146,29 @@ impl Holding {
     pub fn is_sound(self) -> bool
         ensures { λ r. ⌜ r ≡ sound self ⌝ }
     {
-        if !testing::issue_fits(self.held, self.iod, self.count) {
-            return false;
-        }
-        if self.count > Self::SYSTEMS {
-            return false;
-        }
-        let ids = self.ids;
         let satellites = self.satellites;
-        let signals = self.signals;
-        let flags = self.flags;
         let strips = self.strips;
-        testing::slots_fit(
-            &ids,
-            &satellites,
-            &signals,
-            &flags,
-            &strips,
-            self.count,
-            self.nsat,
-            self.ncell,
-        )
+        let outline = self.outline();
+        outline.is_sound(&satellites, &strips)
+    }
+
+    // All of it but its masks and strips.
+    pub fn outline(self) -> Outline
+        ensures { λ r. ⌜ r ≡ outlineOf self ⌝ }
+    {
+        let ids = self.ids;
+        let flags = self.flags;
+        let signals = self.signals;
+        Outline {
+            held: self.held,
+            iod: self.iod,
+            ids,
+            flags,
+            signals,
+            count: self.count,
+            nsat: self.nsat,
+            ncell: self.ncell,
+        }
     }
 
     // A new mask replaces what was held, whole.

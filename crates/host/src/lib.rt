@@ -12,6 +12,7 @@ ghost use Rattle.format.specs.Messages.{maskMessage};
 ghost use Rattle.format.specs.Programs.{run};
 ghost use Rattle.format.specs.Reading.{bitsFrom, lentAfter, answerOf, over, rowsAfter};
 ghost use Rattle.heads.specs.Sorting.{adoptedBy};
+ghost use Rattle.holding.specs.Outlines.{wholeOf};
 ghost use Rattle.holding.specs.Pictures.{maskOf, sound};
 ghost use Rattle.passing.specs.Passing.{size, bytesOf, holdingIn};
 ghost use Rattle.reader.specs.Readings.{soughtAt};
@@ -24,6 +25,7 @@ use format::Head;
 use format::number;
 use heads::OPENING;
 use holding::Holding;
+use holding::Outline;
 use reader::message::Found;
 
 // What a reading hands out: the answer's number, the place after the message or the start asked for, the row
@@ -110,16 +112,19 @@ fn hand(answer: Answer, start: usize) -> Handed
 }
 
 // Adopts the mask message behind its number and sub type: where it is accepted, the holding's bytes are the mask's.
-fn adopt(holding: &mut [u8], held: Holding, bytes: &[u8], end: usize, place: usize) -> Answer
-    requires { ⌜ Within (now bytes) end place × (sound held ≡ true) × (size ≤ length (now holding)) × (over (bytesOf held) (now holding) ≡ now holding) ⌝ }
-    ensures { λ r. ⌜ r ≡ answerOf (adoptedBy (maskOf held) place (run maskMessage (bitsFrom (now (bytes .entry)) end place))) ⌝ }
-    ensures { λ _. ⌜ now (holding .exit) ≡ bytesAfter (lentAfter (adoptedBy (maskOf held) place (run maskMessage (bitsFrom (now (bytes .entry)) end place)))) (now (holding .entry)) ⌝ }
+fn adopt(holding: &mut [u8], bytes: &[u8], end: usize, place: usize) -> Answer
+    requires { ⌜ Within (now bytes) end place × (sound (holdingIn (now holding)) ≡ true) × (size ≤ length (now holding)) × (over (bytesOf (holdingIn (now holding))) (now holding) ≡ now holding) ⌝ }
+    ensures { λ r. ⌜ r ≡ answerOf (adoptedBy (maskOf (holdingIn (now (holding .entry)))) place (run maskMessage (bitsFrom (now (bytes .entry)) end place))) ⌝ }
+    ensures { λ _. ⌜ now (holding .exit) ≡ bytesAfter (lentAfter (adoptedBy (maskOf (holdingIn (now (holding .entry)))) place (run maskMessage (bitsFrom (now (bytes .entry)) end place)))) (now (holding .entry)) ⌝ }
 {
-    let adoption = adoption::adopt(bytes, end, place);
+    let mut satellites = [0u64; Holding::SYSTEMS];
+    let mut strips = [0u16; Holding::SATELLITES];
+    let adoption = adoption::adopt(bytes, end, place, &mut satellites, &mut strips);
     let answer = adoption.answer;
+    let outline = adoption.outline;
     if let Answer::Message(_, _, _) = answer {
-        let after = held.adopt(adoption.holding);
-        passing::give::holding_over(holding, after);
+        let new = outline.with(satellites, strips);
+        passing::give::holding_over(holding, new);
     }
     answer
 }
@@ -137,15 +142,34 @@ pub extern "C" fn hundurzek_empty(holding: &mut [u8]) -> u64
     0
 }
 
+// What lent bytes say, in parts: masks and strips into what is lent for them. The struct lives here alone, and what comes
+// after it can lie at its place of the stack.
+fn opened(
+    holding: &[u8],
+    satellites: &mut [u64; Holding::SYSTEMS],
+    strips: &mut [u16; Holding::SATELLITES],
+) -> Outline
+    ensures { λ r. ⌜ wholeOf r (now (satellites .exit)) (now (strips .exit)) ≡ holdingIn (now (holding .entry)) ⌝ }
+{
+    let held = passing::take::holding_in(holding);
+    let masks = held.satellites;
+    let cells = held.strips;
+    *satellites = masks;
+    *strips = cells;
+    held.outline()
+}
+
 // Reads one message, unless it is a mask. What is held is here alone: it and the holding that a mask makes can then lie
 // at the same place of the stack.
 fn sought(holding: &[u8], bytes: &[u8], end: usize, start: usize, rows: &mut [i32]) -> Found
     ensures { λ r. ⌜ r ≡ soughtAt (holdingIn (now (holding .entry))) (now (bytes .entry)) end start (length (now (rows .entry))) ⌝ }
     ensures { λ _. ⌜ now (rows .exit) ≡ rowsAfter (hostOutcome (now (holding .entry)) (now (bytes .entry)) end start (now (rows .entry))) (now (rows .entry)) ⌝ }
 {
-    let held = passing::take::holding_in(holding);
-    let is = held.is_sound();
-    walk::single::seek_under(is, held, bytes, end, start, rows)
+    let mut satellites = [0u64; Holding::SYSTEMS];
+    let mut strips = [0u16; Holding::SATELLITES];
+    let outline = opened(holding, &mut satellites, &mut strips);
+    let is = outline.is_sound(&satellites, &strips);
+    walk::single::seek_under(is, outline, &satellites, &strips, bytes, end, start, rows)
 }
 
 // Reads one message.
@@ -164,10 +188,7 @@ pub extern "C" fn hundurzek_read(
     let found = sought(holding, bytes, end, start, rows);
     match found {
         Found::Answered(answer) => hand(answer, start),
-        Found::Mask => {
-            let held = passing::take::holding_in(holding);
-            hand(adopt(holding, held, bytes, end, start + OPENING), start)
-        }
+        Found::Mask => hand(adopt(holding, bytes, end, start + OPENING), start),
     }
 }
 
@@ -194,12 +215,15 @@ pub extern "C" fn hundurzek_walk(
     ensures { λ _. ⌜ now (holding .exit) ≡ walkBytes (hostWalk (now (holding .entry)) (now (bytes .entry)) end (now (rows .entry))) (now (holding .entry)) ⌝ }
     ensures { λ _. ⌜ now (rows .exit) ≡ hostWalk (now (holding .entry)) (now (bytes .entry)) end (now (rows .entry)) .rows ⌝ }
 {
-    let held = passing::take::holding_in(holding);
-    let is = held.is_sound();
-    let halt = walk::walk_under(is, held, bytes, end, rows);
-    let stop = halt.stop;
-    let tally = halt.tally;
-    let after = halt.holding;
+    let mut satellites = [0u64; Holding::SYSTEMS];
+    let mut strips = [0u16; Holding::SATELLITES];
+    let outline = opened(holding, &mut satellites, &mut strips);
+    let is = outline.is_sound(&satellites, &strips);
+    let stopped = walk::walk_under(is, outline, &mut satellites, &mut strips, bytes, end, rows);
+    let stop = stopped.stop;
+    let tally = stopped.tally;
+    let left = stopped.outline;
+    let after = left.with(satellites, strips);
     leave(holding, tally.messages, after);
     Walked {
         answer: answer_number(stop),

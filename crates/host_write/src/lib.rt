@@ -2,19 +2,21 @@
 // `host`: what reader and writer both call would then be one function, and reading take more (docs/DECISIONS.md 68).
 ghost use mathlib.Core.Path.{_≡_};
 ghost use Prim.Native.Nat.{_≤_};
-ghost use lib.ListN.{getD};
+ghost use lib.ListN.{length, getD};
 ghost use Rattle.format.specs.Answers.{done, undoneAt};
 ghost use Rattle.format.specs.Rows.{absent};
 ghost use Rattle.format.specs.Writing.{writing, doneWriting, bytesAfter};
 ghost use Rattle.holding.specs.Pictures.{lentBy};
 ghost use Rattle.passing.specs.Passing.{holdingIn};
-ghost use Rattle.host_write.specs.Writes.{headIn, writtenHanded};
+ghost use Rattle.host_write.specs.Writes.{headIn, withoutHolding, writtenHanded};
 use format::ABSENT;
 use format::Head;
 use format::Refusal;
 use format::number;
-use passing::take::holding_in;
+use passing::take::passes;
+use passing::take::said;
 use writer::Writing;
+use writer::room::limit;
 
 // What is written: the answer's number, the place after the message or the start asked for, the message's length in bits.
 #[repr(C)]
@@ -37,10 +39,33 @@ fn number_at(numbers: &[i32], i: usize) -> i32
     ABSENT
 }
 
-// The first eight numbers as a head.
+// How many numbers a head has.
+const HEAD: usize = 8;
+
+// Eight numbers and more: the first eight as a head.
+fn whole_head(numbers: &[i32]) -> Head
+    requires { ⌜ 8 ≤ length (now numbers) ⌝ }
+    ensures { λ r. ⌜ r ≡ headIn (now (numbers .entry)) ⌝ }
+{
+    Head {
+        subtype: numbers[0],
+        epoch: numbers[1],
+        interval: numbers[2],
+        indicator: numbers[3],
+        iod: numbers[4],
+        a: numbers[5],
+        b: numbers[6],
+        c: numbers[7],
+    }
+}
+
+// The first eight numbers as a head, however many are lent: that a host lends them all is tested once.
 fn head_in(numbers: &[i32]) -> Head
     ensures { λ r. ⌜ r ≡ headIn (now (numbers .entry)) ⌝ }
 {
+    if numbers.len() >= HEAD {
+        return whole_head(numbers);
+    }
     Head {
         subtype: number_at(numbers, 0),
         epoch: number_at(numbers, 1),
@@ -76,7 +101,17 @@ fn refused(start: usize, refusal: Refusal) -> Done
     }
 }
 
-// Writes one message.
+// What is answered where the bytes say no holding: 2 comes before 12 (document 01, "Writer").
+fn no_holding(bytes: &[u8], start: usize) -> Done
+    ensures { λ r. ⌜ r ≡ writtenHanded start (doneWriting start (withoutHolding (now (bytes .entry)) start)) ⌝ }
+{
+    if start > limit(bytes) {
+        return refused(start, Refusal::Place);
+    }
+    refused(start, Refusal::Value)
+}
+
+// Writes one message. Bytes that say no holding are refused before one is made of them.
 #[no_mangle]
 pub extern "C" fn hundurzek_write(
     holding: &[u8],
@@ -89,7 +124,10 @@ pub extern "C" fn hundurzek_write(
     ensures { λ r. ⌜ r ≡ writtenHanded start (doneWriting start (writing (lentBy (holdingIn (now (holding .entry)))) (headIn (now (head .entry))) (now (rows .entry)) count (now (bytes .entry)) start)) ⌝ }
     ensures { λ _. ⌜ now (bytes .exit) ≡ bytesAfter (writing (lentBy (holdingIn (now (holding .entry)))) (headIn (now (head .entry))) (now (rows .entry)) count (now (bytes .entry)) start) (now (bytes .entry)) start ⌝ }
 {
-    let held = holding_in(holding);
+    if !passes(holding) {
+        return no_holding(bytes, start);
+    }
+    let held = said(holding);
     let asked = head_in(head);
     let end = writer::write(held, asked, rows, count, bytes, start);
     match end {

@@ -3,3 +3,4 @@ pub mod ColumnTests
 pub mod RowTests
 pub mod Lines
 pub mod Passing
+pub mod ValueTests

@@ -5,9 +5,12 @@ use Rattle.body.specs.Chosen.{chosenLines}
 use Rattle.format.specs.Rows.{Line}
 use Rattle.matching.specs.declared.fits.Matched.{Matched}
 use Rattle.matching.specs.declared.fits.Matched.the-variants.{Not, To}
+use Rattle.matching.specs.declared.fits.cells.Passed.{Passed as StripsPassed}
+use Rattle.matching.specs.declared.fits.cells.Passed.the-variants as Strips
 use Rattle.matching.specs.declared.fits.satellites.Passed.{Passed}
 use Rattle.matching.specs.declared.fits.satellites.Passed.the-variants.{Stopped, On}
-use Rattle.matching.specs.Matching.{matchedAt, handOn, passedAt}
+use Rattle.matching.specs.Matching.{matchedAt, handOn, passedAt, counted, stripsPassedAt}
+use Rattle.matching.proofs.fits.cells.Passed as StripsDeclared
 use Rattle.matching.proofs.fits.satellites.Passed as Declared
 
 on-matched : (marks : ℕ) (far : Matched) (k left : ℕ) → On k left ≡ handOn marks far → (To k ≡ far) × (left ≡ marks)
@@ -20,6 +23,17 @@ unfolding handOn
 stopped-matched marks Not passed stop e = refl
 stopped-matched marks (To j) Stopped stop e = cc
 stopped-matched marks (To j) (On k left) stop e = absurd (omega arith)
+
+on-counted : (n : ℕ) (passed : Passed) (k m left : ℕ) → Strips.On k m left ≡ counted n passed → (On k left ≡ passed) × (m ≡ n)
+unfolding counted
+on-counted n Stopped k m left e = (cc, cc)
+on-counted n (On j marks) k m left e = (cc, cc)
+
+stopped-counted : (n : ℕ) (passed : Passed) (strips : StripsPassed) → tagOf StripsDeclared.the-type strips ≡ 0 → strips ≡ counted n passed → Stopped ≡ passed
+unfolding counted
+stopped-counted n Stopped strips stop e = refl
+stopped-counted n (On j marks) Strips.Stopped stop e = cc
+stopped-counted n (On j marks) (Strips.On k m left) stop e = absurd (omega arith)
 
 module _ (chosen : ℕ) (groups : List (List Line)) (numbers : List ℤ) (from : ℕ) where
   abbrev far : Matched
@@ -44,3 +58,23 @@ module _ (chosen : ℕ) (groups : List (List Line)) (numbers : List ℤ) (from :
   pub stops : Not ≡ far → Stopped ≡ passedAt chosen groups numbers from
   unfolding passedAt handOn
   stops e = ap (handOn left) e
+
+  -- with the strips that were passed
+  pub strips-on : {strips : StripsPassed} {k n marks : ℕ} → strips ≡ stripsPassedAt chosen groups numbers from → strips ≡ Strips.On k n marks → (To k ≡ far) × (n ≡ length groups) × (marks ≡ left)
+  unfolding stripsPassedAt
+  strips-on {strips} {k} {n} {marks} told on =
+      let on = on-counted (length groups) _ k n marks (sym on ∙ told) in
+      let both = slot-on (on .0) refl in
+      (both .0, on .1, both .1)
+
+  pub strips-stopped : (strips : StripsPassed) → strips ≡ stripsPassedAt chosen groups numbers from → tagOf StripsDeclared.the-type strips ≡ 0 → Not ≡ far
+  unfolding stripsPassedAt
+  strips-stopped strips told stop = slot-stopped Stopped (stopped-counted (length groups) _ strips stop told) refl
+
+  pub strips-go-on : {k n marks : ℕ} → To k ≡ far → n ≡ length groups → marks ≡ left → Strips.On k n marks ≡ stripsPassedAt chosen groups numbers from
+  unfolding stripsPassedAt counted
+  strips-go-on {k} {n} {marks} e many moved = ap (counted n) (goes-on e moved) ∙ ap (λ (m : ℕ). counted m (passedAt chosen groups numbers from)) many
+
+  pub strips-stop : Not ≡ far → Strips.Stopped ≡ stripsPassedAt chosen groups numbers from
+  unfolding stripsPassedAt counted
+  strips-stop e = ap (counted (length groups)) (stops e)

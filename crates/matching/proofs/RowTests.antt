@@ -1,6 +1,6 @@
 -- The eight numbers of a row, and the tests that code makes of them.
 -- Assumes nothing.
-use Rattle.bits.proofs.Words.{_≡_, sym, ap, _∙_, _&&_, List, [], _∷_, ℕ, _-_, _^_, arith, eqb, length, getD, take, drop, ℤ, pos}
+use Rattle.bits.proofs.Words.{_≡_, sym, ap, _∙_, Bool, _&&_, List, [], _∷_, ℕ, _-_, _^_, arith, eqb, length, getD, take, drop, ℤ, pos}
 use mathlib.Core.Bool.{and-true}
 use borrow.Author.Tests.{eqb-true, eq-eqb}
 use lib.ListN.{length-drop}
@@ -10,7 +10,7 @@ use mir.Syntax.{w32}
 use mir.Val.{SFits, toZ, ofZ}
 use Rattle.bits.proofs.Lists.{elements, taken}
 use Rattle.format.proofs.Sames.{sameℤ-sound, sameℤ-refl, same-test}
-use Rattle.format.specs.Rows.{absent}
+use Rattle.format.specs.Rows.{absent, Column, gap}
 use Rattle.format.specs.Same.{sameList, sameℤ}
 use Rattle.holding.proofs.Tests.{and-assoc}
 use Rattle.rows.specs.declared.row.Key.{Key}
@@ -31,10 +31,18 @@ same-bits a b fa fb =
     same-test (eqb (ofZ w32 a) (ofZ w32 b)) (sameℤ a b) (λ e. ap (sameℤ a) (sym (bits-same a b fa fb (eqb-true _ _ e))) ∙ sameℤ-refl a)
     (λ e. eq-eqb _ _ (ap (ofZ w32) (sameℤ-sound a b e)))
 
--- and fits a gap just where its bits are those of an absent one
-pub gap-bits : (c : CodeColumn) (v : ℤ) → c .width ≡ 0 → SFits w32 v → eqb (ofZ w32 v) (2 ^ 32 - 32768) ≡ columnFits (columnOf c) v
+-- so it is with an absent one
+pub absent-bits : (v : ℤ) → SFits w32 v → eqb (ofZ w32 v) (2 ^ 32 - 32768) ≡ sameℤ v absent
+absent-bits v fits = same-bits v absent fits (record { sfits = omega arith })
+
+-- which alone fits a gap
+pub gap-fits : (c : CodeColumn) (v : ℤ) → c .width ≡ 0 → sameℤ v absent ≡ columnFits (columnOf c) v
 unfolding columnFits
-gap-bits c v none fits = rw (gap-of c none) (same-bits v absent fits (record { sfits = omega arith }))
+gap-fits c v none = rw (gap-of c none)
+
+-- a value that was read from a row is that value
+pub read-fits : (c : CodeColumn) (v : ℤ) {r : Bool} → SFits w32 v → r ≡ columnFits (columnOf c) (toZ w32 (ofZ w32 v)) → r ≡ columnFits (columnOf c) v
+read-fits c v fits told = told ∙ ap (columnFits (columnOf c)) (toZ-ofZ fits)
 
 -- ---- a row's tests, number by number
 
@@ -54,13 +62,24 @@ module _ (r : List ℤ) (eight : length r ≡ 8) where
   unfolding sameList
   keys-by key = rw (three, and-true (sameℤ (number 2) (key .signal)))
 
-  pub values-by : (s : Shape) → valuesFit (columnsOf s) (drop 3 r)
+  pub values-by : (a b c d e : Column) → valuesFit (a ∷ b ∷ c ∷ d ∷ e ∷ []) (drop 3 r)
+      ≡ (columnFits a (number 3) && (columnFits b (number 4) && (columnFits c (number 5) && (columnFits d (number 6) && columnFits e (number 7)))))
+  unfolding valuesFit
+  values-by a b c d e = rw (five, and-true (columnFits e (number 7)))
+
+  -- the third and the fourth are tested together
+  pub shape-by : (s : Shape) → valuesFit (columnsOf s) (drop 3 r)
       ≡ (columnFits (columnOf (s .v1)) (number 3) && (columnFits (columnOf (s .v2)) (number 4)
       && ((columnFits (columnOf (s .v3)) (number 5) && columnFits (columnOf (s .v4)) (number 6)) && columnFits (columnOf (s .v5)) (number 7))))
-  unfolding columnsOf valuesFit
-  values-by s =
+  unfolding columnsOf
+  shape-by s =
       rw (
-        five,
-        and-true (columnFits (columnOf (s .v5)) (number 7)),
+        values-by (columnOf (s .v1)) (columnOf (s .v2)) (columnOf (s .v3)) (columnOf (s .v4)) (columnOf (s .v5)),
         and-assoc (columnFits (columnOf (s .v3)) (number 5)) (columnFits (columnOf (s .v4)) (number 6)) (columnFits (columnOf (s .v5)) (number 7)),
       )
+
+  -- and where behind two columns there are gaps
+  pub pair-by : (a b : Column) → valuesFit (a ∷ b ∷ gap ∷ gap ∷ gap ∷ []) (drop 3 r)
+      ≡ (columnFits a (number 3) && (columnFits b (number 4) && (sameℤ (number 5) absent && (sameℤ (number 6) absent && sameℤ (number 7) absent))))
+  unfolding columnFits
+  pair-by a b = values-by a b gap gap gap

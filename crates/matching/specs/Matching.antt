@@ -1,18 +1,25 @@
 -- How far rows fit lines: they are tested line by line from a number of those lent on, up to the first that does not fit.
 use mathlib.Core.Bool.{cond, _&&_}
 use mathlib.Core.List.{List, [], _∷_}
+use mathlib.Core.Path.{_≡_}
 use Prim.Native.Nat.{ℕ, _+_, _*_, _%_, _^_}
 use lib.Dec.{leb}
 use lib.IntN.{ℤ}
 use lib.ListN.{length, take, drop}
 use Rattle.body.specs.Chosen.{chosenLines}
 use Rattle.format.specs.Messages.{iodeWidth}
-use Rattle.format.specs.Rows.{Line}
+use Rattle.format.specs.Rows.{Column, Line, gap}
 use Rattle.rows.specs.declared.row.Key.{Key}
+use Rattle.rows.specs.declared.shape.Column.{Column as CodeColumn}
 use Rattle.rows.specs.declared.shape.Shape.{Shape}
-use Rattle.rows.specs.Shapes.{columnsOf, orbitOf}
+use Rattle.rows.specs.Shapes.{columnOf, columnsOf, orbitOf, Narrow}
+use Rattle.rows.specs.Table.{shapeFor}
+use Rattle.table.specs.declared.Body.{Body}
+use Rattle.table.specs.Bodies.{Fits}
 use Rattle.matching.specs.declared.fits.Matched.{Matched}
 use Rattle.matching.specs.declared.fits.Matched.the-variants.{Not, To}
+use Rattle.matching.specs.declared.fits.cells.Passed.{Passed as StripsPassed}
+use Rattle.matching.specs.declared.fits.cells.Passed.the-variants as Strips
 use Rattle.matching.specs.declared.fits.satellites.Passed.{Passed}
 use Rattle.matching.specs.declared.fits.satellites.Passed.the-variants.{Stopped, On}
 use Rattle.fitting.specs.Fits.{rowFits}
@@ -23,6 +30,23 @@ keysOf key = key .system ∷ key .satellite ∷ key .signal ∷ []
 
 abbrev pub lineOf : Key → Shape → Line
 lineOf key s = record { keys = keysOf key; shape = columnsOf s }
+
+-- the same of two columns, with gaps behind
+abbrev pub pairColumns : CodeColumn → CodeColumn → List Column
+pairColumns v1 v2 = columnOf v1 ∷ columnOf v2 ∷ gap ∷ gap ∷ gap ∷ []
+
+abbrev pub pairOf : Key → CodeColumn → CodeColumn → Line
+pairOf key v1 v2 = record { keys = keysOf key; shape = pairColumns v1 v2 }
+
+-- which shape that is
+pub record Paired (s : Shape) : Type 0 where
+  pub narrow : Narrow s
+  pub third : s .v3 .width ≡ 0
+
+-- a body whose keys can have its shape, with that shape of the table
+pub record MadeFor (body : Body) (s : Shape) : Type 0 where
+  pub fits : Fits body
+  pub made : s ≡ shapeFor (body .shape)
 
 -- the shape of a system's rows: an IODE is as wide as the system has it
 unfoldable pub shapeOn : Shape → ℕ → Shape
@@ -40,3 +64,11 @@ handOn marks (To k) = On k marks
 
 unfoldable pub passedAt : ℕ → List (List Line) → List ℤ → ℕ → Passed
 passedAt chosen groups numbers k = handOn (chosen * 2 ^ length groups % 2 ^ 64) (matchedAt (chosenLines chosen groups) numbers k)
+
+-- and of cells how many satellites that were, each with its strip
+unfoldable pub counted : ℕ → Passed → StripsPassed
+counted n Stopped = Strips.Stopped
+counted n (On k marks) = Strips.On k n marks
+
+unfoldable pub stripsPassedAt : ℕ → List (List Line) → List ℤ → ℕ → StripsPassed
+stripsPassedAt chosen groups numbers k = counted (length groups) (passedAt chosen groups numbers k)

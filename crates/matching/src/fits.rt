@@ -3,16 +3,17 @@ pub mod cells;
 pub mod line;
 pub mod packet;
 pub mod satellites;
+pub mod values;
 
 ghost use mathlib.Core.Path.{_≡_};
 ghost use Prim.Native.Nat.{_*_, _≤_};
 ghost use lib.ListN.{length};
 ghost use Rattle.body.specs.Lent.{viewBy, Lent};
 ghost use Rattle.format.specs.Writing.{rowsIn};
-ghost use Rattle.table.specs.Bodies.{linesIn, Fits};
+ghost use Rattle.table.specs.Bodies.{linesIn};
 ghost use Rattle.fitting.specs.Fits.{rowsFit};
-ghost use Rattle.matching.specs.Matching.{matchedAt};
-use rows::shapes;
+ghost use Rattle.matching.specs.Matching.{matchedAt, MadeFor};
+use rows::shape::Shape;
 use table::Body;
 use table::Keys;
 
@@ -22,20 +23,23 @@ pub enum Matched {
     To(usize),
 }
 
+// A body with the shape of its rows, which its caller looked up once for all that it does with them.
+pub struct Shaped {
+    pub body: Body,
+    pub shape: Shape,
+}
+
 // How far the rows that are lent fit the lines of a body.
-fn reach(ids: &[u8], masks: &[u64], strips: &[u16], body: Body, rows: &[i32]) -> Matched
-    requires { ⌜ Lent (now ids) (now masks) (now strips) × Fits body ⌝ }
-    ensures { λ r. ⌜ r ≡ matchedAt (linesIn (viewBy (now (ids .entry)) (now (masks .entry)) (now (strips .entry))) body) (now (rows .entry)) 0 ⌝ }
+fn reach(ids: &[u8], masks: &[u64], strips: &[u16], shaped: Shaped, rows: &[i32]) -> Matched
+    requires { ⌜ Lent (now ids) (now masks) (now strips) × MadeFor (shaped .body) (shaped .shape) ⌝ }
+    ensures { λ r. ⌜ r ≡ matchedAt (linesIn (viewBy (now (ids .entry)) (now (masks .entry)) (now (strips .entry))) (shaped .body)) (now (rows .entry)) 0 ⌝ }
 {
+    let body = shaped.body;
     let keys = body.keys;
-    let shape = body.shape;
+    let s = shaped.shape;
     match keys {
-        Keys::Satellites(chosen) => {
-            satellites::reach(ids, masks, shapes::shape_of(shape), chosen, rows)
-        }
-        Keys::Cells(chosen) => {
-            cells::reach(ids, masks, strips, shapes::shape_of(shape), chosen, rows)
-        }
+        Keys::Satellites(chosen) => satellites::reach(ids, masks, s, chosen, rows),
+        Keys::Cells(chosen) => cells::reach(ids, masks, strips, s, chosen, rows),
         Keys::Parts(parts) => packet::reach(parts, rows),
     }
 }
@@ -45,15 +49,15 @@ pub fn rows_fit(
     ids: &[u8],
     masks: &[u64],
     strips: &[u16],
-    body: Body,
+    shaped: Shaped,
     rows: &[i32],
     count: usize,
 ) -> bool
-    requires { ⌜ Lent (now ids) (now masks) (now strips) × Fits body × (8 * count ≤ length (now rows)) ⌝ }
-    ensures { λ r. ⌜ r ≡ rowsFit (linesIn (viewBy (now (ids .entry)) (now (masks .entry)) (now (strips .entry))) body) (rowsIn count (now (rows .entry))) ⌝ }
+    requires { ⌜ Lent (now ids) (now masks) (now strips) × MadeFor (shaped .body) (shaped .shape) × (8 * count ≤ length (now rows)) ⌝ }
+    ensures { λ r. ⌜ r ≡ rowsFit (linesIn (viewBy (now (ids .entry)) (now (masks .entry)) (now (strips .entry))) (shaped .body)) (rowsIn count (now (rows .entry))) ⌝ }
 {
     let end = 8 * count;
-    let far = reach(ids, masks, strips, body, &rows[..end]);
+    let far = reach(ids, masks, strips, shaped, &rows[..end]);
     match far {
         Matched::Not => false,
         Matched::To(k) => k == end,

@@ -1,3 +1,4 @@
+pub mod Filling
 pub mod Littles
 pub mod Parts
 pub mod Placing

@@ -1,11 +1,11 @@
 -- Numbers of bytes, the least byte first, by places. Assumes nothing.
-use Rattle.bits.proofs.Words.{_≡_, refl, sym, ap, _∙_, Bool, true, false, _&&_, List, [], _∷_, _++_, ℕ, zero, suc, _+_, _*_, _^_, _≤_, arith, leb, length, getD, take, drop}
+use Rattle.bits.proofs.Words.{_≡_, refl, sym, _∙_, Bool, true, false, _&&_, List, [], _∷_, ℕ, suc, _+_, _*_, _^_, _≤_, arith, leb, length, getD, take, drop}
 use native.Mathlib.Nat.{add-zero}
 use borrow.Author.Tests.{leb-true, leb-false, le-leb, lt-leb}
 use lib.Bits.{bitOr, or-lt, or-add-and, and-le-l, and-le-r}
 use lib.Seq.{take-all, drop-drop, getD-drop}
 use Rattle.bits.proofs.Lists.{elements, taken}
-use Rattle.passing.specs.Bytes.{little, littles}
+use Rattle.passing.specs.Bytes.{little}
 
 -- the number from the j-th byte behind the i-th on: that byte, and 256 times the number from the next on
 little-step : (k : ℕ) (bs : List ℕ) (i j : ℕ) → little (suc k) (drop (i + j) bs) ≡ getD bs (i + j) 0 + 256 * little k (drop (i + suc j) bs)
@@ -35,23 +35,6 @@ five d l i room = rw add-zero at (taken d l i 0 5 (omega arith))
 -- and all of five
 pub all-five : {A : Type 0} (d : A) (l : List A) → length l ≡ 5 → getD l 0 d ∷ getD l 1 d ∷ getD l 2 d ∷ getD l 3 d ∷ getD l 4 d ∷ [] ≡ l
 all-five d l e = sym (five d l 0 (omega arith)) ∙ take-all 5 l (omega arith)
-
--- five numbers from a byte on
-pub five-littles : (k : ℕ) (bs : List ℕ) (i : ℕ)
-    → littles k 5 (drop i bs)
-    ≡ little k (drop i bs) ∷ little k (drop (i + k) bs) ∷ little k (drop (i + k + k) bs) ∷ little k (drop (i + k + k + k) bs) ∷ little k (drop (i + k + k + k + k) bs) ∷ []
-unfolding littles
-five-littles k bs i = rw (drop-drop k i bs, drop-drop k (i + k) bs, drop-drop k (i + k + k) bs, drop-drop k (i + k + k + k) bs)
-
--- one number more
-pub littles-more : (k n : ℕ) (bs : List ℕ) → littles k (suc n) bs ≡ littles k n bs ++ (little k (drop (k * n) bs) ∷ [])
-unfolding littles
-littles-more k zero bs =
-    let none : k * 0 ≡ 0 = omega arith in
-    rw none
-littles-more k (suc n) bs =
-    let e : k * suc n ≡ k + k * n = omega arith in
-    rw (e, ← (drop-drop (k * n) k bs)) (ap (λ (l : List ℕ). little k bs ∷ l) (littles-more k n (drop k bs)))
 
 -- two bytes stand for truths where their bits together do
 pub or-truth : (a b : ℕ) → leb (bitOr a b) 1 ≡ (leb a 1 && leb b 1)

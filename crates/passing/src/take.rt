@@ -1,7 +1,7 @@
 // A holding out of lent bytes.
 ghost use mathlib.Core.Path.{_≡_};
 ghost use mathlib.Core.List.{map};
-ghost use Prim.Native.Nat.{_+_, _≤_};
+ghost use Prim.Native.Nat.{_+_, _*_, _≤_};
 ghost use lib.ListN.{length, take, drop};
 ghost use Rattle.passing.specs.Bytes.{little, littles};
 ghost use Rattle.passing.specs.Passing.{size, truths, truth, passes, said, stray, holdingIn};
@@ -38,18 +38,27 @@ fn long(bytes: &[u8], i: usize) -> u64
     )
 }
 
-// The strips of 64 satellites.
-fn strips(bytes: &[u8]) -> [u16; Holding::SATELLITES]
-    requires { ⌜ size ≤ length (now bytes) ⌝ }
-    ensures { λ r. ⌜ r ≡ littles 2 64 (drop 66 (now (bytes .entry))) ⌝ }
+// Some numbers of two bytes, from a byte on, and of eight.
+fn words(to: &mut [u16], bytes: &[u8], from: usize)
+    requires { ⌜ (from + 2 * length (now to) ≤ length (now bytes)) × (length (now to) ≤ 64) ⌝ }
+    ensures { λ _. ⌜ now (to .exit) ≡ littles 2 (length (now (to .entry))) (drop from (now (bytes .entry))) ⌝ }
 {
-    let mut strips = [0u16; Holding::SATELLITES];
     let mut i = 0;
-    while i < Holding::SATELLITES {
-        strips[i] = word(bytes, STRIPS + 2 * i);
+    while i < to.len() {
+        to[i] = word(bytes, from + 2 * i);
         i += 1;
     }
-    strips
+}
+
+fn longs(to: &mut [u64], bytes: &[u8], from: usize)
+    requires { ⌜ (from + 8 * length (now to) ≤ length (now bytes)) × (length (now to) ≤ 64) ⌝ }
+    ensures { λ _. ⌜ now (to .exit) ≡ littles 8 (length (now (to .entry))) (drop from (now (bytes .entry))) ⌝ }
+{
+    let mut i = 0;
+    while i < to.len() {
+        to[i] = long(bytes, from + 8 * i);
+        i += 1;
+    }
 }
 
 // A value of the struct that is no holding: a system where no mask is held.
@@ -73,13 +82,13 @@ fn ids(bytes: &[u8]) -> [u8; Holding::SYSTEMS]
     requires { ⌜ size ≤ length (now bytes) ⌝ }
     ensures { λ r. ⌜ r ≡ take 5 (drop 6 (now (bytes .entry))) ⌝ }
 {
-    [
-        bytes[IDS],
-        bytes[IDS + 1],
-        bytes[IDS + 2],
-        bytes[IDS + 3],
-        bytes[IDS + 4],
-    ]
+    let mut ids = [0u8; Holding::SYSTEMS];
+    let mut i = 0;
+    while i < Holding::SYSTEMS {
+        ids[i] = bytes[IDS + i];
+        i += 1;
+    }
+    ids
 }
 
 fn flags(bytes: &[u8]) -> [bool; Holding::SYSTEMS]
@@ -99,30 +108,32 @@ fn signals(bytes: &[u8]) -> [u16; Holding::SYSTEMS]
     requires { ⌜ size ≤ length (now bytes) ⌝ }
     ensures { λ r. ⌜ r ≡ littles 2 5 (drop 16 (now (bytes .entry))) ⌝ }
 {
-    [
-        word(bytes, SIGNALS),
-        word(bytes, SIGNALS + 2),
-        word(bytes, SIGNALS + 4),
-        word(bytes, SIGNALS + 6),
-        word(bytes, SIGNALS + 8),
-    ]
+    let mut signals = [0u16; Holding::SYSTEMS];
+    words(&mut signals, bytes, SIGNALS);
+    signals
 }
 
 fn satellites(bytes: &[u8]) -> [u64; Holding::SYSTEMS]
     requires { ⌜ size ≤ length (now bytes) ⌝ }
     ensures { λ r. ⌜ r ≡ littles 8 5 (drop 26 (now (bytes .entry))) ⌝ }
 {
-    [
-        long(bytes, SATELLITES),
-        long(bytes, SATELLITES + 8),
-        long(bytes, SATELLITES + 16),
-        long(bytes, SATELLITES + 24),
-        long(bytes, SATELLITES + 32),
-    ]
+    let mut satellites = [0u64; Holding::SYSTEMS];
+    longs(&mut satellites, bytes, SATELLITES);
+    satellites
+}
+
+// The strips of 64 satellites.
+fn strips(bytes: &[u8]) -> [u16; Holding::SATELLITES]
+    requires { ⌜ size ≤ length (now bytes) ⌝ }
+    ensures { λ r. ⌜ r ≡ littles 2 64 (drop 66 (now (bytes .entry))) ⌝ }
+{
+    let mut strips = [0u16; Holding::SATELLITES];
+    words(&mut strips, bytes, STRIPS);
+    strips
 }
 
 // What so many bytes say.
-fn said(bytes: &[u8]) -> Holding
+pub fn said(bytes: &[u8]) -> Holding
     requires { ⌜ size ≤ length (now bytes) ⌝ }
     ensures { λ r. ⌜ r ≡ said (now (bytes .entry)) ⌝ }
 {
@@ -141,7 +152,7 @@ fn said(bytes: &[u8]) -> Holding
 }
 
 // Whether there are 194, and those that stand for a truth are 0 or 1.
-fn passes(bytes: &[u8]) -> bool
+pub fn passes(bytes: &[u8]) -> bool
     ensures { λ r. ⌜ r ≡ passes (now (bytes .entry)) ⌝ }
 {
     if bytes.len() < SIZE {

@@ -1,3 +1,4 @@
 pub mod Pens
 pub mod Numbers
 pub mod Gathered
+pub mod Begun

@@ -7,6 +7,7 @@ pub mod MaskLengths
 pub mod ColumnBits
 pub mod RowFields
 pub mod RowBits
-pub mod FirstColumns
+pub mod OwnColumns
 pub mod RowPens
 pub mod RowLoops
+pub mod RowSizes

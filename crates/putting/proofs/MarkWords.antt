@@ -17,7 +17,7 @@ use Rattle.format.specs.Spelling.{marks}
 use Rattle.format.specs.Writing.{rowsIn}
 use Rattle.holding.specs.Pictures.{filled}
 use Rattle.putting.specs.declared.marks.Told.{Told}
-use Rattle.putting.specs.Marking.{marksWord, hasRow, toldBy, toldAfter, Tells}
+use Rattle.putting.specs.Marking.{marksWord, markedBy, hasRow, toldBy, toldAfter, Tells}
 use Rattle.fitting.proofs.FitFlagged.{marks-count}
 use Rattle.putting.proofs.Marking.{tells-next}
 
@@ -122,6 +122,22 @@ told-marks numbers (s ∷ ss) t z k bit =
     go true = omega (arith, here, number-next true on (length ss) z (marks-count ss (rowsFrom numbers (t .at + 8))))
     go false = omega (arith, here, number-next false past (length ss) z (marks-count ss (rowsFrom numbers (t .at))))
 
+-- and how far: eight numbers for each that has a row
+told-far : (numbers : List ℤ) (sats : List Satellite) (t : Told) → Tells numbers t
+    → toldAfter numbers sats t .at ≡ t .at + 8 * length (pick (marks sats (rowsFrom numbers (t .at))) sats)
+unfolding toldAfter marks pick
+told-far numbers [] t k = omega arith
+told-far numbers (s ∷ ss) t k =
+    told-far numbers ss _ (tells-next (hasRow numbers (t .at) s) k)
+    ∙ go (hasRow numbers (t .at) s)
+    ∙ ap (λ (l : List Bool). t .at + 8 * length (pick l (s ∷ ss))) (sym (marks-next numbers (t .at) s ss (k .whole) (k .place)))
+  where
+    go : (b : Bool)
+        → toldBy b t .at + 8 * length (pick (marks ss (rowsFrom numbers (toldBy b t .at))) ss)
+        ≡ t .at + 8 * length (pick (b ∷ cond b (marks ss (rowsFrom numbers (t .at + 8))) (marks ss (rowsFrom numbers (t .at)))) (s ∷ ss))
+    go true = omega arith
+    go false = refl
+
 zeros : (n : ℕ) → number (replicate n false) ≡ 0
 unfolding number
 zeros zero = refl
@@ -144,16 +160,23 @@ word-small sats rows few =
     subst (λ (n : ℕ). number (l ++ more) < 2 ^ n) long (number-lt (l ++ more))
 
 -- all of it, from the first satellite's bit on
-pub told-word : (numbers : List ℤ) (sats : List Satellite) (count : ℕ) → length sats ≤ 64 → length numbers ≡ 8 * count
-    → toldAfter numbers sats (record { at = 0; next = 2 ^ 63; word = 0 }) .word ≡ marksWord sats (rowsIn count numbers)
-unfolding rowsFrom
-told-word numbers sats count few long =
+pub told-marked : (numbers : List ℤ) (sats : List Satellite) (count : ℕ) → length sats ≤ 64 → length numbers ≡ 8 * count
+    → let t = toldAfter numbers sats (record { at = 0; next = 2 ^ 63; word = 0 }) in record { word = t .word; told = t .at } ≡ markedBy sats (rowsIn count numbers)
+unfolding rowsFrom markedBy
+told-marked numbers sats count few long =
     let z : ℕ = 64 - length sats in
+    let first : Told = record { at = 0; next = 2 ^ 63; word = 0 } in
+    let tells : Tells numbers first = record { whole = omega arith; place = refl; small = omega arith; room = omega arith } in
     let all : length sats + z ≡ 64 = omega arith in
     let counted : (length numbers - 0) / 8 ≡ count = omega arith in
-    told-marks numbers sats (record { at = 0; next = 2 ^ 63; word = 0 }) z (record { whole = omega arith; place = refl; small = omega arith; room = omega arith }) (rw all)
+    let word : toldAfter numbers sats first .word ≡ marksWord sats (rowsIn count numbers) =
+    told-marks numbers sats first z tells (rw all)
     ∙ ap (λ (n : ℕ). 0 + number (marks sats (rowsIn n numbers)) * 2 ^ z) counted
-    ∙ rw (word-number sats (rowsIn count numbers)) (omega arith)
+    ∙ rw (word-number sats (rowsIn count numbers)) (omega arith) in
+    let far : toldAfter numbers sats first .at ≡ 0 + 8 * length (pick (marks sats (rowsIn count numbers)) sats) =
+    told-far numbers sats first tells ∙ ap (λ (n : ℕ). 0 + 8 * length (pick (marks sats (rowsIn n numbers)) sats)) counted in
+    let told : toldAfter numbers sats first .at ≡ 8 * length (pick (marks sats (rowsIn count numbers)) sats) = omega (arith, far) in
+    λ i. record { word = word i; told = told i }
 
 -- of rows in a buffer those that are counted
 pub rows-counted : (count : ℕ) (numbers : List ℤ) → 8 * count ≤ length numbers → rowsIn count (take (8 * count) numbers) ≡ rowsIn count numbers

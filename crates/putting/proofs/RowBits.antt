@@ -17,6 +17,7 @@ use Rattle.format.proofs.Sames.{and-true, true-and}
 use Rattle.format.specs.Rows.{Column, widthOf, shapeWidth, spellValues}
 use Rattle.rows.proofs.Columns.{width-of}
 use Rattle.rows.specs.declared.shape.Column.{Column as CodeColumn}
+use Rattle.rows.specs.declared.shape.Shape.{Shape}
 use Rattle.rows.specs.Shapes.{columnOf}
 use Rattle.putting.proofs.ColumnBits.{unsigned-small, bits-small}
 use Rattle.fitting.proofs.FitRows.{fit-width}
@@ -100,6 +101,10 @@ joined-room {cs} {vs} j w room =
     rw (j .spelled) (lt-of-lt-of-le low (pow-mono less))
 
 -- ---- the values of a row, one by one
+
+-- the first four columns
+abbrev pub fourColumns : Shape → List Column
+fourColumns s = columnOf (s .v1) ∷ columnOf (s .v2) ∷ columnOf (s .v3) ∷ columnOf (s .v4) ∷ []
 
 pub record FourFit (a b c d : Column) (p q r t : ℤ) : Type 0 where
   pub first : columnFits a p ≡ true

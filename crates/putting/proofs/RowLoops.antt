@@ -5,30 +5,30 @@ use lib.ListN.{length-drop}
 use lib.Seq.{drop-drop, length-take-le}
 use Rattle.format.specs.Writing.{rowsIn}
 use Rattle.rows.specs.declared.shape.Shape.{Shape}
-use Rattle.rows.specs.Shapes.{FormedShape}
 use Rattle.pens.proofs.Pens.{Inks, inks-start, inks-call, inks-pen, inks-ink, ready-first}
 use Rattle.pens.specs.declared.pen.Pen.{Pen}
 use Rattle.fitting.specs.Fits.{valuesFit}
 use Rattle.pens.specs.Pens.{penAfter, inkAfter}
-use Rattle.putting.specs.Putting.{rowColumns, fieldsOf, rowFields, Fitting, more, PutsRow, PutsRows}
+use Rattle.putting.proofs.OwnColumns.{Own}
+use Rattle.putting.specs.Putting.{rowColumns, rowFields, ownFields, Fitting, more, PutsRow, PutsRows}
 
 -- ---- the rows from the i-th on
 
 unfoldable pub rowsFrom : ℕ → List ℤ → ℕ → List (List ℤ)
 rowsFrom count rows i = rowsIn (count - i) (drop (8 * i) rows)
 
-all-rows : (count : ℕ) (rows : List ℤ) → rowsFrom count rows 0 ≡ rowsIn count rows
+pub all-rows : (count : ℕ) (rows : List ℤ) → rowsFrom count rows 0 ≡ rowsIn count rows
 unfolding rowsFrom
 all-rows count rows = rw sub-zero
 
-next-row : (count : ℕ) (rows : List ℤ) (i : ℕ) → i < count → rowsFrom count rows i ≡ take 8 (drop (8 * i) rows) ∷ rowsFrom count rows (i + 1)
+pub next-row : (count : ℕ) (rows : List ℤ) (i : ℕ) → i < count → rowsFrom count rows i ≡ take 8 (drop (8 * i) rows) ∷ rowsFrom count rows (i + 1)
 unfolding rowsFrom rowsIn
 next-row count rows i there =
     let left : count - i ≡ suc (count - (i + 1)) = omega arith in
     let next : 8 * (i + 1) ≡ 8 * i + 8 = omega arith in
     rw (left, drop-drop 8 (8 * i) rows, next)
 
-no-row : (count : ℕ) (rows : List ℤ) (i : ℕ) → count ≤ i → rowsFrom count rows i ≡ []
+pub no-row : (count : ℕ) (rows : List ℤ) (i : ℕ) → count ≤ i → rowsFrom count rows i ≡ []
 unfolding rowsFrom rowsIn
 no-row count rows i past =
     let gone : count - i ≡ 0 = omega arith in
@@ -49,7 +49,6 @@ others-fit : {s : Shape} {r : List ℤ} {rs : List (List ℤ)} → Fitting s (r 
 others-fit (more fits fitting) = fitting
 
 pub record Going (s : Shape) (rows : List ℤ) (count : ℕ) (p₀ : Pen) (bytes₀ : List ℕ) (i : ℕ) (p : Pen) (bytes : List ℕ) : Type 0 where
-  pub formed : FormedShape s
   pub whole : 8 * count ≤ length rows
   pub some : i ≤ count
   pub fitting : Fitting s (rowsFrom count rows i)
@@ -58,7 +57,6 @@ pub record Going (s : Shape) (rows : List ℤ) (count : ℕ) (p₀ : Pen) (bytes
 pub going-start : {s : Shape} {rows : List ℤ} {count : ℕ} {p : Pen} {bytes : List ℕ} → PutsRows s rows count p bytes → Going s rows count p bytes 0 p bytes
 going-start {rows = rows} {count = count} puts =
     record {
-      formed = puts .formed;
       whole = puts .whole;
       some = omega arith;
       fitting = rw (all-rows count rows) (puts .fitting);
@@ -67,34 +65,36 @@ going-start {rows = rows} {count = count} puts =
 
 module _ {s : Shape} {rows : List ℤ} {count : ℕ} {p₀ : Pen} {bytes₀ : List ℕ} {i : ℕ} {p : Pen} {bytes : List ℕ} (g : Going s rows count p₀ bytes₀ i p bytes) where
   -- one row more
-  module _ (there : i < count) {row : List ℤ} (same : row ≡ take 8 (drop (8 * i) rows)) where
+  module _ (there : i < count) {row : List ℤ} (same : row ≡ take 8 (drop (8 * i) rows)) {own : Shape} (o : Own s row own) where
     left : rowsFrom count rows i ≡ row ∷ rowsFrom count rows (i + 1)
     left = next-row count rows i there ∙ ap (λ (r : List ℤ). r ∷ rowsFrom count rows (i + 1)) (sym same)
 
-    fields : Inks p₀ (rowFields s (rowsIn count rows)) bytes₀ p (fieldsOf s row ++ rowFields s (rowsFrom count rows (i + 1))) bytes
+    fields : Inks p₀ (rowFields s (rowsIn count rows)) bytes₀ p (ownFields own row ++ rowFields s (rowsFrom count rows (i + 1))) bytes
     unfolding rowFields
-    fields = rw left at (g .inks)
+    fields = rw (o .columns) (rw left at (g .inks))
 
     fit : Fitting s (row ∷ rowsFrom count rows (i + 1))
     fit = rw left at (g .fitting)
 
-    pub going-row : PutsRow s row p bytes
+    pub going-row : PutsRow own row p bytes
     going-row =
         record {
-          formed = g .formed;
-          eight = ap length same ∙ length-take-le 8 (drop (8 * i) rows) (omega (arith, length-drop (8 * i) rows, g .whole));
-          fits = first-fits fit;
-          ready = ready-first (fieldsOf s row) (rowFields s (rowsFrom count rows (i + 1))) p bytes (fields .ready);
+          valued =
+              record {
+                formed = o .formed;
+                eight = ap length same ∙ length-take-le 8 (drop (8 * i) rows) (omega (arith, length-drop (8 * i) rows, g .whole));
+                fits = rw (o .columns) (first-fits fit);
+              };
+          ready = ready-first (ownFields own row) (rowFields s (rowsFrom count rows (i + 1))) p bytes (fields .ready);
         }
 
-    pub going-next : {q : Pen} → q ≡ penAfter p (fieldsOf s row) → {ink : List ℕ} → ink ≡ inkAfter p (fieldsOf s row) bytes → Going s rows count p₀ bytes₀ (i + 1) q ink
+    pub going-next : {q : Pen} → q ≡ penAfter p (ownFields own row) → {ink : List ℕ} → ink ≡ inkAfter p (ownFields own row) bytes → Going s rows count p₀ bytes₀ (i + 1) q ink
     going-next pen ink =
         record {
-          formed = g .formed;
           whole = g .whole;
           some = omega arith;
           fitting = others-fit fit;
-          inks = rw (pen, ink) (inks-call (fieldsOf s row) (rowFields s (rowsFrom count rows (i + 1))) fields);
+          inks = rw (pen, ink) (inks-call (ownFields own row) (rowFields s (rowsFrom count rows (i + 1))) fields);
         }
 
   -- none is left

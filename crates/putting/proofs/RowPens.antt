@@ -1,5 +1,5 @@
--- A row's two fields, pushed one after the other. Assumes nothing.
-use Rattle.bits.proofs.Words.{_≡_, refl, sym, ap, ap₂, subst, _∙_, Bool, true, false, not, List, [], _∷_, ℕ, _+_, _^_, _<_, arith, take, drop, getD, ℤ, pos}
+-- A row's two fields as code makes them, pushed one after the other. Assumes nothing.
+use Rattle.bits.proofs.Words.{_≡_, refl, sym, ap, subst, _∙_, Bool, true, false, not, List, [], _∷_, ℕ, _+_, _^_, arith, take, drop, getD, ℤ, pos}
 use mathlib.Core.Bool.{false≢true}
 use borrow.Author.Tests.{eqb-true}
 use lib.ListN.{length-drop}
@@ -10,18 +10,16 @@ use Rattle.bits.specs.Signed.{unsigned}
 use Rattle.format.proofs.Sames.{and-true}
 use Rattle.format.specs.Rows.{Column, shapeWidth, spellValues}
 use Rattle.rows.proofs.Columns.{width-of}
-use Rattle.rows.specs.declared.shape.Column.{Column as CodeColumn}
 use Rattle.rows.specs.declared.shape.Shape.{Shape}
-use Rattle.rows.specs.Shapes.{columnOf}
-use Rattle.putting.proofs.FirstColumns.{First}
-use Rattle.pens.proofs.Pens.{Inks, inks-start, inks-field, ready-first, no-field, joined-ink}
-use Rattle.putting.proofs.RowBits.{joined-one}
+use Rattle.rows.specs.Shapes.{columnOf, columnsOf}
+use Rattle.pens.proofs.Pens.{Inks, inks-start, inks-field, inks-pen, inks-ink, ready-first, no-field, joined-ink}
+use Rattle.putting.proofs.RowBits.{fourColumns, Joined, joined-one, four-values}
 use Rattle.putting.proofs.RowFields.{together-small, first-fit, others-fit}
 use Rattle.pens.specs.declared.pen.Field.{Field}
 use Rattle.pens.specs.declared.pen.Pen.{Pen}
 use Rattle.fitting.specs.Fits.{columnFits, valuesFit}
-use Rattle.pens.specs.Pens.{pushed, inkedBy, Ready}
-use Rattle.putting.specs.Putting.{rowSystem, rowColumns, together, twoFields, fieldsOf, fourColumns, PutsRow, pairs}
+use Rattle.pens.specs.Pens.{pushed, inkedBy, penAfter, inkAfter, Ready}
+use Rattle.putting.specs.Putting.{together, twoFields, frontField, lastField, ownFields, Valued, PutsRow, pairs, ends}
 
 -- ---- a field that code has in hand, of those that are left
 
@@ -43,56 +41,67 @@ module _ {p₀ : Pen} {all : List Field} {bytes₀ : List ℕ} {p : Pen} {next :
 
 -- ---- the fields of a row, as code makes them
 
-module _ {s : Shape} {row : List ℤ} {pen : Pen} {bytes : List ℕ} (puts : PutsRow s row pen bytes) {first : CodeColumn} (known : First s (rowSystem row) first) where
-  pub front-fits : valuesFit (fourColumns first s) (take 4 (drop 3 row)) ≡ true
-  front-fits = rw (known .columns) at (first-fit 4 (rowColumns s row) (drop 3 row) (puts .fits))
+-- one without bits
+bitless : (cs : List Column) (vs : List ℤ) → valuesFit cs vs ≡ true → together cs vs .width ≡ 0 → (together cs vs .width ≡ 0) × (together cs vs .value ≡ 0)
+bitless cs vs fits gone = (gone, omega (arith, together-small cs vs fits, ap (λ (w : ℕ). 2 ^ w) gone))
+
+module _ {s : Shape} {row : List ℤ} (v : Valued s row) where
+  front-all : valuesFit (take 4 (columnsOf s)) (take 4 (drop 3 row)) ≡ true
+  front-all = first-fit 4 (columnsOf s) (drop 3 row) (v .fits)
+
+  last-all : valuesFit (drop 4 (columnsOf s)) (drop 4 (drop 3 row)) ≡ true
+  last-all = others-fit 4 (columnsOf s) (drop 3 row) (v .fits)
+
+  pub front-fits : valuesFit (fourColumns s) (take 4 (drop 3 row)) ≡ true
+  unfolding columnsOf
+  front-fits = front-all
 
   last-value : drop 4 (drop 3 row) ≡ getD row 7 (pos 0) ∷ []
   unfolding elements
   last-value =
-      let all : take 1 (drop 7 row) ≡ drop 7 row = take-all 1 (drop 7 row) (omega (arith, puts .eight, length-drop 7 row)) in
-      drop-drop 4 3 row ∙ sym all ∙ taken (pos 0) row 7 0 1 (omega (arith, puts .eight))
+      let all : take 1 (drop 7 row) ≡ drop 7 row = take-all 1 (drop 7 row) (omega (arith, v .eight, length-drop 7 row)) in
+      drop-drop 4 3 row ∙ sym all ∙ taken (pos 0) row 7 0 1 (omega (arith, v .eight))
 
   pub last-fits : columnFits (columnOf (s .v5)) (getD row 7 (pos 0)) ≡ true
-  unfolding valuesFit
-  last-fits = and-true (columnFits (columnOf (s .v5)) (getD row 7 (pos 0))) _ (rw (known .columns, last-value) at (others-fit 4 (rowColumns s row) (drop 3 row) (puts .fits))) .0
+  unfolding valuesFit columnsOf
+  last-fits = and-true (columnFits (columnOf (s .v5)) (getD row 7 (pos 0))) _ (rw last-value at last-all) .0
 
-  abbrev pub front : Field
-  front = together (take 4 (rowColumns s row)) (take 4 (drop 3 row))
+  front-width : frontField s row .width ≡ s .v1 .width + (s .v2 .width + s .v3 .width + s .v4 .width)
+  unfolding together shapeWidth columnsOf
+  front-width = omega (arith, width-of (s .v1), width-of (s .v2), width-of (s .v3), width-of (s .v4))
 
-  abbrev pub last : Field
-  last = together (drop 4 (rowColumns s row)) (drop 4 (drop 3 row))
+  last-width : lastField s row .width ≡ s .v5 .width
+  unfolding together shapeWidth columnsOf
+  last-width = omega (arith, width-of (s .v5))
 
-  pub front-same : {w v : ℕ} → w ≡ first .width + (s .v2 .width + s .v3 .width + s .v4 .width) → v ≡ number (spellValues (fourColumns first s) (take 4 (drop 3 row)))
-      → record { width = w; value = v } ≡ front
-  unfolding together shapeWidth
-  front-same wide spelled =
-      let sum : shapeWidth (fourColumns first s) ≡ first .width + (s .v2 .width + s .v3 .width + s .v4 .width) =
-      omega (arith, width-of first, width-of (s .v2), width-of (s .v3), width-of (s .v4)) in
-      rw (known .columns) (λ i. record { width = (wide ∙ sym sum) i; value = spelled i })
+  pub front-value : {n : ℕ} → Joined (fourColumns s) (getD row 3 (pos 0) ∷ getD row 4 (pos 0) ∷ getD row 5 (pos 0) ∷ getD row 6 (pos 0) ∷ []) n → n ≡ frontField s row .value
+  unfolding together columnsOf
+  front-value all = all .spelled ∙ ap (λ (l : List ℤ). number (spellValues (fourColumns s) l)) (sym (four-values row (v .eight)))
 
-  last-width : last .width ≡ s .v5 .width
-  unfolding together shapeWidth
-  last-width = rw (known .columns) (omega (arith, width-of (s .v5)))
+  pub front-same : {w n : ℕ} → w ≡ s .v1 .width + (s .v2 .width + s .v3 .width + s .v4 .width) → n ≡ frontField s row .value → record { width = w; value = n } ≡ frontField s row
+  front-same wide spelled = λ i. record { width = (wide ∙ sym front-width) i; value = spelled i }
 
-  pub last-same : {v : ℕ} → v ≡ unsigned (s .v5 .width) (getD row 7 (pos 0)) → record { width = s .v5 .width; value = v } ≡ last
-  unfolding together
-  last-same {v} e =
-      let number-same : v ≡ last .value =
-      joined-one (s .v5) (getD row 7 (pos 0)) last-fits e .spelled
-      ∙ ap₂ (λ (cs : List Column) (vs : List ℤ). number (spellValues cs vs)) (sym (ap (drop 4) (known .columns))) (sym last-value) in
+  pub last-same : {n : ℕ} → n ≡ unsigned (s .v5 .width) (getD row 7 (pos 0)) → record { width = s .v5 .width; value = n } ≡ lastField s row
+  unfolding together columnsOf
+  last-same {n} e =
+      let number-same : n ≡ lastField s row .value =
+      joined-one (s .v5) (getD row 7 (pos 0)) last-fits e .spelled ∙ ap (λ (vs : List ℤ). number (spellValues (columnOf (s .v5) ∷ []) vs)) (sym last-value) in
       λ i. record { width = sym last-width i; value = number-same i }
 
-  -- a last column without bits
-  pub last-none : s .v5 .width ≡ 0 → (last .width ≡ 0) × (last .value ≡ 0)
-  last-none gone =
-      let small : last .value < 2 ^ (last .width) = together-small _ _ (others-fit 4 (rowColumns s row) (drop 3 row) (puts .fits)) in
-      let none : last .width ≡ 0 = last-width ∙ gone in
-      (none, omega (arith, ap (λ (w : ℕ). 2 ^ w) none))
+  -- columns without bits
+  pub front-none : s .v1 .width + (s .v2 .width + s .v3 .width + s .v4 .width) ≡ 0 → (frontField s row .width ≡ 0) × (frontField s row .value ≡ 0)
+  front-none gone = bitless _ _ front-all (front-width ∙ gone)
 
-  pub row-inks : Inks pen (fieldsOf s row) bytes pen (front ∷ last ∷ []) bytes
-  unfolding twoFields
-  row-inks = inks-start (puts .ready)
+  pub last-none : s .v5 .width ≡ 0 → (lastField s row .width ≡ 0) × (lastField s row .value ≡ 0)
+  last-none gone = bitless _ _ last-all (last-width ∙ gone)
+
+pub row-inks : {s : Shape} {row : List ℤ} {pen : Pen} {bytes : List ℕ} → PutsRow s row pen bytes → Inks pen (ownFields s row) bytes pen (frontField s row ∷ lastField s row ∷ []) bytes
+unfolding twoFields
+row-inks puts = inks-start (puts .ready)
+
+-- all are pushed
+pub inks-done : {p₀ : Pen} {all : List Field} {bytes₀ : List ℕ} {p : Pen} {bytes : List ℕ} → Inks p₀ all bytes₀ p [] bytes → (p ≡ penAfter p₀ all) × (bytes ≡ inkAfter p₀ all bytes₀)
+inks-done inks = (inks-pen refl inks, inks-ink refl inks)
 
 -- ---- two columns and three gaps
 
@@ -112,3 +121,9 @@ pair-shape s e =
     not-true-bare : (b : Bool) → not b ≡ true → b ≡ false
     not-true-bare true h = absurd (false≢true h)
     not-true-bare false h = refl
+
+-- ---- gaps before the last column
+
+pub ends-shape : (s : Shape) → ends s ≡ true → s .v1 .width + (s .v2 .width + s .v3 .width + s .v4 .width) ≡ 0
+unfolding ends
+ends-shape s e = let gone : s .v1 .width + s .v2 .width + s .v3 .width + s .v4 .width ≡ 0 = eqb-true _ 0 e in omega arith

@@ -11,7 +11,7 @@ use Rattle.pens.specs.declared.pen.Field.{Field}
 use Rattle.pens.specs.declared.pen.Pen.{Pen}
 use Rattle.putting.specs.Marking.{topField, selectionFields}
 use Rattle.pens.specs.Pens.{pushed, inkedBy, penAfter, inkAfter, spellFields, Fine, Fines, none, more, Ready}
-use Rattle.pens.proofs.Pens.{ready-next, ready-first}
+use Rattle.pens.proofs.Pens.{ready-next, ready-first, no-field, joined-ink}
 
 -- ---- they are numbers of so many bits
 
@@ -86,3 +86,27 @@ module _ {pen : Pen} {a b : Field} {bytes : List ℕ} (r : Ready pen (a ∷ b �
     pub both-inked : {last : List ℕ} → last ≡ inkedBy p g ink → last ≡ inkAfter pen (a ∷ b ∷ []) bytes
     unfolding inkAfter
     both-inked e = e ∙ rw (put, inked, first, second)
+
+  -- the second has no bits, and only the first is
+  module _ {p : Pen} {ink : List ℕ} (put : p ≡ pushed pen f) (inked : ink ≡ inkedBy pen f bytes) (none-wide : b .width ≡ 0) (none-there : b .value ≡ 0) where
+    pub one-put : p ≡ penAfter pen (a ∷ b ∷ [])
+    unfolding penAfter
+    one-put = put ∙ rw first (sym (no-field (pushed pen a) (ready-next r .pen) b none-wide none-there))
+
+    pub one-inked : ink ≡ inkAfter pen (a ∷ b ∷ []) bytes
+    unfolding inkAfter
+    one-inked = inked ∙ rw first (sym (joined-ink (pushed pen a) b (inkedBy pen a bytes) (omega (arith, ready-next r .pen .narrow))))
+
+-- neither has bits, and none is
+pub none-put : {pen : Pen} {a b : Field} {bytes : List ℕ} → Ready pen (a ∷ b ∷ []) bytes → a .width ≡ 0 → a .value ≡ 0 → b .width ≡ 0 → b .value ≡ 0
+    → (pen ≡ penAfter pen (a ∷ b ∷ [])) × (bytes ≡ inkAfter pen (a ∷ b ∷ []) bytes)
+none-put {pen} {a} {b} {bytes} r first-wide first-there none-wide none-there =
+    let stays : pen ≡ pushed pen a = sym (no-field pen (r .pen) a first-wide first-there) in
+    let ink : bytes ≡ inkedBy pen a bytes = sym (joined-ink pen a bytes (omega (arith, r .pen .narrow))) in
+    (one-put r refl stays ink none-wide none-there, one-inked r refl stays ink none-wide none-there)
+
+-- none are left of a word of 32 bits
+pub none-left : (chosen n : ℕ) → n ≤ 32 → chosen % 2 ^ 32 / 2 ^ (32 - (n - min n 32)) ≡ 0
+none-left chosen n short =
+    let gone : n - min n 32 ≡ 0 = omega arith in
+    rw gone (omega arith)

@@ -1,3 +1,4 @@
 pub mod Marking
 pub mod MaskFields
 pub mod Putting
+pub mod Sizes

@@ -7,15 +7,20 @@ use lib.Dec.{ltb}
 use lib.IntN.{ℤ, pos}
 use lib.ListN.{length, getD}
 use Rattle.bits.specs.BitLists.{number}
-use Rattle.format.specs.Masks.{Satellite}
+use Rattle.format.specs.Masks.{Satellite, pick}
 use Rattle.format.specs.Same.{sameℤ}
 use Rattle.format.specs.Spelling.{marks}
 use Rattle.holding.specs.Pictures.{filled}
+use Rattle.putting.specs.declared.marks.Selected.{Selected}
 use Rattle.putting.specs.declared.marks.Told.{Told}
 use Rattle.pens.specs.declared.pen.Field.{Field}
 
 unfoldable pub marksWord : List Satellite → List (List ℤ) → ℕ
 marksWord sats rows = number (filled 64 false (marks sats rows))
+
+-- and eight numbers for each satellite that has a row
+unfoldable pub markedBy : List Satellite → List (List ℤ) → Selected
+markedBy sats rows = record { word = marksWord sats rows; told = 8 * length (pick (marks sats rows) sats) }
 
 -- ---- satellite by satellite, over the numbers of the rows
 

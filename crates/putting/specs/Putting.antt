@@ -7,11 +7,12 @@ use lib.Dec.{eqb}
 use lib.IntN.{ℤ, pos, negsuc}
 use lib.ListN.{length, take, drop}
 use Rattle.bits.specs.BitLists.{number}
+use Rattle.format.specs.Messages.{iodeWidth}
 use Rattle.format.specs.Rows.{Column, Line, shapeWidth, spellValues}
 use Rattle.format.specs.Writing.{rowsIn}
 use Rattle.rows.specs.declared.shape.Column.{Column as CodeColumn}
 use Rattle.rows.specs.declared.shape.Shape.{Shape}
-use Rattle.rows.specs.Shapes.{columnOf, columnsIn, Formed, FormedShape}
+use Rattle.rows.specs.Shapes.{columnsOf, columnsIn, orbitOf, FormedShape}
 use Rattle.pens.specs.declared.pen.Field.{Field}
 use Rattle.pens.specs.declared.pen.Pen.{Pen}
 use Rattle.fitting.specs.Fits.{valuesFit}
@@ -54,27 +55,38 @@ pub data Fitting (s : Shape) : List (List ℤ) → Type 0 where
   none : Fitting s []
   more : {r : List ℤ} {rs : List (List ℤ)} → valuesFit (rowColumns s r) (drop 3 r) ≡ true → Fitting s rs → Fitting s (r ∷ rs)
 
--- one row, for a pen
+-- ---- a row in a shape whose columns are its own, an IODE's too
+
+-- its two fields
+abbrev pub frontField : Shape → List ℤ → Field
+frontField s row = together (take 4 (columnsOf s)) (take 4 (drop 3 row))
+
+abbrev pub lastField : Shape → List ℤ → Field
+lastField s row = together (drop 4 (columnsOf s)) (drop 4 (drop 3 row))
+
+abbrev pub ownFields : Shape → List ℤ → List Field
+ownFields s row = twoFields (columnsOf s) (drop 3 row)
+
+-- the shape of an orbit's row
+abbrev pub orbitOn : CodeColumn → List ℤ → Shape
+orbitOn v5 row = orbitOf (iodeWidth (rowSystem row)) v5
+
+-- eight numbers, of which the values fit the columns
+pub record Valued (s : Shape) (row : List ℤ) : Type 0 where
+  pub formed : FormedShape s
+  pub eight : length row ≡ 8
+  pub fits : valuesFit (columnsOf s) (drop 3 row) ≡ true
+
+-- and a pen for them
 pub record PutsRow (s : Shape) (row : List ℤ) (pen : Pen) (bytes : List ℕ) : Type 0 where
-  pub formed : FormedShape s
-  pub eight : length row ≡ 8
-  pub fits : valuesFit (rowColumns s row) (drop 3 row) ≡ true
-  pub ready : Ready pen (fieldsOf s row) bytes
+  pub valued : Valued s row
+  pub ready : Ready pen (ownFields s row) bytes
 
--- the first four columns of a row, the first of them by its system
-abbrev pub fourColumns : CodeColumn → Shape → List Column
-fourColumns first s = columnOf first ∷ columnOf (s .v2) ∷ columnOf (s .v3) ∷ columnOf (s .v4) ∷ []
+-- ---- so many rows of a row buffer
 
-pub record PutsFour (first : CodeColumn) (s : Shape) (row : List ℤ) : Type 0 where
-  pub formed : FormedShape s
-  pub begins : Formed first
-  pub narrow : first .width + s .v2 .width + s .v3 .width + s .v4 .width ≤ 56
-  pub eight : length row ≡ 8
-  pub fits : valuesFit (fourColumns first s) (take 4 (drop 3 row)) ≡ true
-
--- so many rows of a row buffer
 pub record PutsRows (s : Shape) (rows : List ℤ) (count : ℕ) (pen : Pen) (bytes : List ℕ) : Type 0 where
   pub formed : FormedShape s
+  pub orbit : s .iode ≡ true → s ≡ orbitOf (s .v1 .width) (s .v5)
   pub whole : 8 * count ≤ length rows
   pub fitting : Fitting s (rowsIn count rows)
   pub ready : Ready pen (rowFields s (rowsIn count rows)) bytes
@@ -82,6 +94,10 @@ pub record PutsRows (s : Shape) (rows : List ℤ) (count : ℕ) (pen : Pen) (byt
 -- rows of two columns and three gaps
 unfoldable pub pairs : Shape → Bool
 pairs s = not (s .iode) && eqb (s .v3 .width + s .v4 .width + s .v5 .width) 0
+
+-- rows of the last column alone, if any, where none is an IODE
+unfoldable pub ends : Shape → Bool
+ends s = eqb (s .v1 .width + s .v2 .width + s .v3 .width + s .v4 .width) 0
 
 -- ---- lines of one shape
 

@@ -3,3 +3,5 @@ pub mod column;
 pub mod marks;
 pub mod mask;
 pub mod row;
+pub mod size;
+pub mod values;

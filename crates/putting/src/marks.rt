@@ -5,7 +5,7 @@ ghost use lib.ListN.{length};
 ghost use Rattle.body.specs.Lent.{Slots};
 ghost use Rattle.format.specs.Writing.{rowsIn};
 ghost use Rattle.holding.specs.Held.{satellitesIn, slotSatellites};
-ghost use Rattle.putting.specs.Marking.{hasRow, toldBy, toldAfter, Tells, marksWord, topField, selectionFields};
+ghost use Rattle.putting.specs.Marking.{hasRow, toldBy, toldAfter, Tells, markedBy, topField, selectionFields};
 ghost use Rattle.pens.specs.Pens.{penAfter, inkAfter, Ready};
 use body::FIRST;
 use holding::set_places;
@@ -20,6 +20,12 @@ pub struct Told {
     pub at: usize,
     pub next: u64,
     pub word: u64,
+}
+
+// A selection, and how many numbers the rows have by which it was told.
+pub struct Selected {
+    pub word: u64,
+    pub told: usize,
 }
 
 // How many numbers a row has.
@@ -78,9 +84,9 @@ fn slot(id: u8, mask: u64, rows: &[i32], told: Told) -> Told
 }
 
 // Which satellites have a row, the rows standing in their order: the first satellite's bit is the highest of 64.
-pub fn marked(ids: &[u8], masks: &[u64], rows: &[i32], count: usize) -> u64
+pub fn marked(ids: &[u8], masks: &[u64], rows: &[i32], count: usize) -> Selected
     requires { ⌜ Slots (now ids) (now masks) × (length (slotSatellites (now ids) (now masks)) ≤ 64) × (8 * count ≤ length (now rows)) ⌝ }
-    ensures { λ r. ⌜ r ≡ marksWord (slotSatellites (now (ids .entry)) (now (masks .entry))) (rowsIn count (now (rows .entry))) ⌝ }
+    ensures { λ r. ⌜ r ≡ markedBy (slotSatellites (now (ids .entry)) (now (masks .entry))) (rowsIn count (now (rows .entry))) ⌝ }
 {
     let end = ROW * count;
     let counted = &rows[..end];
@@ -94,7 +100,10 @@ pub fn marked(ids: &[u8], masks: &[u64], rows: &[i32], count: usize) -> u64
         told = slot(ids[i], masks[i] << UP, counted, told);
         i += 1;
     }
-    told.word
+    Selected {
+        word: told.word,
+        told: told.at,
+    }
 }
 
 // How many bits half a word has.
@@ -124,13 +133,19 @@ fn top(half: u64, width: usize) -> Field
     }
 }
 
-// The selection's bits: those of the first n satellites, in two fields.
+// The selection's bits: those of the first n satellites, in two fields, of which the second often has none.
 pub fn select(bytes: &mut [u8], pen: Pen, chosen: u64, n: usize) -> Pen
     requires { ⌜ (n ≤ 64) × Ready pen (selectionFields chosen n) (now bytes) ⌝ }
     ensures { λ r. ⌜ r ≡ penAfter pen (selectionFields chosen n) ⌝ }
     ensures { λ _. ⌜ now (bytes .exit) ≡ inkAfter pen (selectionFields chosen n) (now (bytes .entry)) ⌝ }
 {
+    if n == 0 {
+        return pen;
+    }
     let first = in_first(n);
     let ahead = push(bytes, pen, top(chosen / HALVES, first));
+    if n <= HALF {
+        return ahead;
+    }
     push(bytes, ahead, top(chosen % HALVES, n - first))
 }

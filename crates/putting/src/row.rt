@@ -1,101 +1,94 @@
-// The rows of a body, put out as bits (document 01, "Message layouts"): the values of a row one after the other, the
-// first four of them in one field.
+// The rows of a body, put out as bits (document 01, "Message layouts"): the values of a row one after the other. Which
+// columns rows have is told once, before the first of them: each kind has a loop that does what its rows need alone.
 ghost use mathlib.Core.Path.{_≡_};
-ghost use mathlib.Core.Bool.{true, cond};
-ghost use Prim.Native.Nat.{_+_, _-_, _*_, _^_, _<_};
-ghost use lib.ListN.{take, drop};
-ghost use Rattle.bits.specs.BitLists.{number};
-ghost use Rattle.bits.specs.Signed.{unsigned};
+ghost use mathlib.Core.Bool.{true, false};
 ghost use Rattle.format.specs.Messages.{iodeWidth};
-ghost use Rattle.format.specs.Rows.{plain, spellValues};
 ghost use Rattle.format.specs.Writing.{rowsIn};
-ghost use Rattle.rows.specs.Shapes.{columnFor, columnOf, Formed, FormedShape};
-ghost use Rattle.fitting.specs.Fits.{columnFits};
+ghost use Rattle.rows.specs.Shapes.{orbitOf, FormedShape};
 ghost use Rattle.pens.specs.Pens.{penAfter, inkAfter};
-ghost use Rattle.putting.specs.Putting.{systemOf, fieldsOf, rowFields, fourColumns, PutsFour, PutsRow, PutsRows, pairs};
-use crate::column::column_bits;
-use pens::pen::Field;
+ghost use Rattle.putting.specs.Putting.{systemOf, rowFields, ownFields, orbitOn, PutsRow, PutsRows, pairs, ends};
+use crate::values::front;
+use crate::values::last;
+use crate::values::pair;
 use pens::pen::Pen;
 use pens::pen::push;
-use rows::shape;
 use rows::shape::Column;
 use rows::shape::Shape;
 use rows::shapes;
 
 // The key of the system whose IODE is longer.
-const GALILEO: i32 = shapes::GALILEO as i32;
+pub const GALILEO: i32 = shapes::GALILEO as i32;
 
-// The first column of a system's rows.
-fn first_column(system: i32, s: Shape) -> Column
-    ensures { λ r. ⌜ r ≡ cond (s .iode) (columnFor (plain (iodeWidth (systemOf system)))) (s .v1) ⌝ }
+// The shape of an orbit's row: its IODE is as wide as its own system has it.
+fn orbit_in(system: i32, v5: Column) -> Shape
+    ensures { λ r. ⌜ r ≡ orbitOf (iodeWidth (systemOf system)) v5 ⌝ }
 {
-    if s.iode {
-        let known = if system == GALILEO {
-            shapes::GALILEO
-        } else {
-            0
-        };
-        return shape::plain(shapes::iode(known));
-    }
-    s.v1
-}
-
-// Bits, and those of one value more behind them.
-fn with(bits: u64, v: i32, c: Column) -> u64
-    requires { ⌜ (bits < 2 ^ (56 - c .width)) × Formed c × (columnFits (columnOf c) v ≡ true) ⌝ }
-    ensures { λ r. ⌜ r ≡ bits * 2 ^ (c .width) + unsigned (c .width) v ⌝ }
-{
-    (bits << c.width) + column_bits(v, c)
-}
-
-// The first four values of a row, together.
-fn four(row: &[i32], first: Column, s: Shape) -> u64
-    requires { ⌜ PutsFour first s (now row) ⌝ }
-    ensures { λ r. ⌜ r ≡ number (spellValues (fourColumns first s) (take 4 (drop 3 (now (row .entry))))) ⌝ }
-{
-    let v1 = column_bits(row[3], first);
-    let v2 = with(v1, row[4], s.v2);
-    let v3 = with(v2, row[5], s.v3);
-    with(v3, row[6], s.v4)
-}
-
-// A row of any columns.
-fn put_wide(bytes: &mut [u8], pen: Pen, row: &[i32], s: Shape) -> Pen
-    requires { ⌜ PutsRow s (now row) pen (now bytes) ⌝ }
-    ensures { λ r. ⌜ r ≡ penAfter pen (fieldsOf s (now (row .entry))) ⌝ }
-    ensures { λ _. ⌜ now (bytes .exit) ≡ inkAfter pen (fieldsOf s (now (row .entry))) (now (bytes .entry)) ⌝ }
-{
-    let first = first_column(row[0], s);
-    let front = Field {
-        width: first.width + (s.v2.width + s.v3.width + s.v4.width),
-        value: four(row, first, s),
+    let known = if system == GALILEO {
+        shapes::GALILEO
+    } else {
+        0
     };
-    let p = push(bytes, pen, front);
-    if s.v5.width == 0 {
-        return p;
-    }
-    let last = Field {
-        width: s.v5.width,
-        value: column_bits(row[7], s.v5),
-    };
-    push(bytes, p, last)
+    shapes::orbit(shapes::iode(known), v5)
+}
+
+// A row with an orbit, of sub type 2 or 11: the compiler knows all of its columns but the last. That one may be a gap,
+// and then a field of no bits: a test for it would make two loops of one.
+fn put_orbit(bytes: &mut [u8], pen: Pen, row: &[i32], v5: Column) -> Pen
+    requires { ⌜ PutsRow (orbitOn v5 (now row)) (now row) pen (now bytes) ⌝ }
+    ensures { λ r. ⌜ r ≡ penAfter pen (ownFields (orbitOn v5 (now (row .entry))) (now (row .entry))) ⌝ }
+    ensures { λ _. ⌜ now (bytes .exit) ≡ inkAfter pen (ownFields (orbitOn v5 (now (row .entry))) (now (row .entry))) (now (bytes .entry)) ⌝ }
+{
+    let own = orbit_in(row[0], v5);
+    let p = push(bytes, pen, front(row, own));
+    push(bytes, p, last(row, own))
 }
 
 // A row of two columns and three gaps.
 fn put_pair(bytes: &mut [u8], pen: Pen, row: &[i32], s: Shape) -> Pen
     requires { ⌜ (pairs s ≡ true) × PutsRow s (now row) pen (now bytes) ⌝ }
-    ensures { λ r. ⌜ r ≡ penAfter pen (fieldsOf s (now (row .entry))) ⌝ }
-    ensures { λ _. ⌜ now (bytes .exit) ≡ inkAfter pen (fieldsOf s (now (row .entry))) (now (bytes .entry)) ⌝ }
+    ensures { λ r. ⌜ r ≡ penAfter pen (ownFields s (now (row .entry))) ⌝ }
+    ensures { λ _. ⌜ now (bytes .exit) ≡ inkAfter pen (ownFields s (now (row .entry))) (now (bytes .entry)) ⌝ }
 {
-    let both = Field {
-        width: s.v1.width + s.v2.width,
-        value: with(column_bits(row[3], s.v1), row[4], s.v2),
-    };
-    push(bytes, pen, both)
+    push(bytes, pen, pair(row, s))
+}
+
+// A row of the last column alone: sub type 11 without an orbit.
+fn put_last(bytes: &mut [u8], pen: Pen, row: &[i32], s: Shape) -> Pen
+    requires { ⌜ (ends s ≡ true) × PutsRow s (now row) pen (now bytes) ⌝ }
+    ensures { λ r. ⌜ r ≡ penAfter pen (ownFields s (now (row .entry))) ⌝ }
+    ensures { λ _. ⌜ now (bytes .exit) ≡ inkAfter pen (ownFields s (now (row .entry))) (now (bytes .entry)) ⌝ }
+{
+    push(bytes, pen, last(row, s))
+}
+
+// A row of any columns, as a packet's part has them.
+fn put_wide(bytes: &mut [u8], pen: Pen, row: &[i32], s: Shape) -> Pen
+    requires { ⌜ PutsRow s (now row) pen (now bytes) ⌝ }
+    ensures { λ r. ⌜ r ≡ penAfter pen (ownFields s (now (row .entry))) ⌝ }
+    ensures { λ _. ⌜ now (bytes .exit) ≡ inkAfter pen (ownFields s (now (row .entry))) (now (bytes .entry)) ⌝ }
+{
+    let p = push(bytes, pen, front(row, s));
+    push(bytes, p, last(row, s))
 }
 
 // How many numbers a row has.
-const ROW: usize = 8;
+pub const ROW: usize = 8;
+
+// Rows with an orbit.
+fn put_orbits(bytes: &mut [u8], pen: Pen, rows: &[i32], count: usize, s: Shape) -> Pen
+    requires { ⌜ (s .iode ≡ true) × PutsRows s (now rows) count pen (now bytes) ⌝ }
+    ensures { λ r. ⌜ r ≡ penAfter pen (rowFields s (rowsIn count (now (rows .entry)))) ⌝ }
+    ensures { λ _. ⌜ now (bytes .exit) ≡ inkAfter pen (rowFields s (rowsIn count (now (rows .entry)))) (now (bytes .entry)) ⌝ }
+{
+    let mut p = pen;
+    let mut i = 0;
+    while i < count {
+        let from = ROW * i;
+        p = put_orbit(bytes, p, &rows[from..from + ROW], s.v5);
+        i += 1;
+    }
+    p
+}
 
 // Rows of two columns and three gaps.
 fn put_pairs(bytes: &mut [u8], pen: Pen, rows: &[i32], count: usize, s: Shape) -> Pen
@@ -113,9 +106,25 @@ fn put_pairs(bytes: &mut [u8], pen: Pen, rows: &[i32], count: usize, s: Shape) -
     p
 }
 
-// Rows of any columns.
+// Rows of the last column alone.
+fn put_lasts(bytes: &mut [u8], pen: Pen, rows: &[i32], count: usize, s: Shape) -> Pen
+    requires { ⌜ (s .iode ≡ false) × (ends s ≡ true) × PutsRows s (now rows) count pen (now bytes) ⌝ }
+    ensures { λ r. ⌜ r ≡ penAfter pen (rowFields s (rowsIn count (now (rows .entry)))) ⌝ }
+    ensures { λ _. ⌜ now (bytes .exit) ≡ inkAfter pen (rowFields s (rowsIn count (now (rows .entry)))) (now (bytes .entry)) ⌝ }
+{
+    let mut p = pen;
+    let mut i = 0;
+    while i < count {
+        let from = ROW * i;
+        p = put_last(bytes, p, &rows[from..from + ROW], s);
+        i += 1;
+    }
+    p
+}
+
+// Rows of any columns, none of them an IODE.
 fn put_wides(bytes: &mut [u8], pen: Pen, rows: &[i32], count: usize, s: Shape) -> Pen
-    requires { ⌜ PutsRows s (now rows) count pen (now bytes) ⌝ }
+    requires { ⌜ (s .iode ≡ false) × PutsRows s (now rows) count pen (now bytes) ⌝ }
     ensures { λ r. ⌜ r ≡ penAfter pen (rowFields s (rowsIn count (now (rows .entry)))) ⌝ }
     ensures { λ _. ⌜ now (bytes .exit) ≡ inkAfter pen (rowFields s (rowsIn count (now (rows .entry)))) (now (bytes .entry)) ⌝ }
 {
@@ -140,16 +149,32 @@ fn paired(s: Shape) -> bool
     s.v3.width + s.v4.width + s.v5.width == 0
 }
 
+// Whether rows without an IODE have the last column alone, if any.
+fn ended(s: Shape) -> bool
+    requires { ⌜ FormedShape s ⌝ }
+    ensures { λ r. ⌜ r ≡ ends s ⌝ }
+{
+    s.v1.width + s.v2.width + s.v3.width + s.v4.width == 0
+}
+
 // The rows' values, row after row, in a shape: an IODE as wide as the row's own system has it. Rows of two columns, of
-// which a message has the most, have a loop of their own.
+// which a message has the most, are told first.
 pub fn put_rows(bytes: &mut [u8], pen: Pen, rows: &[i32], count: usize, s: Shape) -> Pen
     requires { ⌜ PutsRows s (now rows) count pen (now bytes) ⌝ }
     ensures { λ r. ⌜ r ≡ penAfter pen (rowFields s (rowsIn count (now (rows .entry)))) ⌝ }
     ensures { λ _. ⌜ now (bytes .exit) ≡ inkAfter pen (rowFields s (rowsIn count (now (rows .entry)))) (now (bytes .entry)) ⌝ }
 {
-    if paired(s) {
-        put_pairs(bytes, pen, rows, count, s)
-    } else {
-        put_wides(bytes, pen, rows, count, s)
+    if count == 0 {
+        return pen;
     }
+    if paired(s) {
+        return put_pairs(bytes, pen, rows, count, s);
+    }
+    if s.iode {
+        return put_orbits(bytes, pen, rows, count, s);
+    }
+    if ended(s) {
+        return put_lasts(bytes, pen, rows, count, s);
+    }
+    put_wides(bytes, pen, rows, count, s)
 }

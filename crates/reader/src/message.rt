@@ -6,13 +6,15 @@ ghost use lib.ListN.{length};
 ghost use Rattle.body.specs.Lent.{Lends};
 ghost use Rattle.format.specs.Messages.{maskMessage};
 ghost use Rattle.format.specs.Programs.{run};
-ghost use Rattle.format.specs.Reading.{stretchLimit, answerOf, rowsAfter, bitsFrom};
+ghost use Rattle.format.specs.Reading.{stretchLimit, bitsFrom};
 ghost use Rattle.heads.specs.Fronts.{Opens};
 ghost use Rattle.heads.specs.Headings.{saidBy, FitsHeading};
-ghost use Rattle.heads.specs.Sorting.{headedAt, adoptedBy};
+ghost use Rattle.heads.specs.Sorting.{adoptedBy};
 ghost use Rattle.holding.specs.Held.{viewOf};
+ghost use Rattle.holding.specs.Outlines.{wholeOf};
 ghost use Rattle.holding.specs.Pictures.{maskOf, sound};
-ghost use Rattle.reader.specs.Readings.{readingOf, readAt, unopenedAt, foundAt, Ready, Begins};
+ghost use Rattle.reader.specs.Readings.{readingOf, unopenedAt, Ready, Begins};
+ghost use Rattle.reader.specs.Findings.{Headed, Finds};
 use crate::Reading;
 use bits::rest::zero_from;
 use body::Placed;
@@ -25,13 +27,28 @@ use heads::heading;
 use heads::heading::Heading;
 use heads::heading::Seen;
 use holding::Holding;
+use holding::Outline;
 use table::Kind;
 use table::kind_of;
+
+// What is found at a place: a mask message, still to be read; or the answer.
+pub enum Found {
+    Mask,
+    Answered(Answer),
+}
+
+// The same, or the answer beside the body whose rows are still to be filled: the string ends soon behind it. (The answer
+// lies where that of the other variant does, so that LLVM keeps its parts in registers.)
+pub enum Finding {
+    Mask,
+    Answered(Answer),
+    Near(Answer, Placed),
+}
 
 // The body that a heading says: its length is tested once, and only then are its rows written, and the slots and strips
 // lent for them: a message without rows copies none.
 fn body_of(
-    holding: Holding,
+    outline: Outline,
     ids: &[u8],
     masks: &[u64],
     strips: &[u16],
@@ -39,29 +56,30 @@ fn body_of(
     bytes: &[u8],
     end: usize,
     rows: &mut [i32],
-) -> Answer
-    requires { ⌜ Ready holding (now bytes) end (now rows) × Lends holding (now ids) (now masks) (now strips) × FitsHeading heading × Begins end (saidBy (viewOf holding) heading) ⌝ }
-    ensures { λ r. ⌜ r ≡ answerOf (headedAt (maskOf holding) (now (bytes .entry)) end (saidBy (viewOf holding) heading)) ⌝ }
-    ensures { λ _. ⌜ now (rows .exit) ≡ rowsAfter (headedAt (maskOf holding) (now (bytes .entry)) end (saidBy (viewOf holding) heading)) (now (rows .entry)) ⌝ }
+) -> Finding
+    requires { ⌜ Ready (wholeOf outline (now masks) (now strips)) (now bytes) end (now rows) × Lends (wholeOf outline (now masks) (now strips)) (now ids) (now masks) (now strips) × FitsHeading heading × Begins end (saidBy (viewOf (wholeOf outline (now masks) (now strips))) heading) ⌝ }
+    ensures { λ r. ⌜ Headed (wholeOf outline (now (masks .entry)) (now (strips .entry))) heading (now (ids .entry)) (now (bytes .entry)) end (now (rows .entry)) (now (rows .exit)) r ⌝ }
 {
     match heading {
-        Heading::Refused(r, missing) => Answer::Refused(r, missing),
+        Heading::Refused(r, missing) => Finding::Answered(Answer::Refused(r, missing)),
         Heading::Rows(head, body, at) => {
-            let size = body::size(holding, ids, masks, strips, body);
+            let size = body::size(outline.nsat, outline.ncell, ids, masks, strips, body);
             let left = end - at;
             if left < size.bits {
-                return Answer::Refused(Refusal::Short, size.bits - left);
+                return Finding::Answered(Answer::Refused(Refusal::Short, size.bits - left));
             }
             if size.rows == 0 {
-                return Answer::Message(head, at + size.bits, 0);
+                return Finding::Answered(Answer::Message(head, at + size.bits, 0));
             }
             let placed = Placed {
                 body,
                 bits: size.bits,
                 at,
             };
-            body::fill(ids, masks, strips, placed, bytes, rows);
-            Answer::Message(head, at + size.bits, size.rows)
+            if !body::fill(ids, masks, strips, placed, bytes, rows) {
+                return Finding::Near(Answer::Message(head, at + size.bits, size.rows), placed);
+            }
+            Finding::Answered(Answer::Message(head, at + size.bits, size.rows))
         }
     }
 }
@@ -71,10 +89,13 @@ pub fn adopted(holding: Holding, bytes: &[u8], end: usize, place: usize) -> Read
     requires { ⌜ (end ≤ 8 * length (now bytes)) × (end ≤ stretchLimit) × (place ≤ end) × (sound holding ≡ true) ⌝ }
     ensures { λ r. ⌜ r ≡ readingOf holding (adoptedBy (maskOf holding) place (run maskMessage (bitsFrom (now (bytes .entry)) end place))) ⌝ }
 {
-    let adoption = adoption::adopt(bytes, end, place);
+    let mut satellites = holding.satellites;
+    let mut strips = holding.strips;
+    let adoption = adoption::adopt(bytes, end, place, &mut satellites, &mut strips);
     let answer = adoption.answer;
-    let new = adoption.holding;
+    let outline = adoption.outline;
     if let Answer::Message(_, _, _) = answer {
+        let new = outline.with(satellites, strips);
         return Reading {
             answer,
             holding: holding.adopt(new),
@@ -98,16 +119,10 @@ fn unopened(front: Front, bytes: &[u8], r: Refusal, missing: usize) -> Answer
     Answer::Refused(r, missing)
 }
 
-// What is found at a place: a mask message, still to be read; or the answer.
-pub enum Found {
-    Mask,
-    Answered(Answer),
-}
-
 // Reads any message but a mask. Number and sub type come first: where they are read, some bit is set. What was held is
-// held after it, so that it is handed to the body alone: each step more would be a copy.
+// held after it.
 pub fn find(
-    holding: Holding,
+    outline: Outline,
     ids: &[u8],
     masks: &[u64],
     strips: &[u16],
@@ -115,28 +130,27 @@ pub fn find(
     end: usize,
     start: usize,
     rows: &mut [i32],
-) -> Found
-    requires { ⌜ Ready holding (now bytes) end (now rows) × Lends holding (now ids) (now masks) (now strips) × (start ≤ end) ⌝ }
-    ensures { λ r. ⌜ r ≡ foundAt holding (now (bytes .entry)) end start ⌝ }
-    ensures { λ _. ⌜ now (rows .exit) ≡ rowsAfter (readAt holding (now (bytes .entry)) end start) (now (rows .entry)) ⌝ }
+) -> Finding
+    requires { ⌜ Ready (wholeOf outline (now masks) (now strips)) (now bytes) end (now rows) × Lends (wholeOf outline (now masks) (now strips)) (now ids) (now masks) (now strips) × (start ≤ end) ⌝ }
+    ensures { λ r. ⌜ Finds (wholeOf outline (now (masks .entry)) (now (strips .entry))) (now (ids .entry)) (now (bytes .entry)) end start (now (rows .entry)) (now (rows .exit)) r ⌝ }
 {
     let front = heads::front_at(bytes, end, start);
     let opening = heads::open(front);
     match opening {
-        Opening::Refused(r, missing) => Found::Answered(unopened(front, bytes, r, missing)),
+        Opening::Refused(r, missing) => Finding::Answered(unopened(front, bytes, r, missing)),
         Opening::SubType(n) => {
             let kind = kind_of(n);
             if let Kind::Mask = kind {
-                return Found::Mask;
+                return Finding::Mask;
             }
             let seen = Seen {
-                held: holding.held,
-                iod: holding.iod,
-                n: holding.nsat,
+                held: outline.held,
+                iod: outline.iod,
+                n: outline.nsat,
                 subtype: n,
             };
             let heading = heading::of(kind, seen, front, bytes);
-            Found::Answered(body_of(holding, ids, masks, strips, heading, bytes, end, rows))
+            body_of(outline, ids, masks, strips, heading, bytes, end, rows)
         }
     }
 }

@@ -10,9 +10,11 @@ use Rattle.format.specs.Reading.{stretchLimit, rowRoom, lentAfter, answerOf}
 use Rattle.format.specs.Table.{table}
 use Rattle.format.specs.Walking.{Walk, walkOn, messages, rowCount}
 use Rattle.holding.specs.declared.Holding.{Holding}
+use Rattle.holding.specs.Outlines.{wholeOf}
 use Rattle.holding.specs.Pictures.{pictureOf, maskOf, sound}
 use Rattle.walk.specs.declared.Tally.{Tally}
 use Rattle.walk.specs.declared.Halt.{Halt}
+use Rattle.walk.specs.declared.Stopped.{Stopped}
 
 -- what is held, the place with what was handed out before it, the row buffer
 pub record Stand : Type 0 where
@@ -39,6 +41,10 @@ pub record Stands (bytes : List ℕ) (end : ℕ) (s : Stand) : Type 0 where
 -- the walk from there on
 unfoldable pub restOf : List ℕ → ℕ → Stand → Walk
 restOf bytes end s = walkOn table (lent (maskOf (s .holding))) bytes end (s .tally .place) (s .rows)
+
+-- what a walk answers, with the masks and strips that it leaves
+abbrev pub haltOf : Stopped → List ℕ → List ℕ → Halt
+haltOf r satellites strips = record { stop = r .stop; tally = r .tally; holding = wholeOf (r .outline) satellites strips }
 
 -- what the whole walk then answers, and what it leaves in the row buffer
 unfoldable pub walkedWith : ℕ → ℕ → Walk → Halt

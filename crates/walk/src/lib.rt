@@ -4,16 +4,17 @@ pub mod single;
 pub mod under;
 
 ghost use mathlib.Core.Path.{_≡_};
+ghost use Rattle.holding.specs.Outlines.{wholeOf};
 ghost use Rattle.holding.specs.Pictures.{sound};
-ghost use Rattle.walk.specs.Standing.{standFirst, Stands, walkedFrom, rowsFrom};
+ghost use Rattle.walk.specs.Standing.{standFirst, Stands, haltOf, walkedFrom, rowsFrom};
 ghost use Rattle.walk.specs.Walks.{walkAt, walkedOf};
 use crate::under::under;
 use format::Answer;
 use heads::OPENING;
 use holding::Holding;
+use holding::Outline;
 use reader::Verdict;
-use reader::message::Found;
-use reader::message::adopted;
+use reader::message::Finding;
 
 // A place, and how many messages and rows were handed out before it.
 pub struct Tally {
@@ -36,35 +37,68 @@ const START: Tally = Tally {
     rows: 0,
 };
 
-// From mask to mask, all that is lent being good.
-fn on(holding: Holding, bytes: &[u8], end: usize, rows: &mut [i32]) -> Halt
-    requires { ⌜ Stands (now bytes) end (standFirst holding (now rows)) ⌝ }
-    ensures { λ r. ⌜ r ≡ walkedFrom (now (bytes .entry)) end (standFirst holding (now (rows .entry))) ⌝ }
-    ensures { λ _. ⌜ now (rows .exit) ≡ rowsFrom (now (bytes .entry)) end (standFirst holding (now (rows .entry))) ⌝ }
+// The same where masks and strips are lent: what is held but for these.
+pub struct Stopped {
+    pub stop: Answer,
+    pub tally: Tally,
+    pub outline: Outline,
+}
+
+// From mask to mask, all that is lent being good. A body near the end is filled here, and not where it was found, so that
+// the loop over messages and the copy of the body's end do not lie on the stack together.
+fn on(
+    first: Outline,
+    satellites: &mut [u64; Holding::SYSTEMS],
+    strips: &mut [u16; Holding::SATELLITES],
+    bytes: &[u8],
+    end: usize,
+    rows: &mut [i32],
+) -> Stopped
+    requires { ⌜ Stands (now bytes) end (standFirst (wholeOf first (now satellites) (now strips)) (now rows)) ⌝ }
+    ensures { λ r. ⌜ haltOf r (now (satellites .exit)) (now (strips .exit)) ≡ walkedFrom (now (bytes .entry)) end (standFirst (wholeOf first (now (satellites .entry)) (now (strips .entry))) (now (rows .entry))) ⌝ }
+    ensures { λ _. ⌜ now (rows .exit) ≡ rowsFrom (now (bytes .entry)) end (standFirst (wholeOf first (now (satellites .entry)) (now (strips .entry))) (now (rows .entry))) ⌝ }
 {
-    let mut held = holding;
+    let mut outline = first;
     let mut tally = START;
     loop {
-        let pause = under(held, bytes, end, tally, false, rows);
+        let pause = under(outline, satellites, strips, bytes, end, tally, false, rows);
         let found = pause.found;
         let here = pause.tally;
-        if let Found::Answered(stop) = found {
-            return Halt {
+        if let Finding::Answered(stop) = found {
+            return Stopped {
                 stop,
                 tally: here,
-                holding: held,
+                outline,
             };
         }
-        let reading = adopted(held, bytes, end, here.place + OPENING);
-        let answer = reading.answer;
-        held = reading.holding;
+        if let Finding::Near(answer, placed) = found {
+            let Answer::Message(_, next, n) = answer else {
+                return Stopped {
+                    stop: answer,
+                    tally: here,
+                    outline,
+                };
+            };
+            let ids = outline.ids;
+            let count = outline.count;
+            body::ending::fill(&ids[..count], satellites, strips, placed, bytes, rows);
+            tally = Tally {
+                place: next,
+                messages: here.messages + 1,
+                rows: here.rows + n,
+            };
+            continue;
+        }
+        let adoption = adoption::adopt(bytes, end, here.place + OPENING, satellites, strips);
+        let answer = adoption.answer;
         let Answer::Message(_, next, _) = answer else {
-            return Halt {
+            return Stopped {
                 stop: answer,
                 tally: here,
-                holding: held,
+                outline,
             };
         };
+        outline = adoption.outline;
         tally = Tally {
             place: next,
             messages: here.messages + 1,
@@ -80,23 +114,51 @@ pub fn walk(holding: Holding, bytes: &[u8], end: usize, rows: &mut [i32]) -> Hal
     ensures { λ _. ⌜ now (rows .exit) ≡ walkAt holding (now (bytes .entry)) end (now (rows .entry)) .rows ⌝ }
 {
     let held = holding.is_sound();
-    walk_under(held, holding, bytes, end, rows)
+    let outline = holding.outline();
+    let mut satellites = holding.satellites;
+    let mut strips = holding.strips;
+    let stopped = walk_under(
+        held,
+        outline,
+        &mut satellites,
+        &mut strips,
+        bytes,
+        end,
+        rows,
+    );
+    let stop = stopped.stop;
+    let tally = stopped.tally;
+    let after = stopped.outline;
+    let holding = after.with(satellites, strips);
+    Halt {
+        stop,
+        tally,
+        holding,
+    }
 }
 
-// The same, where the caller has seen whether the holding is one (as single::seek_under).
-pub fn walk_under(held: bool, holding: Holding, bytes: &[u8], end: usize, rows: &mut [i32]) -> Halt
-    requires { ⌜ held ≡ sound holding ⌝ }
-    ensures { λ r. ⌜ r ≡ walkedOf holding (walkAt holding (now (bytes .entry)) end (now (rows .entry))) ⌝ }
-    ensures { λ _. ⌜ now (rows .exit) ≡ walkAt holding (now (bytes .entry)) end (now (rows .entry)) .rows ⌝ }
+// The same under a holding in parts, where the caller has seen whether it is one (as single::seek_under).
+pub fn walk_under(
+    held: bool,
+    outline: Outline,
+    satellites: &mut [u64; Holding::SYSTEMS],
+    strips: &mut [u16; Holding::SATELLITES],
+    bytes: &[u8],
+    end: usize,
+    rows: &mut [i32],
+) -> Stopped
+    requires { ⌜ held ≡ sound (wholeOf outline (now satellites) (now strips)) ⌝ }
+    ensures { λ r. ⌜ haltOf r (now (satellites .exit)) (now (strips .exit)) ≡ walkedOf (wholeOf outline (now (satellites .entry)) (now (strips .entry))) (walkAt (wholeOf outline (now (satellites .entry)) (now (strips .entry))) (now (bytes .entry)) end (now (rows .entry))) ⌝ }
+    ensures { λ _. ⌜ now (rows .exit) ≡ walkAt (wholeOf outline (now (satellites .entry)) (now (strips .entry))) (now (bytes .entry)) end (now (rows .entry)) .rows ⌝ }
 {
     let room = rows.len();
     let verdict = reader::tested(held, bytes, end, 0, room);
     if let Verdict::Refused(r) = verdict {
-        return Halt {
+        return Stopped {
             stop: Answer::Refused(r, 0),
             tally: START,
-            holding,
+            outline,
         };
     }
-    on(holding, bytes, end, rows)
+    on(outline, satellites, strips, bytes, end, rows)
 }

@@ -3,6 +3,7 @@
 ghost use mathlib.Core.Path.{_≡_};
 ghost use lib.ListN.{length};
 ghost use Rattle.format.specs.Reading.{rowsAfter};
+ghost use Rattle.holding.specs.Outlines.{wholeOf};
 ghost use Rattle.holding.specs.Pictures.{sound};
 ghost use Rattle.reader.specs.Readings.{readingOf, outcomeAt, soughtAt};
 use crate::Tally;
@@ -10,8 +11,10 @@ use crate::under::under;
 use format::Answer;
 use heads::OPENING;
 use holding::Holding;
+use holding::Outline;
 use reader::Reading;
 use reader::Verdict;
+use reader::message::Finding;
 use reader::message::Found;
 use reader::message::adopted;
 
@@ -22,22 +25,27 @@ pub fn seek(holding: Holding, bytes: &[u8], end: usize, start: usize, rows: &mut
     ensures { λ _. ⌜ now (rows .exit) ≡ rowsAfter (outcomeAt holding (now (bytes .entry)) end start (now (rows .entry))) (now (rows .entry)) ⌝ }
 {
     let held = holding.is_sound();
-    seek_under(held, holding, bytes, end, start, rows)
+    let outline = holding.outline();
+    let satellites = holding.satellites;
+    let strips = holding.strips;
+    seek_under(held, outline, &satellites, &strips, bytes, end, start, rows)
 }
 
-// The same, where the caller has seen whether the holding is one: then the value that was tested is the one that is lent,
-// and no copy of it is made.
+// The same under a holding in parts, where the caller has seen whether it is one: then the values that were tested are
+// those that are lent, and no copy of them is made.
 pub fn seek_under(
     held: bool,
-    holding: Holding,
+    outline: Outline,
+    satellites: &[u64; Holding::SYSTEMS],
+    strips: &[u16; Holding::SATELLITES],
     bytes: &[u8],
     end: usize,
     start: usize,
     rows: &mut [i32],
 ) -> Found
-    requires { ⌜ held ≡ sound holding ⌝ }
-    ensures { λ r. ⌜ r ≡ soughtAt holding (now (bytes .entry)) end start (length (now (rows .entry))) ⌝ }
-    ensures { λ _. ⌜ now (rows .exit) ≡ rowsAfter (outcomeAt holding (now (bytes .entry)) end start (now (rows .entry))) (now (rows .entry)) ⌝ }
+    requires { ⌜ held ≡ sound (wholeOf outline (now satellites) (now strips)) ⌝ }
+    ensures { λ r. ⌜ r ≡ soughtAt (wholeOf outline (now (satellites .entry)) (now (strips .entry))) (now (bytes .entry)) end start (length (now (rows .entry))) ⌝ }
+    ensures { λ _. ⌜ now (rows .exit) ≡ rowsAfter (outcomeAt (wholeOf outline (now (satellites .entry)) (now (strips .entry))) (now (bytes .entry)) end start (now (rows .entry))) (now (rows .entry)) ⌝ }
 {
     let room = rows.len();
     let verdict = reader::tested(held, bytes, end, start, room);
@@ -49,8 +57,18 @@ pub fn seek_under(
         messages: 0,
         rows: 0,
     };
-    let pause = under(holding, bytes, end, from, true, rows);
-    pause.found
+    let pause = under(outline, satellites, strips, bytes, end, from, true, rows);
+    let found = pause.found;
+    match found {
+        Finding::Mask => Found::Mask,
+        Finding::Answered(answer) => Found::Answered(answer),
+        Finding::Near(answer, placed) => {
+            let ids = outline.ids;
+            let count = outline.count;
+            body::ending::fill(&ids[..count], satellites, strips, placed, bytes, rows);
+            Found::Answered(answer)
+        }
+    }
 }
 
 // Reads the message at a place, a mask too.

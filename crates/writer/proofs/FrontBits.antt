@@ -2,7 +2,9 @@
 use Rattle.bits.proofs.Words.{_≡_, refl, sym, ap, ap₂, _∙_, Bool, true, false, List, _++_, ℕ, _+_, _*_, _^_, _≤_, _<_, arith, ℤ, pos}
 use mathlib.Core.Bool.{false≢true}
 use mathlib.Core.List.{append-nil, append-assoc}
+use native.Mathlib.Nat.{lt-of-lt-of-le}
 use lib.IntN.{negsuc}
+use lib.Pow.{pow-mono}
 use Rattle.bits.proofs.BitLists.{spell-append}
 use Rattle.bits.specs.BitLists.{spell}
 use Rattle.bits.specs.Signed.{unsigned}
@@ -16,7 +18,7 @@ use Rattle.writer.specs.Fronts.{penAt, openingField, lastField, frontFie
 use Rattle.pens.specs.Numbers.{wordOf}
 use Rattle.pens.specs.Pens.{penAfter, spellFields, Fine, Fines, none, more}
 use Rattle.writer.proofs.Fronts.{Smalls, common-smalls}
-use Rattle.pens.proofs.Gathered.{widths, joinedTo, all-join, joined-small, spell-joined}
+use Rattle.pens.proofs.Gathered.{widths, joinedTo, all-place, all-width, all-join, joined-small, spell-joined}
 use Rattle.pens.proofs.Numbers.{fits-small}
 
 -- a number that fits is spelled by its bits
@@ -25,23 +27,29 @@ unfolding put unsigned wordOf numberFits
 put-word w (pos n) fits = refl
 put-word w (negsuc n) fits = absurd (false≢true fits)
 
--- a pen that gathers fields from nothing has their bits
-pub pen-bits : (fs : List Field) (start : ℕ) → Fines fs → widths fs ≤ 56 → let p = penAfter (penAt start) fs in spell (p .width) (p .gathered) ≡ spellFields fs
-unfolding spell
-pen-bits fs start fines few =
-    ap (λ (p : Pen). spell (p .width) (p .gathered)) (all-join fs (penAt start) (omega arith)) ∙ spell-joined fs 0 0 fines
+-- a pen that gathers fields from nothing stays at its place
+module _ (fs : List Field) (start : ℕ) where
+  pub pen-place : widths fs ≤ 56 → penAfter (penAt start) fs .place ≡ start
+  pen-place few = all-place fs (penAt start) (omega arith)
 
-pub pen-place : (fs : List Field) (start : ℕ) → widths fs ≤ 56 → penAfter (penAt start) fs .place ≡ start
-pen-place fs start few = ap (λ (p : Pen). p .place) (all-join fs (penAt start) (omega arith))
+  pub pen-width : widths fs ≤ 56 → penAfter (penAt start) fs .width ≡ widths fs
+  pen-width few = all-width fs (penAt start) (omega arith) ∙ omega arith
 
-pub pen-width : (fs : List Field) (start : ℕ) → widths fs ≤ 56 → penAfter (penAt start) fs .width ≡ widths fs
-pen-width fs start few = ap (λ (p : Pen). p .width) (all-join fs (penAt start) (omega arith)) ∙ omega arith
+  module _ (fines : Fines fs) (few : widths fs ≤ 56) where
+    number-of : joinedTo 0 fs < 2 ^ (0 + widths fs)
+    number-of = joined-small fs 0 0 (omega arith) fines
 
--- and is a number of so many bits
-pub pen-fine : (fs : List Field) (start : ℕ) → Fines fs → widths fs ≤ 56 → let p = penAfter (penAt start) fs in Fine (p .width) (p .gathered)
-pen-fine fs start fines few =
-    let number-of : joinedTo 0 fs < 2 ^ (0 + widths fs) = joined-small fs 0 0 (omega arith) fines in
-    rw (all-join fs (penAt start) (omega arith)) (record { narrow = omega arith; small = number-of })
+    all : penAfter (penAt start) fs ≡ record { place = start; width = 0 + widths fs; gathered = joinedTo 0 fs }
+    all = all-join fs (penAt start) (omega arith) (lt-of-lt-of-le number-of (pow-mono {j = 64} (omega arith)))
+
+    -- and has their bits
+    pub pen-bits : let p = penAfter (penAt start) fs in spell (p .width) (p .gathered) ≡ spellFields fs
+    unfolding spell
+    pen-bits = ap (λ (p : Pen). spell (p .width) (p .gathered)) all ∙ spell-joined fs 0 0 fines
+
+    -- as a number of so many
+    pub pen-fine : let p = penAfter (penAt start) fs in Fine (p .width) (p .gathered)
+    pen-fine = rw all (record { narrow = omega arith; small = number-of })
 
 -- ---- the common head
 

@@ -17,7 +17,7 @@ use Rattle.fitting.specs.FitHeads.{numberFits, commonFits}
 use Rattle.writer.specs.Fronts.{penAt, openingField, lastField, frontFields, maskFront}
 use Rattle.putting.specs.MaskFields.{maskFields}
 use Rattle.pens.specs.Numbers.{wordOf}
-use Rattle.pens.specs.Pens.{penAfter, spellFields, Fine, Fines, none, more, Ready}
+use Rattle.pens.specs.Pens.{penAfter, spellFields, Fine, Fines, none, more, Begins}
 use Rattle.writer.specs.Written.{maskRight, maskSpelled}
 use Rattle.writer.proofs.FrontBits.{pen-bits, pen-place, pen-width, pen-fine, front-fines}
 use Rattle.pens.proofs.Gathered.{widths, length-fields}
@@ -67,8 +67,9 @@ module _ (held : Holding) (on : sound held ≡ true) (h : Head) (count : ℕ) (t
     unfolding maskSpelled
     mask-parts = ap₂ _++_ (sym (pen-bits (maskFront h) start front-fine few)) (sym (mask-spelled held on))
 
-    pub mask-ready : (bytes : List ℕ) → start + length (maskSpelled held h) ≤ 8 * length bytes → start + length (maskSpelled held h) < 2 ^ 32 → Ready pen (maskFields held) bytes
-    mask-ready bytes room near =
+    -- and there is room for them
+    pub mask-begins : (bytes : List ℕ) → start + length (maskSpelled held h) ≤ 8 * length bytes → start + length (maskSpelled held h) < 2 ^ 32 → Begins pen (maskFields held) bytes
+    mask-begins bytes room near =
         let place = pen-place (maskFront h) start few in
         let width = pen-width (maskFront h) start few ∙ long-front in
         let last : length (spellFields (maskFields held)) ≡ length systems = ap length (mask-spelled held on) in

@@ -3,6 +3,7 @@ use Rattle.bits.proofs.Words.{_≡_, refl, sym, ap, ap₂, _∙_, Bool, true, f
 use mathlib.Core.Bool.{false≢true}
 use mathlib.Core.List.{flatMap}
 use borrow.Author.Tests.{le-leb, lt-leb, ne-eqb}
+use native.Mathlib.Decide.{decLe}
 use lib.IntN.{negsuc}
 use Rattle.format.specs.declared.Head.{Head}
 use Rattle.format.specs.declared.Refusal.the-variants.{Value}
@@ -110,5 +111,23 @@ module _ (holding : Holding) (on : sound holding ≡ true) (a : Asked) (numbers 
         ∙ mask-bits m (t .number) (t .row) h (t .typed) (right-common holding on h (a .count) typed fine) (right-count holding on h (a .count) typed fine) rows
         ∙ ap (λ (k : Held). spellFields (maskFront h) ++ flatMap putSystem (maskOr k .systems)) (sym e))
 
-    pub past-mask : Kinds.Mask ≡ kindAt (h .subtype) → gateBy Kinds.Mask (isHeld g) (issueOf g) h ≡ Open → all ≡ masked holding h (a .count) bytes (a .start)
-    past-mask known opens = mask-past g refl (sounds holding on) known opens
+    past-counted : Kinds.Mask ≡ kindAt (h .subtype) → gateBy Kinds.Mask (isHeld g) (issueOf g) h ≡ Open → all ≡ masked holding h (a .count) bytes (a .start)
+    past-counted known opens = mask-past g refl (sounds holding on) known opens
+
+  and-none : (x : Bool) → (x && false) ≡ false
+  and-none true = refl
+  and-none false = refl
+
+  -- where more rows are counted than are lent, some are counted
+  mask-few : length numbers < 8 * a .count → all ≡ masked holding h (a .count) bytes (a .start)
+  unfolding masked maskRight
+  mask-few few =
+      let some : eqb (a .count) 0 ≡ false = ne-eqb (a .count) 0 (λ e. omega arith) in
+      too-few few ∙ sym (unfit (maskSpelled holding h) bytes (a .start) (rw (some, and-none (sameℤ (h .c) absent), and-none (sameℤ (h .b) absent), and-none (sameℤ (h .a) (pos (holding .count))), and-none (commonFits 20 h))))
+
+  pub past-mask : Kinds.Mask ≡ kindAt (h .subtype) → gateBy Kinds.Mask (isHeld g) (issueOf g) h ≡ Open → all ≡ masked holding h (a .count) bytes (a .start)
+  past-mask known opens = go (decLe (8 * a .count) (length numbers))
+    where
+      go : Dec (8 * a .count ≤ length numbers) → all ≡ masked holding h (a .count) bytes (a .start)
+      go (yes whole) = past-counted whole known opens
+      go (no few) = mask-few (omega arith)

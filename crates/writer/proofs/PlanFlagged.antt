@@ -22,6 +22,7 @@ use Rattle.table.specs.declared.Layout.{Layout}
 use Rattle.table.specs.Bodies.{linesOver, linesIn}
 use Rattle.table.specs.Kinds.{overBy}
 use Rattle.table.specs.Shapes.{shapesFrom}
+use Rattle.putting.specs.declared.marks.Selected.{Selected}
 use Rattle.writer.specs.declared.plan.Plan.{Plan}
 use Rattle.fitting.specs.Fits.{rowsFit}
 use Rattle.fitting.specs.FitHeads.{numberFits, networkFits, commonFits, aloneFits, flaggedFits, fits}
@@ -166,10 +167,10 @@ few-bits h = go (sameℤ (h .c) absent)
 
 -- ---- all of it
 
-module _ {m : Mask} {v : View} {n : ℕ} {l : Layout} {h : Head} (u : Under m v n l h) (flagged : l .flagged ≡ true) (rows : List (List ℤ)) (start chosen many : ℕ)
-    (choice : pick (spell 64 chosen) (v .satellites) ≡ chosenBy (v .satellites) (h .c) rows) where
+module _ {m : Mask} {v : View} {n : ℕ} {l : Layout} {h : Head} (u : Under m v n l h) (flagged : l .flagged ≡ true) (rows : List (List ℤ)) (start : ℕ) (sel : Selected) (many : ℕ)
+    (choice : pick (spell 64 (sel .word)) (v .satellites) ≡ chosenBy (v .satellites) (h .c) rows) where
   abbrev plan : Plan
-  plan = flaggedPlan h (l .shape) start chosen many
+  plan = flaggedPlan h (l .shape) start sel many
 
   abbrev sats : List Satellite
   sats = v .satellites
@@ -205,17 +206,17 @@ module _ {m : Mask} {v : View} {n : ℕ} {l : Layout} {h : Head} (u : Under m v 
     pub flagged-fines : Fines (frontFields 12 h ++ flagFields h)
     flagged-fines = fines-append (front-fines h (under-type u rows) 12 (omega arith) (flagged-common h head)) (flags-fine h head)
 
-    pub flagged-bits : (sameℤ (h .c) absent ≡ false → selected many chosen ≡ marks sats rows) → spelled (mask m) h rows ≡ planBits v plan rows
+    pub flagged-bits : (sameℤ (h .c) absent ≡ false → selected many (sel .word) ≡ marks sats rows) → spelled (mask m) h rows ≡ planBits v plan rows
     unfolding planBits flaggedPlan putFlagged frontFields flagFields total openingField lastField
     flagged-bits marked =
         let front : List Bool = spellFields (frontFields 12 h) in
         let flags : List Bool = spellFields (flagFields h) in
-        let selection : List Bool = selected (cond (sameℤ (h .c) absent) 0 many) chosen in
+        let selection : List Bool = selected (cond (sameℤ (h .c) absent) 0 many) (sel .word) in
         let rest : List Bool = spellRows asked rows in
         let whole : spell (plan .pen .width) (plan .pen .gathered) ≡ front ++ flags =
         pen-bits (frontFields 12 h ++ flagFields h) start flagged-fines (few-bits h) ∙ spell-fields-append (frontFields 12 h) (flagFields h) in
         let both : flags ++ selection ≡ put 1 (h .a) ++ (put 1 (h .b) ++ putSelection (skyOf m .satellites) (h .c) rows) =
-        flags-bits h head (skyOf m .satellites) rows chosen many (λ e. marked e ∙ ap (λ (ss : List Satellite). marks ss rows) (sym seen)) in
+        flags-bits h head (skyOf m .satellites) rows (sel .word) many (λ e. marked e ∙ ap (λ (ss : List Satellite). marks ss rows) (sym seen)) in
         under-bits u rows (flagged-common h head)
         ∙ ap (λ (x : Bool). front ++ cond x (putFlagged (shapesFrom (l .shape))) (putRows (overBy l)) (skyOf m) h rows) flagged
         ∙ ap (λ (k : List Bool). front ++ k)

@@ -1,5 +1,6 @@
 -- A message with rows that fit: its length, and that it can be put out. Assumes nothing.
-use Rattle.bits.proofs.Words.{_≡_, sym, ap, ap₂, _∙_, Bool, true, List, _++_, ℕ, _+_, _-_, _*_, _/_, _^_, _≤_, _<_, arith, length, ℤ}
+use Rattle.bits.proofs.Words.{_≡_, refl, sym, ap, ap₂, _∙_, Bool, true, List, [], _∷_, _++_, ℕ, zero, suc, _+_, _-_, _*_, _/_, _^_, _≤_, _<_, arith, length, drop, ℤ}
+use mathlib.Core.Bool.{false≢true}
 use lib.ListN.{length-append}
 use Rattle.bits.proofs.BitLists.{length-spell}
 use Rattle.bits.specs.BitLists.{spell}
@@ -14,7 +15,10 @@ use Rattle.table.specs.declared.Keys.{Keys}
 use Rattle.table.specs.declared.Keys.the-variants.{Satellites, Cells, Parts}
 use Rattle.table.specs.Bodies.{linesOver, linesIn, FitsKeys}
 use Rattle.writer.specs.declared.plan.Plan.{Plan}
-use Rattle.fitting.specs.Fits.{rowsFit}
+use Rattle.fitting.specs.Fits.{rowFits, rowsFit}
+use Rattle.format.proofs.Sames.{and-true}
+use Rattle.putting.specs.Sizes.{Sized}
+use Rattle.putting.proofs.OwnColumns.{orbit-usual}
 use Rattle.writer.specs.Kinds.{planBits}
 use Rattle.putting.specs.Marking.{selectionFields}
 use Rattle.pens.specs.Pens.{spellFields}
@@ -36,6 +40,20 @@ body-shaped v (Satellites chosen) shape fits = satellites-shaped (shapeFor shape
 body-shaped v (Cells chosen) shape fits =
     cells-shaped (shapeFor shape) (shapeAt shape) (λ system. columns-in system shape) (stripCells (pick (spell 64 chosen) (v .satellites)) (pick (spell 64 chosen) (v .strips)))
 body-shaped v (Parts n) shape fits = packet-shaped (shapeFor shape) (λ system. columns-in system shape ∙ packets shape system (fits .1)) 1 n
+
+-- as many rows as are counted
+pub length-rows : (n : ℕ) (rows : List ℤ) → length (rowsIn n rows) ≡ n
+unfolding rowsIn
+length-rows zero rows = refl
+length-rows (suc n) rows = ap suc (length-rows n (drop 8 rows))
+
+-- and as many as lines, where they fit
+fit-count : (lines : List Line) (rows : List (List ℤ)) → rowsFit lines rows ≡ true → length rows ≡ length lines
+unfolding rowsFit
+fit-count [] [] fits = refl
+fit-count [] (r ∷ rs) fits = absurd (false≢true fits)
+fit-count (n ∷ ns) [] fits = absurd (false≢true fits)
+fit-count (n ∷ ns) (r ∷ rs) fits = ap suc (fit-count ns rs (and-true (rowFits n r) (rowsFit ns rs) fits .1))
 
 module _ (v : View) (p : Plan) (made : Made p) (numbers : List ℤ) (count : ℕ) (whole : 8 * count ≤ length numbers) where
   abbrev rows : List (List ℤ)
@@ -66,6 +84,19 @@ module _ (v : View) (p : Plan) (made : Made p) (numbers : List ℤ) (count : ℕ
         ∙ ap₂ _+_ (length-spell (p .marked) (p .chosen / 2 ^ (64 - p .marked))) (fit-rows lines rows fits .1))
         ∙ omega arith
 
+    -- those of its rows, of which there are few
+    pub rows-long : length (spellFields (rowFields (shapeFor (p .body .shape)) rows)) ≡ bodyWidth lines
+    rows-long = ap length (rowed .spelled) ∙ fit-rows lines rows fits .1
+
+    pub rows-sized : length lines ≤ 256 → Sized (shapeFor (p .body .shape)) numbers count
+    rows-sized few =
+        record {
+          formed = formed (p .body .shape);
+          orbit = orbit-usual (p .body .shape);
+          whole = whole;
+          few = omega (arith, few, fit-count lines rows fits, length-rows count numbers);
+        }
+
     -- and there is room for them
     pub plan-puts : (bytes : List ℕ) → p .pen .place + length (planBits v p rows) ≤ 8 * length bytes → p .pen .place + length (planBits v p rows) < 2 ^ 32 → Puts p numbers count bytes
     unfolding planFields
@@ -76,7 +107,7 @@ module _ (v : View) (p : Plan) (made : Made p) (numbers : List ℤ) (count : ℕ
           marked = made .marked;
           whole = whole;
           fitting = rowed .fitting;
-          ready =
+          begins =
               record {
                 pen = made .pen;
                 fields = fines-append (selection-fines (p .chosen) (p .marked) (made .chosen) (made .marked)) (rowed .fines);

@@ -1,10 +1,13 @@
 -- The plan of a kind tells what head and rows come to: whether they fit, and their bits. Assumes nothing.
-use Rattle.bits.proofs.Words.{_≡_, refl, sym, ap, _∙_, Bool, true, false, cond, _&&_, List, _++_, ℕ, _+_, _-_, _*_, _/_, _^_, _≤_, _<_, arith, length, ℤ, pos}
+use Rattle.bits.proofs.Words.{_≡_, refl, sym, ap, _∙_, Bool, true, false, not, cond, _&&_, List, _++_, ℕ, _+_, _-_, _*_, _/_, _^_, _≤_, _<_, arith, eqb, length, ℤ, pos}
 use mathlib.Core.Bool.{false≢true}
 use lib.IntN.{negsuc}
 use Rattle.bits.specs.BitLists.{spell}
 use Rattle.format.proofs.Picks.{pick-all}
-use Rattle.format.proofs.Sames.{and-true}
+use borrow.Author.Tests.{eq-eqb, eqb-true, not-true}
+use Rattle.matching.proofs.ValueTests.{chosen-valued}
+use Rattle.matching.specs.Values.{rowsValued}
+use Rattle.format.proofs.Sames.{and-true, same-test}
 use Rattle.format.specs.declared.Head.{Head}
 use Rattle.format.specs.declared.Refusal.the-variants.{OtherIssue}
 use Rattle.format.specs.Lengths.{total}
@@ -17,12 +20,15 @@ use Rattle.holding.proofs.Sounds.{Sounds, few-held}
 use Rattle.holding.specs.declared.Holding.{Holding}
 use Rattle.holding.specs.Held.{isHeld, issueOf, satellitesHeld, cellsHeld, View, skyIn, slotsOf, viewOf, stripCells}
 use Rattle.rows.proofs.Table.{laid}
+use Rattle.rows.specs.Shapes.{columnsIn}
+use Rattle.rows.specs.Table.{shapeFor}
 use Rattle.table.proofs.Tabled.{tabled}
 use Rattle.table.specs.declared.Kind.{Kind}
 use Rattle.table.specs.declared.Kind.the-variants as Kinds
 use Rattle.table.specs.declared.Kind.the-variants.{Other, Packet, Masked}
 use Rattle.table.specs.declared.Layout.{Layout}
-use Rattle.table.specs.Bodies.{linesIn, FitsKeys}
+use Rattle.table.specs.declared.Keys.the-variants.{Satellites}
+use Rattle.table.specs.Bodies.{linesIn, linesOver, FitsKeys}
 use Rattle.table.specs.Kinds.{kindFor, LaidOut, OfTable}
 use Rattle.writer.specs.declared.gate.Gate.{Gate}
 use Rattle.writer.specs.declared.gate.Gate.the-variants.{Open, Shut}
@@ -33,11 +39,12 @@ use Rattle.fitting.specs.Fits.{rowsFit}
 use Rattle.fitting.specs.FitHeads.{commonFits, fits}
 use Rattle.writer.specs.Fronts.{openingField, lastField, frontFields, flagFields, packetFields}
 use Rattle.writer.specs.Kinds.{kindAt, issueGate, gateBy, planBits}
-use Rattle.putting.specs.Marking.{marksWord}
+use Rattle.putting.specs.declared.marks.Selected.{Selected}
+use Rattle.putting.specs.Marking.{marksWord, markedBy}
 use Rattle.pens.specs.Numbers.{wordOf}
 use Rattle.writer.specs.Plans.{everyone, aloneHead, alonePlan, flaggedHead, flaggedPlan, packetHead, packetPlan}
 use Rattle.writer.specs.Writings.{selectedBy, maskedPlan, planFor}
-use Rattle.writer.specs.Written.{Made}
+use Rattle.writer.specs.Written.{Made, Keyed}
 use Rattle.writer.proofs.FrontBits.{front-fines, pen-fine, pen-place}
 use Rattle.putting.proofs.MarkWords.{word-small, word-picks, word-top}
 use Rattle.writer.proofs.PlanBits.{Under, under-type, alone-fits, alone-bits}
@@ -47,12 +54,25 @@ use Rattle.writer.proofs.SubTypes.{isOther}
 
 -- ---- what is told
 
+-- numbers of rows are as many where the rows are
+eqb-eights : (m n : ℕ) → eqb m n ≡ eqb (8 * m) (8 * n)
+eqb-eights m n = same-test (eqb m n) (eqb (8 * m) (8 * n)) (λ e. eq-eqb (8 * m) (8 * n) (ap (λ (k : ℕ). 8 * k) (eqb-true m n e))) (λ e. eq-eqb m n (omega (arith, eqb-true (8 * m) (8 * n) e)))
+
+-- a selection of every satellite, which no row tells
+abbrev every : Selected
+every = record { word = everyone; told = 0 }
+
 -- a plan that is well made, at the place asked for, whose rows fit just where the message does, and then has its bits
 pub record Well (v : View) (g : Held) (h : Head) (rows : List (List ℤ)) (start : ℕ) (p : Plan) : Type 0 where
   pub made : Made p
   pub place : p .pen .place ≡ start
   pub fit : fits g h rows ≡ rowsFit (linesIn v (p .body)) rows
   pub bits : rowsFit (linesIn v (p .body)) rows ≡ true → spelled g h rows ≡ planBits v p rows
+  pub keyed : Keyed v p rows
+
+-- no rows told a selection
+no-keys : {v : View} {p : Plan} {rows : List (List ℤ)} → p .keyed ≡ false → Keyed v p rows
+no-keys none = record { four = λ e. absurd (false≢true (sym none ∙ e)); rest = λ e. absurd (false≢true (sym none ∙ e)) }
 
 unfoldable pub Tells : View → Held → Head → List (List ℤ) → ℕ → Planned → Type 0
 Tells v g h rows start (Message p) = Well v g h rows start p
@@ -76,6 +96,7 @@ module _ (v : View) (g : Held) (h : Head) (rows : List (List ℤ)) (start n : �
         place = pen-place (packetFields h) start (omega arith);
         fit = packet-fits g v n row h typed rows start head;
         bits = packet-bits g v n row h typed rows start head;
+        keyed = no-keys refl;
       }
 
   packet-told : (b : Bool) → packetHead h ≡ b → Tells v g h rows start (cond b (Message (packetPlan h start)) Never)
@@ -95,55 +116,85 @@ module _ {m : Mask} {v : View} {n : ℕ} {l : Layout} {h : Head} (u : Under m v 
         place = pen-place (frontFields 12 h) start (omega arith);
         fit = alone-fits u bare rows start ∙ ap (λ (b : Bool). b && rowsFit (linesIn v (alonePlan h l start .body)) rows) head;
         bits = λ _. alone-bits u bare rows start head;
+        keyed = no-keys refl;
       }
 
   abbrev sats : List Satellite
   sats = v .satellites
 
+  abbrev told : Selected
+  told = selectedBy sats (h .c) rows
+
   abbrev chosen : ℕ
-  chosen = selectedBy sats (h .c) rows
+  chosen = told .word
 
   -- a selection's word chooses those of its marks, all of them without a network
   choice : pick (spell 64 chosen) sats ≡ chosenBy sats (h .c) rows
-  unfolding selectedBy chosenBy
+  unfolding selectedBy chosenBy markedBy
   choice = go (sameℤ (h .c) absent)
     where
-      go : (b : Bool) → pick (spell 64 (cond b everyone (marksWord sats rows))) sats ≡ cond b sats (pick (marks sats rows) sats)
+      go : (b : Bool) → pick (spell 64 (cond b every (markedBy sats rows) .word)) sats ≡ cond b sats (pick (marks sats rows) sats)
       go true = pick-all sats (u .few)
       go false = word-picks sats rows (u .few)
 
   chosen-small : chosen < 2 ^ 64
-  unfolding selectedBy
+  unfolding selectedBy markedBy
   chosen-small = go (sameℤ (h .c) absent)
     where
-      go : (b : Bool) → cond b everyone (marksWord sats rows) < 2 ^ 64
+      go : (b : Bool) → cond b every (markedBy sats rows) .word < 2 ^ 64
       go true = omega arith
       go false = word-small sats rows (u .few)
 
-  marked : sameℤ (h .c) absent ≡ false → spell (length sats) (chosen / 2 ^ (64 - length sats)) ≡ marks sats rows
+  -- with a network it is told by rows
+  by-rows : sameℤ (h .c) absent ≡ false → told ≡ markedBy sats rows
   unfolding selectedBy
-  marked some = rw some (word-top sats rows)
+  by-rows some = ap (λ (b : Bool). cond b every (markedBy sats rows)) some
+
+  marked : sameℤ (h .c) absent ≡ false → spell (length sats) (chosen / 2 ^ (64 - length sats)) ≡ marks sats rows
+  unfolding markedBy
+  marked some = ap (λ (t : Selected). spell (length sats) (t .word / 2 ^ (64 - length sats))) (by-rows some) ∙ word-top sats rows
 
   few-marks : (b : Bool) → cond b 0 (length sats) ≤ 64
   few-marks true = omega arith
   few-marks false = u .few
 
-  flagged-well : l .flagged ≡ true → flaggedHead h ≡ true → Well v (mask m) h rows start (flaggedPlan h (l .shape) start chosen (length sats))
+  -- with a network: that its rows are all that tell the selection, and the rest of each
+  told-rest : sameℤ (h .c) absent ≡ false → (i : ℕ)
+      → rowsFit (linesOver v (Satellites chosen) i) rows ≡ (eqb (told .told) (8 * length rows) && rowsValued (columnsIn (shapeFor i)) rows)
+  unfolding markedBy
+  told-rest some i =
+      ap (λ (t : Selected). rowsFit (linesOver v (Satellites (t .word)) i) rows) (by-rows some)
+      ∙ chosen-valued v (marksWord sats rows) i rows (word-picks sats rows (u .few))
+      ∙ ap (λ (b : Bool). b && rowsValued (columnsIn (shapeFor i)) rows) (eqb-eights (length (pick (marks sats rows) sats)) (length rows))
+      ∙ ap (λ (t : Selected). eqb (t .told) (8 * length rows) && rowsValued (columnsIn (shapeFor i)) rows) (sym (by-rows some))
+
+  flagged-keyed : (i : ℕ) → (p : Plan) → p .body ≡ record { keys = Satellites chosen; shape = i } → p .told ≡ told .told → p .keyed ≡ not (sameℤ (h .c) absent) → i < 4 → Keyed v p rows
+  unfolding linesIn
+  flagged-keyed i p body far known four =
+      record {
+        four = λ _. rw body four;
+        rest = λ e. rw (body, far) (told-rest (not-true _ (sym known ∙ e)) i);
+      }
+
+  flagged-well : l .flagged ≡ true → flaggedHead h ≡ true → Well v (mask m) h rows start (flaggedPlan h (l .shape) start told (length sats))
   unfolding flaggedPlan FitsKeys
   flagged-well flagged head =
-      let fines = flagged-fines u flagged rows start chosen (length sats) choice head in
+      let fines = flagged-fines u flagged rows start told (length sats) choice head in
       let first = out .with-flags flagged .1 in
+      let shape : ℕ = l .shape + (wordOf (h .a) * 2 + wordOf (h .b)) in
+      let four : shape < 4 = omega (arith, first, a-small h head, b-small h head) in
       record {
         made =
             record {
               pen = pen-fine (frontFields 12 h ++ flagFields h) start fines (few-bits h);
               marked = few-marks (sameℤ (h .c) absent);
               chosen = chosen-small;
-              body = laid (l .shape + (wordOf (h .a) * 2 + wordOf (h .b))) (omega (arith, first, a-small h head, b-small h head));
+              body = laid shape four;
             };
         place = pen-place (frontFields 12 h ++ flagFields h) start (few-bits h);
-        fit = flagged-fits u flagged rows start chosen (length sats) choice head;
-        bits = λ _. flagged-bits u flagged rows start chosen (length sats) choice head marked;
+        fit = flagged-fits u flagged rows start told (length sats) choice head;
+        bits = λ _. flagged-bits u flagged rows start told (length sats) choice head marked;
+        keyed = flagged-keyed shape (flaggedPlan h (l .shape) start told (length sats)) refl refl refl four;
       }
 
   pub masked-told : Tells v (mask m) h rows start (maskedPlan sats l h start rows)
@@ -154,12 +205,12 @@ module _ {m : Mask} {v : View} {n : ℕ} {l : Layout} {h : Head} (u : Under m v 
       alone bare true head = alone-well bare head
       alone bare false head = alone-fits u bare rows start ∙ ap (λ (b : Bool). b && rowsFit (linesIn v (alonePlan h l start .body)) rows) head
 
-      behind-flags : l .flagged ≡ true → (b : Bool) → flaggedHead h ≡ b → Tells v (mask m) h rows start (cond b (Message (flaggedPlan h (l .shape) start chosen (length sats))) Never)
+      behind-flags : l .flagged ≡ true → (b : Bool) → flaggedHead h ≡ b → Tells v (mask m) h rows start (cond b (Message (flaggedPlan h (l .shape) start told (length sats))) Never)
       behind-flags flagged true head = flagged-well flagged head
-      behind-flags flagged false head = flagged-unfit u flagged rows start chosen (length sats) choice head
+      behind-flags flagged false head = flagged-unfit u flagged rows start told (length sats) choice head
 
       go : (f : Bool) → l .flagged ≡ f
-          → Tells v (mask m) h rows start (cond f (cond (flaggedHead h) (Message (flaggedPlan h (l .shape) start chosen (length sats))) Never) (cond (aloneHead h) (Message (alonePlan h l start)) Never))
+          → Tells v (mask m) h rows start (cond f (cond (flaggedHead h) (Message (flaggedPlan h (l .shape) start told (length sats))) Never) (cond (aloneHead h) (Message (alonePlan h l start)) Never))
       go true flagged = behind-flags flagged (flaggedHead h) refl
       go false bare = alone bare (aloneHead h) refl
 

@@ -29,11 +29,11 @@ module _ (holding : Holding) (h : Head) (rows : List ℤ) (count : ℕ) (bytes :
     own-gate = ap₂ (λ (b : Bool) (n : ℕ). gateBy (kindAt (h .subtype)) b n h) (sounds holding on .held) (sounds holding on .iod)
 
     pub sound-writing : writing (lentBy holding) h rows count bytes start
-        ≡ byGate (gateBy (kindAt (h .subtype)) (holding .held) (holding .iod) h) (pastGate holding (record { head = h; count = count; start = start }) rows bytes)
+        ≡ byGate (gateBy (kindAt (h .subtype)) (holding .held) (holding .iod) h) (pastGate holding (record { kind = kindAt (h .subtype); head = h; count = count; start = start }) rows bytes)
     unfolding lentBy isHolding heldIn pastGate
     sound-writing =
         ap (λ (l : Lent). writing l h rows count bytes start) held ∙ gated (lent (maskOf holding)) h rows count bytes start inside (sounds holding on .good-held)
-        ∙ ap (λ (k : Gate). byGate k (pastGate holding (record { head = h; count = count; start = start }) rows bytes)) (sym (own-gate ∙ gate-means (maskOf holding) h))
+        ∙ ap (λ (k : Gate). byGate k (pastGate holding (record { kind = kindAt (h .subtype); head = h; count = count; start = start }) rows bytes)) (sym (own-gate ∙ gate-means (maskOf holding) h))
       where
         held : lentBy holding ≡ lent (maskOf holding)
         held = rw on

@@ -1,5 +1,5 @@
 -- What is planned of a message with rows before the first bit is set, as far as its head goes: document 01, "Message layouts" and refusal 12.
-use mathlib.Core.Bool.{Bool, cond, _&&_}
+use mathlib.Core.Bool.{Bool, false, not, cond, _&&_}
 use mathlib.Core.List.{_++_}
 use Prim.Native.Nat.{ℕ, _+_, _-_, _*_, _^_}
 use Rattle.format.specs.declared.Head.{Head}
@@ -13,6 +13,7 @@ use Rattle.fitting.specs.FitHeads.{numberFits, commonFits, networkFits}
 use Rattle.writer.specs.Fronts.{penAt, frontFields, flagFields, packetFields}
 use Rattle.pens.specs.Numbers.{wordOf}
 use Rattle.pens.specs.Pens.{penAfter}
+use Rattle.putting.specs.declared.marks.Selected.{Selected}
 
 -- a selection of every satellite
 abbrev pub everyone : ℕ
@@ -29,6 +30,8 @@ alonePlan h l start =
       pen = penAfter (penAt start) (frontFields 12 h);
       marked = 0;
       chosen = everyone;
+      keyed = false;
+      told = 0;
       body = record { keys = keysFor (l .cells) everyone; shape = l .shape };
     }
 
@@ -37,13 +40,15 @@ alonePlan h l start =
 unfoldable pub flaggedHead : Head → Bool
 flaggedHead h = commonFits 12 h && (numberFits 1 (h .a) && (numberFits 1 (h .b) && networkFits (h .c)))
 
-unfoldable pub flaggedPlan : Head → ℕ → ℕ → ℕ → ℕ → Plan
-flaggedPlan h shape start chosen n =
+unfoldable pub flaggedPlan : Head → ℕ → ℕ → Selected → ℕ → Plan
+flaggedPlan h shape start selected n =
     record {
       pen = penAfter (penAt start) (frontFields 12 h ++ flagFields h);
       marked = cond (sameℤ (h .c) absent) 0 n;
-      chosen = chosen;
-      body = record { keys = Satellites chosen; shape = shape + (wordOf (h .a) * 2 + wordOf (h .b)) };
+      chosen = selected .word;
+      keyed = not (sameℤ (h .c) absent);
+      told = selected .told;
+      body = record { keys = Satellites (selected .word); shape = shape + (wordOf (h .a) * 2 + wordOf (h .b)) };
     }
 
 -- ---- a packet's part
@@ -61,5 +66,7 @@ packetPlan h start =
       pen = penAfter (penAt start) (packetFields h);
       marked = 0;
       chosen = everyone;
+      keyed = false;
+      told = 0;
       body = record { keys = Parts (wordOf (h .b) + 1); shape = 7 };
     }

@@ -1,10 +1,11 @@
 -- Which plan a message has by the kind of its sub type, and what writing comes to past the gate.
+use mathlib.Core.Path.{_≡_}
 use mathlib.Core.Bool.{cond, _&&_}
 use mathlib.Core.List.{List}
-use Prim.Native.Nat.{ℕ, _*_}
+use Prim.Native.Nat.{ℕ, _*_, _≤_}
 use lib.Dec.{leb}
 use lib.IntN.{ℤ}
-use lib.ListN.{length}
+use lib.ListN.{length, take}
 use Rattle.format.specs.declared.Head.{Head}
 use Rattle.format.specs.Masks.{Satellite}
 use Rattle.format.specs.Rows.{absent}
@@ -12,7 +13,10 @@ use Rattle.format.specs.Same.{sameℤ}
 use Rattle.format.specs.Table.{spelled}
 use Rattle.format.specs.Writing as Writing
 use Rattle.format.specs.Writing.{rowsIn, exact}
+use Rattle.body.specs.Lent.{Slots}
 use Rattle.holding.specs.declared.Holding.{Holding}
+use Rattle.holding.specs.declared.Outline.{Outline}
+use Rattle.holding.specs.Held.{slotSatellites}
 use Rattle.holding.specs.Pictures.{maskOf}
 use Rattle.table.specs.declared.Kind.{Kind}
 use Rattle.table.specs.declared.Kind.the-variants.{Other, Mask, Packet, Masked}
@@ -20,13 +24,29 @@ use Rattle.table.specs.declared.Layout.{Layout}
 use Rattle.writer.specs.declared.planning.Asked.{Asked}
 use Rattle.writer.specs.declared.planning.Planned.{Planned}
 use Rattle.writer.specs.declared.planning.Planned.the-variants.{Message, Never}
-use Rattle.putting.specs.Marking.{marksWord}
+use Rattle.putting.specs.declared.marks.Selected.{Selected}
+use Rattle.putting.specs.Marking.{markedBy}
+use Rattle.writer.specs.declared.gate.Gate.the-variants.{Open}
+use Rattle.writer.specs.Kinds.{kindAt, gateBy}
 use Rattle.writer.specs.Plans.{everyone, aloneHead, alonePlan, flaggedHead, flaggedPlan, packetHead, packetPlan}
 use Rattle.writer.specs.Stages.{behind}
 
--- the satellites that a network selects, as a word: those that have a row; all of them without one
-unfoldable pub selectedBy : List Satellite → ℤ → List (List ℤ) → ℕ
-selectedBy sats network rows = cond (sameℤ network absent) everyone (marksWord sats rows)
+-- ---- which plan a message has
+
+-- the satellites of a holding's slots, its masks lent beside it
+abbrev pub slotsIn : Outline → List ℕ → List Satellite
+slotsIn o masks = slotSatellites (take (o .count) (o .ids)) masks
+
+-- as a sound holding has them
+pub record Slotted (o : Outline) (masks : List ℕ) : Type 0 where
+  pub counted : o .count ≤ length (o .ids)
+  pub slots : Slots (take (o .count) (o .ids)) masks
+  pub few : length (slotsIn o masks) ≤ 64
+  pub many : length (slotsIn o masks) ≡ o .nsat
+
+-- the satellites that a network selects: those that have a row; all of them without one, which no row tells
+unfoldable pub selectedBy : List Satellite → ℤ → List (List ℤ) → Selected
+selectedBy sats network rows = cond (sameℤ network absent) (record { word = everyone; told = 0 }) (markedBy sats rows)
 
 unfoldable pub maskedPlan : List Satellite → Layout → Head → ℕ → List (List ℤ) → Planned
 maskedPlan sats l h start rows =
@@ -40,7 +60,15 @@ planFor Mask sats h start rows = Never
 planFor Packet sats h start rows = cond (packetHead h) (Message (packetPlan h start)) Never
 planFor (Masked l) sats h start rows = maskedPlan sats l h start rows
 
--- past the gate: the last tests of what head and rows spell
+-- ---- past the gate
+
+-- what is asked is of the head's kind, which is no mask, and the gate is open for it
+pub record Passed (o : Outline) (a : Asked) : Type 0 where
+  pub known : a .kind ≡ kindAt (a .head .subtype)
+  pub other : a .kind ≡ Mask → ⊥
+  pub opens : gateBy (a .kind) (o .held) (o .iod) (a .head) ≡ Open
+
+-- the last tests of what head and rows spell
 unfoldable pub pastGate : Holding → Asked → List ℤ → List ℕ → Writing.Written
 pastGate holding a numbers bytes =
     let rows = rowsIn (a .count) numbers in

@@ -1,7 +1,8 @@
 -- What a plan and a mask come to in lent bytes, and what is asked where they are put out.
-use mathlib.Core.Bool.{Bool, _&&_}
+use mathlib.Core.Path.{_≡_}
+use mathlib.Core.Bool.{Bool, true, _&&_}
 use mathlib.Core.List.{List, _++_, flatMap}
-use Prim.Native.Nat.{ℕ, _*_, _^_, _≤_, _<_}
+use Prim.Native.Nat.{ℕ, _*_, _/_, _^_, _≤_, _<_}
 use lib.Dec.{eqb}
 use lib.IntN.{ℤ, pos}
 use lib.ListN.{length}
@@ -15,16 +16,18 @@ use Rattle.format.specs.Writing.{rowsIn}
 use Rattle.holding.specs.declared.Holding.{Holding}
 use Rattle.holding.specs.Held.{View}
 use Rattle.holding.specs.Pictures.{maskOf}
+use Rattle.rows.specs.Shapes.{columnsIn}
 use Rattle.rows.specs.Table.{shapeFor}
 use Rattle.table.specs.Bodies.{linesIn, Fits}
 use Rattle.pens.specs.declared.pen.Field.{Field}
 use Rattle.writer.specs.declared.plan.Plan.{Plan}
 use Rattle.fitting.specs.Fits.{rowsFit}
+use Rattle.matching.specs.Values.{rowsValued}
 use Rattle.fitting.specs.FitHeads.{commonFits}
 use Rattle.writer.specs.Fronts.{maskFront}
 use Rattle.writer.specs.Kinds.{planBits}
 use Rattle.putting.specs.Marking.{selectionFields}
-use Rattle.pens.specs.Pens.{spellFields, Fine, Ready}
+use Rattle.pens.specs.Pens.{spellFields, Fine, Begins}
 use Rattle.putting.specs.Putting.{rowFields, Fitting}
 use Rattle.writer.specs.Stages.{behind}
 
@@ -39,7 +42,11 @@ pub record Puts (p : Plan) (rows : List ℤ) (count : ℕ) (bytes : List ℕ) : 
   pub marked : p .marked ≤ 64
   pub whole : 8 * count ≤ length rows
   pub fitting : Fitting (shapeFor (p .body .shape)) (rowsIn count rows)
-  pub ready : Ready (p .pen) (planFields p (rowsIn count rows)) bytes
+  pub begins : Begins (p .pen) (planFields p (rowsIn count rows)) bytes
+
+-- all rows of a row buffer
+abbrev pub rowsOf : List ℤ → List (List ℤ)
+rowsOf numbers = rowsIn (length numbers / 8) numbers
 
 -- a plan that is well made
 pub record Made (p : Plan) : Type 0 where
@@ -47,6 +54,11 @@ pub record Made (p : Plan) : Type 0 where
   pub marked : p .marked ≤ 64
   pub chosen : p .chosen < 2 ^ 64
   pub body : Fits (p .body)
+
+-- rows by which its selection was told have their keys: that these are all, and the rest of each, is left to test
+pub record Keyed (v : View) (p : Plan) (rows : List (List ℤ)) : Type 0 where
+  pub four : p .keyed ≡ true → p .body .shape < 4
+  pub rest : p .keyed ≡ true → rowsFit (linesIn v (p .body)) rows ≡ (eqb (p .told) (8 * length rows) && rowsValued (columnsIn (shapeFor (p .body .shape))) rows)
 
 -- what writing it with rows comes to
 unfoldable pub planned : View → Plan → List (List ℤ) → List ℕ → Writing.Written

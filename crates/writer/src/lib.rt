@@ -10,11 +10,10 @@ ghost use mathlib.Core.Path.{_≡_};
 ghost use mathlib.Core.Bool.{true};
 ghost use Prim.Native.Nat.{_≤_};
 ghost use Rattle.format.specs.Writing.{limit, writing, bytesAfter};
+ghost use Rattle.holding.specs.Outlines.{wholeOf};
 ghost use Rattle.holding.specs.Pictures.{lentBy, sound};
-ghost use Rattle.writer.specs.declared.gate.Gate.the-variants.{Open};
-ghost use Rattle.writer.specs.Kinds.{kindAt, gateBy};
 ghost use Rattle.writer.specs.Stages.{answered};
-ghost use Rattle.writer.specs.Writings.{pastGate};
+ghost use Rattle.writer.specs.Writings.{Passed, pastGate};
 use crate::gate::Gate;
 use crate::planning::Asked;
 use crate::planning::Planned;
@@ -22,6 +21,7 @@ use crate::room::limit;
 use format::Head;
 use format::Refusal;
 use holding::Holding;
+use holding::Outline;
 use table::Kind;
 
 // How writing ends: done, with the place after the message, or refused.
@@ -33,23 +33,28 @@ pub enum Writing {
 // How many numbers a row has.
 const ROW: usize = 8;
 
-// Past the gate: 12 where head and rows do not fit, 1 where the message does not, and only then the first bit.
-fn past(kind: Kind, holding: Holding, asked: Asked, rows: &[i32], bytes: &mut [u8]) -> Writing
-    requires { ⌜ (sound holding ≡ true) × (kind ≡ kindAt (asked .head .subtype)) × (gateBy kind (holding .held) (holding .iod) (asked .head) ≡ Open) × (asked .start ≤ limit (now bytes)) ⌝ }
-    ensures { λ r. ⌜ r ≡ answered (asked .start) (pastGate holding asked (now (rows .entry)) (now (bytes .entry))) ⌝ }
-    ensures { λ _. ⌜ now (bytes .exit) ≡ bytesAfter (pastGate holding asked (now (rows .entry)) (now (bytes .entry))) (now (bytes .entry)) (asked .start) ⌝ }
+// Past the gate, a message that is no mask: 12 where head and rows do not fit, 1 where the message does not, and only then the first bit.
+fn past(
+    outline: Outline,
+    masks: &[u64],
+    strips: &[u16],
+    asked: Asked,
+    rows: &[i32],
+    bytes: &mut [u8],
+) -> Writing
+    requires { ⌜ (sound (wholeOf outline (now masks) (now strips)) ≡ true) × Passed outline asked × (asked .start ≤ limit (now bytes)) ⌝ }
+    ensures { λ r. ⌜ r ≡ answered (asked .start) (pastGate (wholeOf outline (now (masks .entry)) (now (strips .entry))) asked (now (rows .entry)) (now (bytes .entry))) ⌝ }
+    ensures { λ _. ⌜ now (bytes .exit) ≡ bytesAfter (pastGate (wholeOf outline (now (masks .entry)) (now (strips .entry))) asked (now (rows .entry)) (now (bytes .entry))) (now (bytes .entry)) (asked .start) ⌝ }
 {
     if asked.count > rows.len() / ROW {
         return Writing::Refused(Refusal::Value);
     }
-    if let Kind::Mask = kind {
-        return message::of_mask(holding, asked.head, asked.count, bytes, asked.start);
-    }
-    let planned = planning::of(kind, holding, asked, rows);
+    let planned = planning::of(outline, masks, asked, rows);
     let Planned::Message(plan) = planned else {
         return Writing::Refused(Refusal::Value);
     };
-    message::with_rows(holding, plan, rows, asked.count, bytes)
+    let end = ROW * asked.count;
+    message::with_rows(outline, masks, strips, plan, &rows[..end], bytes)
 }
 
 // Writes a message of a head and so many rows at a bit place of the lent bytes. Every test comes before the first bit
@@ -68,14 +73,25 @@ pub fn write(
     if start > limit(bytes) {
         return Writing::Refused(Refusal::Place);
     }
-    if !holding.is_sound() {
+    let masks = holding.satellites;
+    let strips = holding.strips;
+    let outline = holding.outline();
+    if !outline.is_sound(&masks, &strips) {
         return Writing::Refused(Refusal::Value);
     }
     let kind = gate::kind_in(head.subtype);
-    let gate = gate::of(kind, holding.held, holding.iod, head);
+    let gate = gate::of(kind, outline.held, outline.iod, head);
     if let Gate::Shut(r) = gate {
         return Writing::Refused(r);
     }
-    let asked = Asked { head, count, start };
-    past(kind, holding, asked, rows, bytes)
+    let asked = Asked {
+        kind,
+        head,
+        count,
+        start,
+    };
+    if let Kind::Mask = kind {
+        return message::of_mask(holding, head, count, bytes, start);
+    }
+    past(outline, &masks, &strips, asked, rows, bytes)
 }

@@ -13,6 +13,7 @@ use pens::number::is;
 use pens::number::is_absent;
 use pens::number::word;
 use pens::pen::Pen;
+use putting::marks::Selected;
 use rows::shapes;
 use table::ALL;
 use table::Body;
@@ -20,11 +21,13 @@ use table::Keys;
 use table::Layout;
 
 // What stands before selection and body is gathered in the pen; the selection of a network has a bit for each of so
-// many satellites, none without one; then the body.
+// many satellites, none without one; then the body. Where the selection was told by rows, these have so many numbers.
 pub struct Plan {
     pub pen: Pen,
     pub marked: usize,
     pub chosen: u64,
+    pub keyed: bool,
+    pub told: usize,
     pub body: Body,
 }
 
@@ -61,6 +64,8 @@ pub fn alone(head: Head, layout: Layout, start: usize) -> Plan
         pen: front::common(head, start),
         marked: 0,
         chosen: ALL,
+        keyed: false,
+        told: 0,
         body: Body {
             keys: table::over(layout.cells, ALL),
             shape: layout.shape,
@@ -105,17 +110,19 @@ fn marks_of(network: i32, n: usize) -> usize
 }
 
 // Their plan, the first of four shapes being for neither flag.
-pub fn flagged(head: Head, shape: usize, start: usize, chosen: u64, n: usize) -> Plan
+pub fn flagged(head: Head, shape: usize, start: usize, selected: Selected, n: usize) -> Plan
     requires { ⌜ (flaggedHead head ≡ true) × (shape ≤ 255) ⌝ }
-    ensures { λ r. ⌜ r ≡ flaggedPlan head shape start chosen n ⌝ }
+    ensures { λ r. ⌜ r ≡ flaggedPlan head shape start selected n ⌝ }
 {
     let flags = word(head.a) * 2 + word(head.b);
     Plan {
         pen: front::flagged(head, start),
         marked: marks_of(head.c, n),
-        chosen,
+        chosen: selected.word,
+        keyed: !is_absent(head.c),
+        told: selected.told,
         body: Body {
-            keys: Keys::Satellites(chosen),
+            keys: Keys::Satellites(selected.word),
             shape: shape + (flags as usize),
         },
     }
@@ -163,6 +170,8 @@ pub fn packet(head: Head, start: usize) -> Plan
         pen: front::packet(head, start),
         marked: 0,
         chosen: ALL,
+        keyed: false,
+        told: 0,
         body: Body {
             keys: Keys::Parts(parts),
             shape: shapes::PACKET,

@@ -1,27 +1,26 @@
 // Which plan a message with rows has, by the kind of its sub type.
 ghost use mathlib.Core.Path.{_≡_};
-ghost use mathlib.Core.Bool.{true};
 ghost use mathlib.Core.List.{[]};
 ghost use Prim.Native.Nat.{_*_, _≤_};
 ghost use lib.ListN.{length};
 ghost use Rattle.format.specs.Writing.{rowsIn};
-ghost use Rattle.holding.specs.Held.{slotsOf};
-ghost use Rattle.holding.specs.Pictures.{sound};
 ghost use Rattle.table.specs.declared.Kind.the-variants.{Packet};
 ghost use Rattle.table.specs.Kinds.{OfTable, LaidOut};
-ghost use Rattle.writer.specs.Writings.{selectedBy, maskedPlan, planFor};
+ghost use Rattle.writer.specs.Writings.{slotsIn, Slotted, selectedBy, maskedPlan, planFor};
 use crate::plan;
 use crate::plan::Plan;
 use format::Head;
-use holding::Holding;
+use holding::Outline;
 use pens::number::is_absent;
+use putting::marks::Selected;
 use putting::marks::marked;
 use table::ALL;
 use table::Kind;
 use table::Layout;
 
-// What is asked to be written: a head with so many rows, at a place.
+// What is asked to be written: a head of a kind with so many rows, at a place.
 pub struct Asked {
+    pub kind: Kind,
     pub head: Head,
     pub count: usize,
     pub start: usize,
@@ -34,36 +33,35 @@ pub enum Planned {
 }
 
 // The satellites that a network selects: those that have a row; all of them without one.
-fn selected(holding: Holding, network: i32, rows: &[i32], count: usize) -> u64
-    requires { ⌜ (sound holding ≡ true) × (8 * count ≤ length (now rows)) ⌝ }
-    ensures { λ r. ⌜ r ≡ selectedBy (slotsOf holding) network (rowsIn count (now (rows .entry))) ⌝ }
+fn selected(outline: Outline, masks: &[u64], network: i32, rows: &[i32], count: usize) -> Selected
+    requires { ⌜ Slotted outline (now masks) × (8 * count ≤ length (now rows)) ⌝ }
+    ensures { λ r. ⌜ r ≡ selectedBy (slotsIn outline (now (masks .entry))) network (rowsIn count (now (rows .entry))) ⌝ }
 {
     if is_absent(network) {
-        return ALL;
+        return Selected { word: ALL, told: 0 };
     }
-    let ids = holding.ids;
-    let masks = holding.satellites;
-    let n = holding.count;
-    marked(&ids[..n], &masks, rows, count)
+    let ids = outline.ids;
+    let n = outline.count;
+    marked(&ids[..n], masks, rows, count)
 }
 
 // Under the mask.
-fn masked(holding: Holding, layout: Layout, asked: Asked, rows: &[i32]) -> Planned
-    requires { ⌜ (sound holding ≡ true) × LaidOut layout × (8 * asked .count ≤ length (now rows)) ⌝ }
-    ensures { λ r. ⌜ r ≡ maskedPlan (slotsOf holding) layout (asked .head) (asked .start) (rowsIn (asked .count) (now (rows .entry))) ⌝ }
+fn masked(outline: Outline, masks: &[u64], layout: Layout, asked: Asked, rows: &[i32]) -> Planned
+    requires { ⌜ Slotted outline (now masks) × LaidOut layout × (8 * asked .count ≤ length (now rows)) ⌝ }
+    ensures { λ r. ⌜ r ≡ maskedPlan (slotsIn outline (now (masks .entry))) layout (asked .head) (asked .start) (rowsIn (asked .count) (now (rows .entry))) ⌝ }
 {
     let head = asked.head;
     if layout.flagged {
         if !plan::flagged_fits(head) {
             return Planned::Never;
         }
-        let chosen = selected(holding, head.c, rows, asked.count);
+        let chosen = selected(outline, masks, head.c, rows, asked.count);
         return Planned::Message(plan::flagged(
             head,
             layout.shape,
             asked.start,
             chosen,
-            holding.nsat,
+            outline.nsat,
         ));
     }
     if !plan::alone_fits(head) {
@@ -83,14 +81,15 @@ fn packet(asked: Asked) -> Planned
 }
 
 // By the kind; a mask, and what is none of ours, have none.
-pub fn of(kind: Kind, holding: Holding, asked: Asked, rows: &[i32]) -> Planned
-    requires { ⌜ (sound holding ≡ true) × OfTable kind × (8 * asked .count ≤ length (now rows)) ⌝ }
-    ensures { λ r. ⌜ r ≡ planFor kind (slotsOf holding) (asked .head) (asked .start) (rowsIn (asked .count) (now (rows .entry))) ⌝ }
+pub fn of(outline: Outline, masks: &[u64], asked: Asked, rows: &[i32]) -> Planned
+    requires { ⌜ Slotted outline (now masks) × OfTable (asked .kind) × (8 * asked .count ≤ length (now rows)) ⌝ }
+    ensures { λ r. ⌜ r ≡ planFor (asked .kind) (slotsIn outline (now (masks .entry))) (asked .head) (asked .start) (rowsIn (asked .count) (now (rows .entry))) ⌝ }
 {
+    let kind = asked.kind;
     match kind {
         Kind::Other => Planned::Never,
         Kind::Mask => Planned::Never,
         Kind::Packet => packet(asked),
-        Kind::Masked(layout) => masked(holding, layout, asked, rows),
+        Kind::Masked(layout) => masked(outline, masks, layout, asked, rows),
     }
 }

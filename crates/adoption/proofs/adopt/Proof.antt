@@ -1,12 +1,13 @@
 -- `adoption::adopt` meets its contract. Assumes nothing.
 use Rattle.bits.proofs.Words.{sym, ap, _∙_, List, ℕ, arith, needs}
 use Rattle.adoption.proofs.StageEnds.{opens-at}
-use Rattle.adoption.specs.Adoptions.{adoptionBy}
+use Rattle.adoption.specs.Adoptions.{Made, made, madeBy}
 use Rattle.adoption.specs.declared.Adoption.{Adoption}
 use Rattle.adoption.specs.Stages.{withSystems, afterCommonHead}
 use Rattle.format.proofs.Ends.{then-well, then-badly}
 use Rattle.format.specs.Ends.{endFrom}
-use Rattle.format.specs.Messages.{common, maskMessage}
+use Rattle.format.specs.Messages.{Adopted, common, maskMessage}
+use Rattle.format.specs.Programs.{Ended}
 use Rattle.heads.proofs.Commons.{Read, common-whole, common-short}
 use Rattle.heads.specs.declared.Front.{Front}
 use Rattle.heads.specs.Fronts.{Opens}
@@ -23,8 +24,12 @@ module _ (c : tie.After-front-at) where
   opens : Opens bs (c .front-at .result)
   opens = opens-at (c .before .before .pre) (c .front-at .ensures)
 
-  abbrev answer : Front → Adoption
-  answer f = adoptionBy (endFrom maskMessage bs (f .end) (f .start))
+  -- what is made where its program ends so
+  abbrev over : Ended Adopted → Made
+  over e = madeBy e (c .before .before .args .satellites .now) (c .before .before .args .strips .now)
+
+  abbrev answer : Front → Made
+  answer f = over (endFrom maskMessage bs (f .end) (f .start))
 
 -- the common head, where it is there
 module _ (c : tie.After-known-told2) where
@@ -35,17 +40,18 @@ module _ (c : tie.After-known-told2) where
   read = common-whole (opens t .within) 20 (omega arith) (sym (c .before .before .before .head .ensures (bs t) (opens t)) ∙ c .before .h .given .1)
 
 returns : tie.Need-returns
-unfolding maskMessage
+unfolding maskMessage madeBy
 returns c =
     let p = c .before .before .before .before in
     let t = p .before in
     let cut = common-short (opens t .within) 20 (sym (p .head .ensures (bs t) (opens t)) ∙ c .before .before .missing .given .1) in
-    c .refused .ensures ∙ ap adoptionBy (sym (then-badly (opens t .within) (common 20) _ cut)) ∙ ap (answer t) (t .front-at .ensures)
+    let x = t .before .before .args in
+    ap (λ (a : Adoption). made a (x .satellites .now) (x .strips .now)) (c .refused .ensures) ∙ ap (over t) (sym (then-badly (opens t .within) (common 20) _ cut)) ∙ ap (answer t) (t .front-at .ensures)
 
 pub adopt-spec : {M : Type 1} → statement M
 unfolding maskMessage afterCommonHead withSystems headWith commonOf
 adopt-spec =
     tie.close
     (tie.spec (λ c κs. search needs) (λ c κs. record { bytes = bs c; opens = opens c }) (λ c. search needs) (λ c κs. search needs) (λ c. search needs)
-    (λ c κs. (read c .small, read c .after, opens (t c))) returns
-    (λ c. let t = t (c .before) in c .after-head .ensures ∙ ap adoptionBy (sym (then-well (opens t .within) (common 20) _ (read (c .before) .ran))) ∙ ap (answer t) (t .front-at .ensures)))
+    (λ c κs. let k = c .before .before in (read k .small, read k .after, opens (t k))) returns
+    (λ c. let k = c .before .before .before in let t = t k in c .after-head .ensures ∙ ap (over t) (sym (then-well (opens t .within) (common 20) _ (read k .ran))) ∙ ap (answer t) (t .front-at .ensures)))

@@ -2,10 +2,12 @@
 use Rattle.bits.proofs.Words.{_≡_, sym, ap, _∙_, ℕ, _+_, _<_, arith, needs, ℤ}
 use mir.Facts.{toZ-pos}
 use mir.Syntax.{w32}
-use Rattle.adoption.proofs.ManySystems.{answer, firstMask}
-use Rattle.format.specs.Messages.{maskType}
+use Rattle.adoption.proofs.ManySystems.{ended, firstMask}
+use Rattle.format.specs.Messages.{Adopted, maskType}
+use Rattle.format.specs.Programs.{Ended}
 use Rattle.format.proofs.Ends.{after-field, fits, number-whole, number-short}
-use Rattle.adoption.specs.Adoptions.{adoptionBy}
+use Rattle.adoption.specs.Adoptions.{made, madeBy}
+use Rattle.adoption.specs.declared.Adoption.{Adoption}
 use Rattle.adoption.specs.Stages.{afterCommonHead}
 use Rattle.bits.specs.declared.read.Taken.the-variants.{Whole}
 use Rattle.bits.specs.Short.{takenAt}
@@ -30,23 +32,26 @@ module _ (c : tie.After-known-told2) where
   few = fits (s .pre .1) 4 there
 
 returns : tie.Need-returns
-unfolding afterCommonHead
+unfolding afterCommonHead madeBy
 returns c =
     let took = c .before .before .before .before in
     let p = took .before .before .pre in
-    c .refused .ensures ∙ ap adoptionBy (sym (number-short (p .1) 4 (sym (took .taken .ensures _ (p .2)) ∙ c .before .before .taken2 .given .1) _))
+    let x = took .before .before .args in
+    ap (λ (a : Adoption). made a (x .satellites .now) (x .strips .now)) (c .refused .ensures)
+    ∙ ap (λ (e : Ended Adopted). madeBy e (x .satellites .now) (x .strips .now)) (sym (number-short (p .1) 4 (sym (took .taken .ensures _ (p .2)) ∙ c .before .before .taken2 .given .1) _))
 
 returns-2 : tie.Need-returns-2
 unfolding afterCommonHead
 returns-2 c =
-    let p = c .before .before .before .before in
+    let p = c .before .before .before .before .before .before in
     let x = s p .args in
-    let numbers = c .before .before .before .head .ensures ∙ ap (λ (z : ℤ). headWith maskType (x .h) z absent absent) (toZ-pos w32 {n = n p} (omega (arith, few p))) in
-    c .all .ensures ∙ ap (λ (k : Head). answer k (x .bytes .now) (x .f .end) (firstMask (x .h .iod)) (x .f .start + 29 + 4) (n p)) numbers ∙ ap adoptionBy (sym (number-whole (s p .pre .1) 4 (there p) _))
+    let numbers = c .before .before .before .before .before .head .ensures ∙ ap (λ (z : ℤ). headWith maskType (x .h) z absent absent) (toZ-pos w32 {n = n p} (omega (arith, few p))) in
+    c .all .ensures ∙ ap (λ (k : Head). madeBy (ended k (x .bytes .now) (x .f .end) (firstMask (x .h .iod)) (x .f .start + 29 + 4) (n p)) (x .satellites .now) (x .strips .now)) numbers
+    ∙ ap (λ (e : Ended Adopted). madeBy e (x .satellites .now) (x .strips .now)) (sym (number-whole (s p .pre .1) 4 (there p) _))
 
 pub after-head-spec : {M : Type 1} → statement M
 after-head-spec =
     tie.close
     (tie.spec (λ c κs. (record { bytes = _; opens = c .before .pre .2 }, omega arith, c .before .pre .1 .room)) (λ c. search needs) (λ c κs. search needs) (λ c. search needs) (λ c. record { sfits = omega (arith, few c) })
     (λ c κs. search needs) (λ c. search needs) (λ c. omega (arith, after-field (s (c .before .before) .pre .1) 4 (there (c .before .before)))) (λ c. search needs)
-    (λ c κs. let p = c .before .before .before in (s p .pre .0 .iod, after-field (s p .pre .1) 4 (there p))) returns returns-2)
+    (λ c κs. let p = c .before .before .before .before .before in (s p .pre .0 .iod, after-field (s p .pre .1) 4 (there p))) returns returns-2)

@@ -11,15 +11,14 @@ use Rattle.format.specs.declared.Answer.{Answer}
 use Rattle.format.specs.Answers.{saidAt}
 use Rattle.format.specs.Messages.{maskMessage}
 use Rattle.format.specs.Programs.{run}
-use Rattle.format.specs.Reading.{Outcome, bitsFrom, lentAfter, answerOf, over, rowsAfter}
+use Rattle.format.specs.Reading.{Outcome, bitsFrom, lentAfter, answerOf, rowsAfter}
 use Rattle.heads.specs.Sorting.{adoptedBy}
-use Rattle.holding.specs.declared.Holding.{Holding}
-use Rattle.holding.specs.Pictures.{maskOf, sound}
+use Rattle.holding.specs.Pictures.{maskOf}
 use Rattle.host.specs.Handing.{handedBy, bytesAfter, hostOutcome}
 use Rattle.host.proofs.Outcomes.{bytes-pass, sought-bytes}
 use Rattle.host.proofs.hundurzek_read.Statement.{statement}
 use Rattle.host.proofs.hundurzek_read.Tie as tie
-use Rattle.passing.specs.Passing.{bytesOf, holdingIn}
+use Rattle.passing.specs.Passing.{holdingIn}
 use Rattle.passing.proofs.Returns.{bytes-return}
 use Rattle.reader.specs.Readings.{soughtAt}
 use Rattle.reader.proofs.message.Found.{the-type}
@@ -64,43 +63,33 @@ module _ (c : tie.After-enum-told) where
       (ap (tagOf the-type) (sym (said k .0) ∙ c .enum-told .given .1))
 
   -- it is adopted to what reading there comes to
-  abbrev adoptedUnder : Holding → Outcome
-  adoptedUnder h = adoptedBy (maskOf h) (s k .args .start + 16) (run maskMessage (bitsFrom (s k .args .bytes .now) (s k .args .end) (s k .args .start + 16)))
-
-module _ (c : tie.After-holding-in) where
-  abbrev e : tie.After-enum-told
-  e = c .before .before
-
-  same : c .holding-in .result ≡ holdingIn (lent (k e))
-  same = c .holding-in .ensures
-
-  adopts : adoptedUnder e (c .holding-in .result) ≡ outcome (k e)
+  adopts : adoptedBy (maskOf (holdingIn (lent k))) (s k .args .start + 16) (run maskMessage (bitsFrom (s k .args .bytes .now) (s k .args .end) (s k .args .start + 16))) ≡ outcome k
   unfolding hostOutcome
-  adopts = ap (adoptedUnder e) same ∙ sym (found e .reads ∙ found e .found .adopts)
+  adopts = sym (found .reads ∙ found .found .adopts)
 
 adopt-requires : tie.Need-adopt-requires
 adopt-requires c κs =
-    let h = c .before in
-    let hb = lent (k (e h)) in
-    let f = found (e h) in (
+    let e = c .before in
+    let hb = lent (k e) in
+    let f = found e in (
       record { inside = f .fine .inside .lent; short = omega (arith, f .fine .inside .limit); room = f .found .room },
-      ap sound (same h) ∙ f .fine .held,
+      f .fine .held,
       bytes-pass hb (f .fine .held),
-      ap (λ (g : Holding). over (bytesOf g) hb) (same h) ∙ bytes-return hb (small (k (e h))) (f .fine .held),
+      bytes-return hb (small (k e)) (f .fine .held),
     )
 
 returns-2 : tie.Need-returns-2
 returns-2 c =
     let a = c .before .before .before in
-    let h = a .before .before in
-    let t = k (e h) in (
-      c .hand2 .ensures ∙ ap (λ (b : Answer). handedBy (s t .args .start) (saidAt (s t .args .start) b)) (a .adopt .ensures .0 ∙ ap answerOf (adopts h)),
-      (a .adopt .ensures .1 ∙ ap (λ (o : Outcome). bytesAfter (lentAfter o) (lent t)) (adopts h), said t .1),
+    let e = a .before .before in
+    let t = k e in (
+      c .hand2 .ensures ∙ ap (λ (b : Answer). handedBy (s t .args .start) (saidAt (s t .args .start) b)) (a .adopt .ensures .0 ∙ ap answerOf (adopts e)),
+      (a .adopt .ensures .1 ∙ ap (λ (o : Outcome). bytesAfter (lentAfter o) (lent t)) (adopts e), said t .1),
     )
 
 pub hundurzek-read-spec : {M : Type 1} → statement M
 hundurzek-read-spec =
     tie.close
-    (tie.spec (λ c κs. search needs) (λ c. search needs) (λ c κs. search needs) (λ c. search needs) (λ c κs. search needs)
-    (λ c. let f = found (e (c .before)) in omega (arith, f .found .room, f .fine .inside .limit)) adopt-requires (λ c κs. search needs)
+    (tie.spec (λ c κs. search needs) (λ c. search needs) (λ c κs. search needs) (λ c. search needs)
+    (λ c. let f = found (c .before) in omega (arith, f .found .room, f .fine .inside .limit)) adopt-requires (λ c κs. search needs)
     (λ c. search needs) (λ c. search needs) returns (λ c. search needs) (λ c. search needs) returns-2)

@@ -6,17 +6,24 @@ use native.Mathlib.Omega.{arith}
 use borrow.Author.Needs.{needs}
 use Rattle.bits.proofs.Windows.{Bytes}
 use Rattle.format.specs.Walking.{Walk}
-use Rattle.host.specs.Handing.{hostWalk}
+use Rattle.holding.specs.declared.Holding.{Holding}
+use Rattle.holding.specs.Pictures.{sound}
+use Rattle.host.specs.Handing.{hostWalk, leftBytes}
 use Rattle.host.proofs.Walks.{leave-known, left, walked-to}
 use Rattle.passing.specs.Passing.{holdingIn}
-use Rattle.walk.specs.Walks.{walkedOf}
+use Rattle.walk.specs.declared.Halt.{Halt}
+use Rattle.walk.specs.Standing.{haltOf}
+use Rattle.walk.specs.Walks.{walkAt, walkedOf}
 use Rattle.host.proofs.hundurzek_walk.Statement.{statement}
 use Rattle.host.proofs.hundurzek_walk.Tie as tie
 
 -- what the walk answered, under the holding that the lent bytes say
 module _ (c : tie.After-walk-under) where
+  abbrev o : tie.After-opened
+  o = c .before .before .before .before .before .before .before
+
   abbrev s : tie.Start
-  s = c .before .before .before .before .before .before .before
+  s = o .before .before .before .before .before .before
 
   abbrev lent : List ℕ
   lent = s .args .holding .now
@@ -24,32 +31,44 @@ module _ (c : tie.After-walk-under) where
   abbrev w : Walk
   w = hostWalk lent (s .args .bytes .now) (s .args .end) (s .args .rows .now)
 
-  small : Bytes lent
-  small k = omega (arith, c .before .before .before .before .before .before .slice-known .given k)
+  abbrev halt : Halt
+  halt = haltOf (c .walk-under .result) (c .walk-under .last .1 .1 .0) (c .walk-under .last .1 .1 .1 .0)
 
-  said : (c .walk-under .result ≡ walkedOf (holdingIn lent) w) × (c .walk-under .last .1 .1 .1 .1 .0 ≡ w .rows)
+  small : Bytes lent
+  small k = omega (arith, o .before .before .before .before .before .slice-known .given k)
+
+  said : (halt ≡ walkedOf (holdingIn lent) w) × (c .walk-under .last .1 .1 .1 .1 .1 .1 .0 ≡ w .rows)
   unfolding hostWalk
-  said = rw (c .before .before .before .holding-in .ensures) at (c .walk-under .ensures)
+  said =
+      let x = s .args in (
+        c .walk-under .ensures .0 ∙ ap (λ (h : Holding). walkedOf h (walkAt h (x .bytes .now) (x .end) (x .rows .now))) (o .opened .ensures),
+        c .walk-under .ensures .1 ∙ ap (λ (h : Holding). walkAt h (x .bytes .now) (x .end) (x .rows .now) .rows) (o .opened .ensures),
+      )
 
 leave-requires : tie.Need-leave-requires
 unfolding hostWalk
 leave-requires c κs some =
-    let v = c .before .before .before .before in
-    leave-known (lent v) (s v .args .bytes .now) (s v .args .end) (s v .args .rows .now) (v .walk-under .result) (said v .0) some
+    let v = c .before .before .before .before .before in
+    let known = leave-known (lent v) (s v .args .bytes .now) (s v .args .end) (s v .args .rows .now) (halt v) (said v .0) some in
+    (known .0, ap sound (c .before .with .ensures) ∙ known .1)
 
 returns : tie.Need-returns
 unfolding hostWalk
 returns c =
-    let o = c .before .before .before in
-    let v = o .before .before .before .before .before in
+    let e = c .before .before .before in
+    let k = e .before .before in
+    let v = k .before .before .before .before in
     let x = s v .args in
     let t = v .walk-under .result .tally in
-    let told = walked-to (lent v) (x .bytes .now) (x .end) (x .rows .now) (v .walk-under .result) (said v .0) in (
+    let told = walked-to (lent v) (x .bytes .now) (x .end) (x .rows .now) (halt v) (said v .0) in (
       ap (λ (n : ℕ). record { answer = n; place = t .place; messages = t .messages; rows = t .rows }) (c .answer-number .ensures (t .place)) ∙ told,
-      (o .leave .ensures ∙ left (lent v) (x .bytes .now) (x .end) (x .rows .now) (v .walk-under .result) (said v .0) (small v), said v .1),
+      (
+        e .leave .ensures ∙ ap (λ (h : Holding). leftBytes (t .messages) h (lent v)) (k .with .ensures) ∙ left (lent v) (x .bytes .now) (x .end) (x .rows .now) (halt v) (said v .0) (small v),
+        said v .1,
+      ),
     )
 
 pub hundurzek-walk-spec : {M : Type 1} → statement M
 hundurzek-walk-spec =
     tie.close
-    (tie.spec (λ c κs. search needs) (λ c κs. search needs) (λ c κs. search needs) leave-requires (λ c κs. search needs) (λ c. search needs) (λ c. search needs) returns)
+    (tie.spec (λ c κs. search needs) (λ c κs. search needs) (λ c κs. search needs) (λ c κs. search needs) leave-requires (λ c κs. search needs) (λ c. search needs) (λ c. search needs) returns)

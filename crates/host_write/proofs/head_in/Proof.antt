@@ -5,9 +5,9 @@ use Rattle.host_write.proofs.HandedWrites.{read-back}
 use Rattle.host_write.proofs.head_in.Statement.{statement}
 use Rattle.host_write.proofs.head_in.Tie as tie
 
-returns : tie.Need-returns
+returns-2 : tie.Need-returns-2
 unfolding headIn
-returns c =
+returns-2 c =
     λ i. record {
       subtype = read-back (c .before .before .before .before .before .before .before .number-at .ok) (c .before .before .before .before .before .before .before .number-at .ensures) i;
       epoch = read-back (c .before .before .before .before .before .before .number-at2 .ok) (c .before .before .before .before .before .before .number-at2 .ensures) i;
@@ -22,5 +22,5 @@ returns c =
 pub head-in-spec : {M : Type 1} → statement M
 head-in-spec =
     tie.close
-    (tie.spec (λ c κs. search needs) (λ c κs. search needs) (λ c κs. search needs) (λ c κs. search needs) (λ c κs. search needs) (λ c κs. search needs) (λ c κs. search needs)
-    (λ c κs. search needs) returns)
+    (tie.spec (λ c κs. search needs) (λ c. c .whole-head .ensures) (λ c κs. search needs) (λ c κs. search needs) (λ c κs. search needs) (λ c κs. search needs) (λ c κs. search needs) (λ c κs. search needs) (λ c κs. search needs)
+    (λ c κs. search needs) returns-2)

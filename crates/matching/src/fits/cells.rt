@@ -6,8 +6,8 @@ ghost use Rattle.body.specs.Chosen.{satelliteOf, cellsIn, striped, chosenLines}
 ghost use Rattle.body.specs.Lent.{Slots};
 ghost use Rattle.format.specs.Messages.{cellLines};
 ghost use Rattle.holding.specs.Held.{satellitesIn, slotSatellites};
-ghost use Rattle.rows.specs.Shapes.{columnsIn, FormedShape, Narrow};
-ghost use Rattle.matching.specs.Matching.{matchedAt};
+ghost use Rattle.rows.specs.Shapes.{columnsIn, FormedShape};
+ghost use Rattle.matching.specs.Matching.{matchedAt, stripsPassedAt, Paired};
 use crate::fits::Matched;
 use crate::fits::line;
 use body::FIRST;
@@ -23,10 +23,17 @@ pub struct Tested {
     pub from: usize,
 }
 
+// How far the rows of a slot's cells fit their lines: not all of them do, or they do up to that number of those lent;
+// how many satellites that were, each with its strip; and the selection of those behind, as of satellites.
+pub enum Passed {
+    Stopped,
+    On(usize, usize, u64),
+}
+
 // How far the rows from a number on fit the lines of one satellite's cells, by its strip, which begins at the highest
 // of 64 bits.
 fn satellite(sat: Satellite, word: u64, s: Shape, rows: &[i32], from: usize) -> Matched
-    requires { ⌜ (sat .number < 2 ^ 31) × FormedShape s × Narrow s × (from ≤ length (now rows)) ⌝ }
+    requires { ⌜ (sat .number < 2 ^ 31) × FormedShape s × Paired s × (from ≤ length (now rows)) ⌝ }
     ensures { λ r. ⌜ r ≡ matchedAt (cellLines (columnsIn s) (cellsIn 64 (satelliteOf sat) word)) (now (rows .entry)) from ⌝ }
 {
     let system = sat.system as i32;
@@ -39,7 +46,7 @@ fn satellite(sat: Satellite, word: u64, s: Shape, rows: &[i32], from: usize) -> 
             satellite,
             signal: set_places::first(left) as i32,
         };
-        if !line::fits(rows, k, key, s) {
+        if !line::pair_fits(rows, k, key, s.v1, s.v2) {
             return Matched::Not;
         }
         left = set_places::rest(left);
@@ -50,9 +57,9 @@ fn satellite(sat: Satellite, word: u64, s: Shape, rows: &[i32], from: usize) -> 
 
 // How far the rows fit the lines of one system's cells: the strips, in their order, of the satellites that are chosen.
 // Its mask and the selection each begin at the highest of 64 bits.
-fn slot(id: u8, word: u64, strips: &[u16], tested: Tested, rows: &[i32]) -> Matched
-    requires { ⌜ (length (satellitesIn 64 id word) ≤ length (now strips)) × FormedShape (tested .shape) × Narrow (tested .shape) × (tested .from ≤ length (now rows)) ⌝ }
-    ensures { λ r. ⌜ r ≡ matchedAt (chosenLines (tested .chosen) (striped (columnsIn (tested .shape)) (satellitesIn 64 id word) (now (strips .entry)))) (now (rows .entry)) (tested .from) ⌝ }
+fn slot(id: u8, word: u64, strips: &[u16], tested: Tested, rows: &[i32]) -> Passed
+    requires { ⌜ (length (satellitesIn 64 id word) ≤ length (now strips)) × FormedShape (tested .shape) × Paired (tested .shape) × (tested .from ≤ length (now rows)) ⌝ }
+    ensures { λ r. ⌜ r ≡ stripsPassedAt (tested .chosen) (striped (columnsIn (tested .shape)) (satellitesIn 64 id word) (now (strips .entry))) (now (rows .entry)) (tested .from) ⌝ }
 {
     let s = tested.shape;
     let mut left = word;
@@ -66,7 +73,7 @@ fn slot(id: u8, word: u64, strips: &[u16], tested: Tested, rows: &[i32]) -> Matc
             let sat = Satellite { system: id, number };
             let far = satellite(sat, strip << 48, s, rows, k);
             let Matched::To(next) = far else {
-                return Matched::Not;
+                return Passed::Stopped;
             };
             k = next;
         }
@@ -74,7 +81,7 @@ fn slot(id: u8, word: u64, strips: &[u16], tested: Tested, rows: &[i32]) -> Matc
         marks = marks << 1;
         n += 1;
     }
-    Matched::To(k)
+    Passed::On(k, n, marks)
 }
 
 // How far the rows fit the lines of all systems' cells, of the satellites that are chosen.
@@ -86,7 +93,7 @@ pub fn reach(
     chosen: u64,
     rows: &[i32],
 ) -> Matched
-    requires { ⌜ Slots (now ids) (now masks) × (length (slotSatellites (now ids) (now masks)) ≤ length (now strips)) × FormedShape s × Narrow s ⌝ }
+    requires { ⌜ Slots (now ids) (now masks) × (length (slotSatellites (now ids) (now masks)) ≤ length (now strips)) × FormedShape s × Paired s ⌝ }
     ensures { λ r. ⌜ r ≡ matchedAt (chosenLines chosen (striped (columnsIn s) (slotSatellites (now (ids .entry)) (now (masks .entry))) (now (strips .entry)))) (now (rows .entry)) 0 ⌝ }
 {
     let mut marks = chosen;
@@ -94,20 +101,18 @@ pub fn reach(
     let mut k = 0;
     let mut i = 0;
     while i < ids.len() {
-        let mask = masks[i];
         let tested = Tested {
             shape: s,
             chosen: marks,
             from: k,
         };
-        let far = slot(ids[i], mask << 24, &strips[n..], tested, rows);
-        let Matched::To(next) = far else {
+        let passed = slot(ids[i], masks[i] << 24, &strips[n..], tested, rows);
+        let Passed::On(next, many, behind) = passed else {
             return Matched::Not;
         };
         k = next;
-        let many = set_places::count(mask);
         n += many;
-        marks = marks << many;
+        marks = behind;
         i += 1;
     }
     Matched::To(k)

@@ -1,14 +1,15 @@
 // Whether a row fits its line: the line's three keys, then five values that their columns can mean.
 ghost use mathlib.Core.Path.{_≡_};
 ghost use mathlib.Core.Bool.{_&&_};
-ghost use Prim.Native.Nat.{_+_, _≤_};
+ghost use Prim.Native.Nat.{_+_, _≤_, _<_};
 ghost use lib.Dec.{leb};
 ghost use lib.IntN.{pos};
 ghost use lib.ListN.{length, getD, take, drop};
+ghost use Rattle.format.specs.Rows.{absent};
 ghost use Rattle.format.specs.Same.{sameList, sameℤ};
 ghost use Rattle.rows.specs.Shapes.{columnOf, columnsOf, Formed, FormedShape};
 ghost use Rattle.fitting.specs.Fits.{columnFits, valuesFit, rowFits};
-ghost use Rattle.matching.specs.Matching.{keysOf, lineOf};
+ghost use Rattle.matching.specs.Matching.{keysOf, lineOf, pairColumns, pairOf};
 use bits::signed;
 use format::ABSENT;
 use rows::row::Key;
@@ -20,7 +21,7 @@ const NUMBER: usize = 32;
 
 // Whether a column's bits can mean a value: half more than it is a number of those bits. Of a gap, whose half is what
 // stands for an absent value, that is 0 alone. The sum wraps, so that one test tells both ends of the range.
-fn column_fits(v: i32, c: Column) -> bool
+pub fn column_fits(v: i32, c: Column) -> bool
     requires { ⌜ Formed c ⌝ }
     ensures { λ r. ⌜ r ≡ columnFits (columnOf c) v ⌝ }
 {
@@ -42,6 +43,14 @@ fn keyed(row: &[i32], key: Key) -> bool
     row[2] == key.signal
 }
 
+// Whether a row's i-th number is absent.
+pub fn absent_at(row: &[i32], i: usize) -> bool
+    requires { ⌜ i < length (now row) ⌝ }
+    ensures { λ r. ⌜ r ≡ sameℤ (getD (now (row .entry)) i (pos 0)) absent ⌝ }
+{
+    row[i] == ABSENT
+}
+
 // Whether a row's third and fourth value fit their columns, which only an orbit and a packet have. The compiler tests
 // that outside the loop over rows, so that the others have a shorter loop of their own.
 fn middle(row: &[i32], s: Shape) -> bool
@@ -49,10 +58,10 @@ fn middle(row: &[i32], s: Shape) -> bool
     ensures { λ r. ⌜ r ≡ (columnFits (columnOf (s .v3)) (getD (now (row .entry)) 5 (pos 0)) && columnFits (columnOf (s .v4)) (getD (now (row .entry)) 6 (pos 0))) ⌝ }
 {
     if s.v3.width + s.v4.width == 0 {
-        if row[5] != ABSENT {
+        if !absent_at(row, 5) {
             return false;
         }
-        return row[6] == ABSENT;
+        return absent_at(row, 6);
     }
     if !column_fits(row[5], s.v3) {
         return false;
@@ -61,7 +70,7 @@ fn middle(row: &[i32], s: Shape) -> bool
 }
 
 // Whether a row's values fit their columns.
-fn valued(row: &[i32], s: Shape) -> bool
+pub fn valued(row: &[i32], s: Shape) -> bool
     requires { ⌜ (length (now row) ≡ 8) × FormedShape s ⌝ }
     ensures { λ r. ⌜ r ≡ valuesFit (columnsOf s) (drop 3 (now (row .entry))) ⌝ }
 {
@@ -91,4 +100,41 @@ pub fn fits(rows: &[i32], k: usize, key: Key, s: Shape) -> bool
         return false;
     }
     valued(row, s)
+}
+
+// Whether a row's values fit two columns, and nothing stands behind.
+fn paired(row: &[i32], v1: Column, v2: Column) -> bool
+    requires { ⌜ (length (now row) ≡ 8) × Formed v1 × Formed v2 ⌝ }
+    ensures { λ r. ⌜ r ≡ valuesFit (pairColumns v1 v2) (drop 3 (now (row .entry))) ⌝ }
+{
+    if !column_fits(row[3], v1) {
+        return false;
+    }
+    if !column_fits(row[4], v2) {
+        return false;
+    }
+    if !absent_at(row, 5) {
+        return false;
+    }
+    if !absent_at(row, 6) {
+        return false;
+    }
+    absent_at(row, 7)
+}
+
+// The same as `fits` for a row of two columns, as biases have them (document 01, "What is handed out"): a function of
+// its own, so that cells are tested in a loop that looks at no other column.
+pub fn pair_fits(rows: &[i32], k: usize, key: Key, v1: Column, v2: Column) -> bool
+    requires { ⌜ (k ≤ length (now rows)) × Formed v1 × Formed v2 ⌝ }
+    ensures { λ r. ⌜ r ≡ (leb (k + 8) (length (now (rows .entry))) && rowFits (pairOf key v1 v2) (take 8 (drop k (now (rows .entry))))) ⌝ }
+{
+    let rest = &rows[k..];
+    if rest.len() < 8 {
+        return false;
+    }
+    let row = &rest[..8];
+    if !keyed(row, key) {
+        return false;
+    }
+    paired(row, v1, v2)
 }

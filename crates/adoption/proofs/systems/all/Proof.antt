@@ -1,38 +1,54 @@
--- `adoption::systems::all` meets its contract. The loop's invariant: the holding has the systems read so far, and all are answered as those left are after
+-- `adoption::systems::all` meets its contract. The loop's invariant: the holding has the systems read so far, and all end as those left do after
 -- them. Assumes nothing.
 use Rattle.bits.proofs.Words.{_≡_, sym, ap, _∙_, ℕ, suc, _+_, _-_, _^_, _≤_, _<_, arith, needs}
 use mathlib.Core.List.{flatMap}
 use native.Mathlib.Nat.{sub-zero}
 use lib.Count.{ones}
-use Rattle.adoption.proofs.ManySystems.{answer, firstMask, Stands, none-yet, none-left, ids-named, strips-left, one-refused, room-for, after, too-many, slot, one-fine}
-use Rattle.adoption.specs.Adoptions.{adoptionBy}
+use Rattle.adoption.proofs.ManySystems.{ended, firstMask, Stands, none-yet, none-left, ids-named, strips-left, one-refused, room-for, after, too-many, slot, one-fine}
+use Rattle.adoption.specs.Adoptions.{adoptionBy, made, madeBy}
+use Rattle.adoption.specs.declared.Adoption.{Adoption}
 use Rattle.adoption.specs.declared.cells.Masks.{Masks}
 use Rattle.adoption.specs.Stages.{cellBits}
 use Rattle.format.specs.declared.Answer.the-variants.{Message}
+use Rattle.format.specs.declared.Refusal.{Refusal}
 use Rattle.format.specs.Ends.{Within}
 use Rattle.format.specs.Masks.{satellites, cells}
+use Rattle.format.specs.Messages.{Adopted}
+use Rattle.format.specs.Programs.{Ended, badly}
 use Rattle.holding.specs.declared.Holding.{Holding}
+use Rattle.holding.specs.declared.Outline.{Outline}
+use Rattle.holding.specs.Outlines.{outlineOf}
 use Rattle.holding.specs.Pictures.{filled, pictureOf}
 use Rattle.adoption.proofs.systems.all.Statement.{statement}
 use Rattle.adoption.proofs.systems.all.Tie as tie
 
 abbrev Inv-loop : tie.InvT-loop
-Inv-loop iod numbers bytes end at₀ n h₀ at h = Stands numbers bytes end (answer numbers bytes end (firstMask iod) at₀ n) h at (n - h .count)
+Inv-loop iod numbers bytes end at₀ n satellites strips h₀ at h = Stands numbers bytes end (ended numbers bytes end (firstMask iod) at₀ n) h at (n - h .count)
 
 abbrev μ-loop : tie.MeasureT-loop
-μ-loop iod numbers bytes end at₀ n h₀ at h = n - h .count
+μ-loop iod numbers bytes end at₀ n satellites strips h₀ at h = n - h .count
+
+-- a refusal leaves what is lent
+stays : (s : tie.Start Inv-loop μ-loop) {r : Adoption} {q : Refusal} {missing : ℕ} {all : Ended Adopted} → r ≡ adoptionBy (badly q missing) → all ≡ badly q missing
+    → made r (s .args .satellites .now) (s .args .strips .now) ≡ madeBy all (s .args .satellites .now) (s .args .strips .now)
+unfolding madeBy
+stays s {r} {q} {missing} is ends =
+    ap (λ (a : Adoption). made a (s .args .satellites .now) (s .args .strips .now)) is ∙ ap (λ (e : Ended Adopted). madeBy e (s .args .satellites .now) (s .args .strips .now)) (sym ends)
 
 -- one more, of those left
 module _ (c : tie.After-read-system Inv-loop μ-loop) where
   abbrev l : tie.At-loop Inv-loop μ-loop
   l = c .before .before .before .before .before
 
+  abbrev start : tie.Start Inv-loop μ-loop
+  start = l .before .before
+
   abbrev more : ℕ
   more = l .before .before .args .n - (l .loop .h .count + 1)
 
   stands :
       let x = l .before .before .args in
-      Stands (x .numbers) (x .bytes .now) (x .end) (answer (x .numbers) (x .bytes .now) (x .end) (firstMask (x .iod)) (x .at) (x .n)) (l .loop .h) (l .loop .at) (suc more)
+      Stands (x .numbers) (x .bytes .now) (x .end) (ended (x .numbers) (x .bytes .now) (x .end) (firstMask (x .iod)) (x .at) (x .n)) (l .loop .h) (l .loop .at) (suc more)
   stands =
       let e : l .before .before .args .n - l .loop .h .count ≡ suc more = omega arith in
       rw e at (l .loop .inv)
@@ -65,7 +81,7 @@ returns-2 : tie.Need-returns-2 Inv-loop μ-loop
 returns-2 c =
     let s = c .before .before in
     let p = q s in
-    c .refused2 .ensures ∙ sym (too-many (stands (read p)) (read p .read-system .result) (read p .read-system .ensures .0) (p .before .m .given .1) (omega (arith, s .strips .ensures .0 .0, c .before .if1 .taken)))
+    stays (start (read p)) (c .refused2 .ensures) (too-many (stands (read p)) (read p .read-system .result) (read p .read-system .ensures .0) (p .before .m .given .1) (omega (arith, s .strips .ensures .0 .0, c .before .if1 .taken)))
 
 -- and few enough
 module _ (c : tie.Else1 Inv-loop μ-loop) where
@@ -84,12 +100,16 @@ loop-again c =
     (ap (λ (n : ℕ). l (read p) .loop .h .nsat + n) (c .before .count .ensures)) (ap (λ (n : ℕ). l (read p) .loop .h .ncell + n) (strips .0 .0)) (ap (λ (w : ℕ). p .before .m .given .0 .1 .1 .0 + w) (c .width .ensures))
 
 returns-3 : tie.Need-returns-3 Inv-loop μ-loop
-unfolding adoptionBy
+unfolding adoptionBy madeBy
 returns-3 c =
-    let l = c .before .loop in
-    let none : c .before .before .before .args .n - l .h .count ≡ 0 = omega arith in
-    let s = rw none at (l .inv) in
-    ap (λ (g : Holding). record { answer = Message (c .before .before .before .args .numbers) (l .at) 0; holding = g }) (sym (s .held .picture)) ∙ sym (none-left s)
+    let a = c .before .before .before .before in
+    let x = a .before .before .args in
+    let h = a .loop .h in
+    let none : x .n - h .count ≡ 0 = omega arith in
+    let s = rw none at (a .loop .inv) in
+    ap (λ (o : Outline). made (record { answer = Message (x .numbers) (a .loop .at) 0; outline = o }) (h .satellites) (h .strips)) (c .outline .ensures)
+    ∙ ap (λ (g : Holding). made (record { answer = Message (x .numbers) (a .loop .at) 0; outline = outlineOf g }) (g .satellites) (g .strips)) (sym (s .held .picture))
+    ∙ ap (λ (e : Ended Adopted). madeBy e (x .satellites .now) (x .strips .now)) (sym (none-left s))
 
 pub all-spec : {M : Type 1} → statement M
 unfolding filled pictureOf satellites cells flatMap
@@ -98,10 +118,10 @@ all-spec =
     (tie.spec Inv-loop μ-loop
     (λ c. rw sub-zero (none-yet (c .before .args .numbers) (c .before .args .iod) (c .before .args .n) (c .before .pre .0) (c .before .pre .1)))
     (λ c κs. let l = c .before .before .before .before .loop .inv in (ids-named l .0, l .held .few-satellites, l .there)) (λ c. search needs) (λ c κs. search needs)
-    (λ c. let p = c .before .before .before .before in c .refused .ensures ∙ sym (one-refused (stands p) (p .read-system .result) (p .read-system .ensures .0) (c .before .before .r .given .1)))
+    (λ c. let p = c .before .before .before .before in stays (start p) (c .refused .ensures) (one-refused (stands p) (p .read-system .result) (p .read-system .ensures .0) (c .before .before .r .given .1)))
     (λ c. search needs)
     (λ c κs. (fits (c .before) .1, fits (c .before) .0, omega (arith, next (c .before)), omega (arith, next (c .before)), strips-left (stands (read (c .before)))))
     (λ c. omega (arith, c .strips .ensures .0 .1, l (read (q c)) .loop .inv .held .few-cells)) (λ c κs. search needs) returns-2 (λ c κs. search needs)
     (λ c. omega (arith, c .count .ensures, fits (p (c .before)) .1)) (λ c. few (c .before)) (λ c. omega (arith, few (c .before))) (λ c. few (c .before))
     (λ c. omega (arith, few (c .before))) (λ c. few (c .before)) (λ c. few (c .before)) (λ c. omega (arith, few (c .before))) (λ c κs. fits (p (c .before)) .0)
-    (λ c. omega (arith, c .width .ensures, next (p (c .before .before)))) (λ c. omega arith) loop-again returns-3)
+    (λ c. omega (arith, c .width .ensures, next (p (c .before .before)))) (λ c. omega arith) loop-again (λ c κs. search needs) returns-3)

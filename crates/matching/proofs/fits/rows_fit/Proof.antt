@@ -11,7 +11,7 @@ use Rattle.matching.proofs.fits.rows_fit.Tie as tie
 
 -- what the call told says whether all rows fit
 told : (c : tie.After-reach) → let x = c .before .before .before .before .before .args in
-    ended (8 * x .count) (c .reach .result) ≡ rowsFit (linesIn (viewBy (x .ids .now) (x .masks .now) (x .strips .now)) (x .body)) (rowsIn (x .count) (x .rows .now))
+    ended (8 * x .count) (c .reach .result) ≡ rowsFit (linesIn (viewBy (x .ids .now) (x .masks .now) (x .strips .now)) (x .shaped .body)) (rowsIn (x .count) (x .rows .now))
 told c = let s = c .before .before .before .before .before in ap (ended (8 * s .args .count)) (c .reach .ensures) ∙ sym (all-rows _ (s .args .count) (s .args .rows .now) (s .pre .2))
 
 pub rows-fit-spec : {M : Type 1} → statement M

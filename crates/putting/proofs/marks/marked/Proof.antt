@@ -4,9 +4,9 @@ use lib.Seq.{length-take-le}
 use Rattle.body.proofs.Slots.{fromSlot, Slot, slot-at, no-slot}
 use Rattle.holding.specs.Held.{slotSatellites}
 use Rattle.putting.specs.declared.marks.Told.{Told}
-use Rattle.putting.specs.Marking.{marksWord, toldAfter}
+use Rattle.putting.specs.Marking.{markedBy, toldAfter}
 use Rattle.putting.proofs.Marking.{Telling, telling-start, telling-call, telling-end}
-use Rattle.putting.proofs.MarkWords.{told-word, rows-counted}
+use Rattle.putting.proofs.MarkWords.{told-marked, rows-counted}
 use Rattle.putting.proofs.marks.marked.Statement.{statement}
 use Rattle.putting.proofs.marks.marked.Tie as tie
 
@@ -44,9 +44,9 @@ returns c =
     let x = s .args in
     let l = c .before .loop in
     let sats = slotSatellites (x .ids .now) (x .masks .now) in
-    ap (λ (t : Told). t .word) (telling-end (l .inv) (no-slot (x .ids .now) (x .masks .now) (l .i) (c .loop-test .left)))
-    ∙ told-word (take (8 * x .count) (x .rows .now)) sats (x .count) (s .pre .1) (long s)
-    ∙ ap (marksWord sats) (rows-counted (x .count) (x .rows .now) (s .pre .2))
+    ap (λ (t : Told). record { word = t .word; told = t .at }) (telling-end (l .inv) (no-slot (x .ids .now) (x .masks .now) (l .i) (c .loop-test .left)))
+    ∙ told-marked (take (8 * x .count) (x .rows .now)) sats (x .count) (s .pre .1) (long s)
+    ∙ ap (markedBy sats) (rows-counted (x .count) (x .rows .now) (s .pre .2))
 
 pub marked-spec : {M : Type 1} → statement M
 marked-spec =

@@ -1,81 +1,18 @@
 -- `putting::row::put_pair` meets its contract. Assumes nothing.
-use Rattle.bits.proofs.Words.{_≡_, refl, sym, ap, _∙_, List, [], _∷_, ℕ, _+_, _≤_, arith, needs, getD, ℤ, pos}
-use Rattle.bits.specs.BitLists.{number}
-use Rattle.format.specs.Rows.{Column, shapeWidth, spellValues}
-use Rattle.rows.proofs.Columns.{width-of}
-use Rattle.rows.specs.Shapes.{columnOf}
-use Rattle.putting.proofs.FirstColumns.{First, first-known}
-use Rattle.pens.proofs.Pens.{inks-pen, inks-ink}
-use Rattle.putting.proofs.RowBits.{Joined, joined-one, joined-more, joined-gap, joined-room, FourFit, four-values, four-fit, value-read, fits-read}
-use Rattle.putting.proofs.RowPens.{Pair, pair-shape, front, front-fits, front-same, last-none, row-inks, push-ready, push-inks, pass-inks}
+use Rattle.bits.proofs.Words.{needs}
+use Rattle.putting.proofs.RowPens.{pair-shape, last-none, row-inks, push-ready, push-inks, pass-inks, inks-done}
 use Rattle.putting.proofs.row.put_pair.Statement.{statement}
 use Rattle.putting.proofs.row.put_pair.Tie as tie
-use Rattle.pens.specs.declared.pen.Field.{Field}
-use Rattle.putting.specs.Putting.{rowSystem, fourColumns}
-
-module _ (s : tie.Start) where
-  pair : Pair (s .args .s)
-  pair = pair-shape (s .args .s) (s .pre .0)
-
-  known : First (s .args .s) (rowSystem (s .args .row .now)) (s .args .s .v1)
-  known = first-known (s .args .s) (s .pre .1 .formed) (rowSystem (s .args .row .now)) _ (pair .bare) refl
-
-  abbrev first : Column
-  first = columnOf (s .args .s .v1)
-
-  abbrev second : Column
-  second = columnOf (s .args .s .v2)
-
-  -- the number at a place of the row
-  abbrev at : ℕ → ℤ
-  at k = getD (s .args .row .now) k (pos 0)
-
-  each : FourFit first second (columnOf (s .args .s .v3)) (columnOf (s .args .s .v4)) (at 3) (at 4) (at 5) (at 6)
-  each = four-fit (s .args .row .now) (s .pre .1 .eight) first second _ _ (front-fits (s .pre .1) known)
-
-  room : shapeWidth (first ∷ []) + s .args .s .v2 .width ≤ 56
-  unfolding shapeWidth
-  room = omega (arith, s .pre .1 .formed .window, width-of (s .args .s .v1))
-
-one : (c : tie.After-column-bits) → let s = c .before .before .before .before in Joined (first s ∷ []) (at s 3 ∷ []) (c .column-bits .result)
-one c =
-    let s = c .before .before .before .before in
-    joined-one (s .args .s .v1) (at s 3) (each s .first) (rw (value-read (at s 3) (c .before .column-bits-arg .given)) at (c .column-bits .ensures))
-
--- both, in front of two gaps
-module _ (c : tie.After-with) where
-  abbrev start : tie.Start
-  start = c .before .before .before .before .before .before
-
-  both : Joined (first start ∷ second start ∷ []) (at start 3 ∷ at start 4 ∷ []) (c .with .result)
-  both = joined-more (one (c .before .before)) (start .args .s .v2) (at start 4) (each start .second) (rw (value-read (at start 4) (c .before .with-arg .given)) at (c .with .ensures))
-
-  all : Joined (fourColumns (start .args .s .v1) (start .args .s)) (at start 3 ∷ at start 4 ∷ at start 5 ∷ at start 6 ∷ []) (c .with .result)
-  all =
-      joined-gap (joined-gap both (start .args .s .v3) (at start 5) (each start .third) (pair start .third)) (start .args .s .v4) (at start 6) (each start .fourth) (pair start .fourth)
-
-  abbrev field : Field
-  field = record { width = start .args .s .v1 .width + start .args .s .v2 .width; value = c .with .result }
-
-  same : field ≡ front (start .pre .1) (known start)
-  same =
-      front-same (start .pre .1) (known start) (omega (arith, pair start .third, pair start .fourth))
-      (all .spelled ∙ ap (λ (l : List ℤ). number (spellValues (fourColumns (start .args .s .v1) (start .args .s)) l)) (sym (four-values (start .args .row .now) (start .pre .1 .eight))))
 
 returns : tie.Need-returns
 returns c =
-    let p = c .before .before in
-    let w = p .before .before in
-    let s = start w in
-    let none = last-none (s .pre .1) (known s) (pair s .fifth) in
-    let inks = pass-inks (push-inks (row-inks (s .pre .1) (known s)) (same w) (p .push .ensures .0) (p .push .ensures .1)) (none .0) (none .1) in
-    (inks-pen refl inks, inks-ink refl inks)
+    let q = c .before .before in
+    let r = q .before in
+    let s = r .before .before .before in
+    let none = last-none (s .pre .1 .valued) (pair-shape (s .args .s) (s .pre .0) .fifth) in
+    inks-done (pass-inks (push-inks (row-inks (s .pre .1)) (r .pair .ensures) (q .push .ensures .0) (q .push .ensures .1)) (none .0) (none .1))
 
 pub put-pair-spec : {M : Type 1} → statement M
 put-pair-spec =
     tie.close
-    (tie.spec (λ c. search needs) (λ c. search needs)
-    (λ c κs. let s = c .before .before .before in (s .pre .1 .formed .first, fits-read (at s 3) (c .column-bits-arg .given) (first s) (each s .first)))
-    (λ c. search needs)
-    (λ c κs. let s = c .before .before .before .before .before in (joined-room (one (c .before)) (s .args .s .v2 .width) (room s), s .pre .1 .formed .second, fits-read (at s 4) (c .with-arg .given) (second s) (each s .second)))
-    (λ c κs. let w = c .before in push-ready (row-inks (start w .pre .1) (known (start w))) (same w)) (λ c. search needs) returns)
+    (tie.spec (λ c κs. let s = c .before .before in (s .pre .0, s .pre .1 .valued)) (λ c κs. push-ready (row-inks (c .before .before .before .pre .1)) (c .pair .ensures)) (λ c. search needs) returns)

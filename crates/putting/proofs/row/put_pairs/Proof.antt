@@ -1,6 +1,8 @@
 -- `putting::row::put_pairs` meets its contract. The loop's invariant: the rows that are left, from what stands. Assumes nothing.
-use Rattle.bits.proofs.Words.{_-_, needs}
+use Rattle.bits.proofs.Words.{List, _-_, needs, ℤ}
+use Rattle.putting.proofs.OwnColumns.{Own, own-bare}
 use Rattle.putting.proofs.RowLoops.{Going, going-start, going-row, going-next, going-end, row-part}
+use Rattle.putting.proofs.RowPens.{pair-shape}
 use Rattle.putting.proofs.row.put_pairs.Statement.{statement}
 use Rattle.putting.proofs.row.put_pairs.Tie as tie
 
@@ -10,18 +12,23 @@ Inv-loop bytes₀ rows count s p₀ i₀ bytes p i = Going s rows count p₀ byt
 abbrev μ-loop : tie.MeasureT-loop
 μ-loop bytes₀ rows count s p₀ i₀ bytes p i = count - i
 
+own : (s : tie.Start Inv-loop μ-loop) {row : List ℤ} → Own (s .args .s) row (s .args .s)
+own s = own-bare (s .args .s) (s .pre .1 .formed) (pair-shape (s .args .s) (s .pre .0) .bare)
+
 put-pair-requires : tie.Need-put-pair-requires Inv-loop μ-loop
 put-pair-requires c κs =
     let t = c .before .before in
     let l = t .before in
-    (l .before .before .pre .0, going-row (l .loop .inv) (t .loop-test .taken) (row-part (l .before .before .args .rows .now) (l .loop .i)))
+    let s = l .before .before in
+    (s .pre .0, going-row (l .loop .inv) (t .loop-test .taken) (row-part (s .args .rows .now) (l .loop .i)) (own s))
 
 loop-again : tie.Need-loop-again Inv-loop μ-loop
 loop-again c =
     let r = c .before .before in
     let t = r .before .before .before in
     let l = t .before in
-    going-next (l .loop .inv) (t .loop-test .taken) (row-part (l .before .before .args .rows .now) (l .loop .i)) (r .put-pair .ensures .0) (r .put-pair .ensures .1)
+    let s = l .before .before in
+    going-next (l .loop .inv) (t .loop-test .taken) (row-part (s .args .rows .now) (l .loop .i)) (own s) (r .put-pair .ensures .0) (r .put-pair .ensures .1)
 
 pub put-pairs-spec : {M : Type 1} → statement M
 put-pairs-spec =

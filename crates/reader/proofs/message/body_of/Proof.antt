@@ -1,7 +1,13 @@
 -- `reader::message::body_of` meets its contract. Assumes nothing.
-use Rattle.bits.proofs.Words.{_≡_, refl, sym, ap, _∙_, subst, List, ℕ, _+_, _-_, _≤_, arith, needs, length}
+use Rattle.bits.proofs.Words.{_≡_, refl, sym, ap, _∙_, subst, Bool, true, false, cond, List, ℕ, _+_, _-_, _*_, _≤_, arith, needs, length, ℤ}
 use mathlib.Core.List.{flatten}
-use Rattle.body.proofs.Bodies.{few-in, lent-view, lent-well}
+use borrow.Author.Tests.{ne-eqb, not-true, not-false}
+use Rattle.body.proofs.Bodies.{few-in, lent-view, lent-well, lent-sizes}
+use Rattle.body.specs.declared.Placed.{Placed}
+use Rattle.body.specs.Asking.{Fills}
+use Rattle.body.specs.Lent.{viewBy}
+use Rattle.body.specs.Written.{windowed, numbersAt, Counts}
+use Rattle.format.specs.declared.Answer.{Answer}
 use Rattle.format.specs.declared.Answer.the-variants as Answers
 use Rattle.format.specs.Masks.{Held}
 use Rattle.format.specs.Reading.{Outcome, accepted, answerOf, over, rowsAfter}
@@ -9,8 +15,12 @@ use Rattle.format.specs.Rows.{Line, bodyWidth}
 use Rattle.heads.specs.declared.heading.Heading.{Heading}
 use Rattle.heads.specs.Headings.{saidBy, FitsHeading}
 use Rattle.heads.specs.Sorting.{headedAt}
+use Rattle.holding.specs.declared.Holding.{Holding}
 use Rattle.holding.specs.Held.{View, viewOf}
+use Rattle.holding.specs.Outlines.{wholeOf}
 use Rattle.holding.specs.Pictures.{maskOf}
+use Rattle.reader.specs.declared.message.Found.the-variants.{Answered}
+use Rattle.reader.specs.Findings.{settled, settledRows, isNear, nearIn, Fillable}
 use Rattle.reader.specs.Readings.{Begins}
 use Rattle.reader.proofs.Bodied.{bodyOf, headed-there, body-said, headed-short, none-at}
 use Rattle.reader.proofs.message.body_of.Statement.{statement}
@@ -18,6 +28,10 @@ use Rattle.reader.proofs.message.body_of.Tie as tie
 use Rattle.rows.specs.At.{rowsAt}
 use Rattle.table.specs.declared.Body.{Body}
 use Rattle.table.specs.Bodies.{linesIn, Fits}
+
+-- what is held
+abbrev hold : tie.Start → Holding
+hold s = wholeOf (s .args .outline) (s .args .masks .now) (s .args .strips .now)
 
 -- rows begin at a place
 module _ (c : tie.After-heading2) where
@@ -31,10 +45,10 @@ module _ (c : tie.After-heading2) where
   at = c .heading2 .given .0 .1 .1 .0
 
   abbrev lines : List Line
-  lines = linesIn (viewOf (s .args .holding)) body
+  lines = linesIn (viewOf (hold s)) body
 
   abbrev held : Held
-  held = maskOf (s .args .holding)
+  held = maskOf (hold s)
 
   fits : Fits body
   unfolding FitsHeading
@@ -42,78 +56,139 @@ module _ (c : tie.After-heading2) where
 
   begins : at ≤ s .args .end
   unfolding saidBy Begins
-  begins = subst (λ (d : Heading). Begins (s .args .end) (saidBy (viewOf (s .args .holding)) d)) (c .heading2 .given .1) (s .pre .3)
+  begins = subst (λ (d : Heading). Begins (s .args .end) (saidBy (viewOf (hold s)) d)) (c .heading2 .given .1) (s .pre .3)
 
   -- what it comes to
   abbrev whole : Outcome
-  whole = headedAt held (s .args .bytes .now) (s .args .end) (saidBy (viewOf (s .args .holding)) (s .args .heading))
+  whole = headedAt held (s .args .bytes .now) (s .args .end) (saidBy (viewOf (hold s)) (s .args .heading))
+
+-- its extent was counted
+module _ (z : tie.After-size) where
+  abbrev t : tie.After-heading2
+  t = z .before .before
+
+  counts : Counts (lines t) (z .size .result)
+  counts = subst (λ (v : View). Counts (linesIn v (body t)) (z .size .result)) (lent-view (s t .pre .1)) (z .size .ensures)
 
 returns : tie.Need-returns
-unfolding saidBy answerOf rowsAfter
+unfolding saidBy answerOf rowsAfter settled settledRows isNear nearIn Fillable
 returns c =
     let z = c .before .before .before in
-    let t = z .before .before in
-    let bits = z .size .ensures .bits in
+    let t = t z in
+    let bits = counts z .bits in
     rw (
       t .heading2 .given .1,
       headed-short (held t) (s t .args .bytes .now) (s t .args .end) (t .heading2 .given .0 .0) (lines t) (at t) (omega (arith, bits, c .before .if1 .taken)),
     )
-    (ap (λ (n : ℕ). Answers.Refused _ (n - (s t .args .end - at t))) bits, refl)
+    (record { found = ap (λ (n : ℕ). Answered (Answers.Refused _ (n - (s t .args .end - at t)))) bits; rows = refl; near = refl; left = tt })
 
 -- the body is there
 module _ (c : tie.Else1) where
   abbrev z : tie.After-size
   z = c .before .before
 
-  abbrev t : tie.After-heading2
-  t = z .before .before
+  abbrev h : tie.After-heading2
+  h = t z
 
-  there : whole t ≡ accepted (bodyOf (held t) (s t .args .bytes .now) (t .heading2 .given .0 .0) (lines t) (at t)) (at t + bodyWidth (lines t))
+  abbrev start : tie.Start
+  start = s h
+
+  there : whole h ≡ accepted (bodyOf (held h) (start .args .bytes .now) (h .heading2 .given .0 .0) (lines h) (at h)) (at h + bodyWidth (lines h))
   unfolding saidBy
   there =
-      ap (λ (d : Heading). headedAt (held t) (s t .args .bytes .now) (s t .args .end) (saidBy (viewOf (s t .args .holding)) d)) (t .heading2 .given .1)
-      ∙ headed-there (held t) (s t .args .bytes .now) (s t .args .end) (t .heading2 .given .0 .0) (lines t) (at t) (omega (arith, z .size .ensures .bits, begins t, c .if1 .left)) (s t .pre .0 .lent)
+      ap (λ (d : Heading). headedAt (held h) (start .args .bytes .now) (start .args .end) (saidBy (viewOf (hold start)) d)) (h .heading2 .given .1)
+      ∙ headed-there (held h) (start .args .bytes .now) (start .args .end) (h .heading2 .given .0 .0) (lines h) (at h) (omega (arith, counts z .bits, begins h, c .if1 .left)) (start .pre .0 .lent)
 
-  said : (rows : ℕ) → rows ≡ length (lines t) → Answers.Message (t .heading2 .given .0 .0) (at t + z .size .result .bits) rows ≡ answerOf (whole t)
-  said rows e = body-said (held t) (s t .args .bytes .now) (s t .args .end) _ (lines t) (at t) _ rows (z .size .ensures .bits) e ∙ ap answerOf (sym there)
+  abbrev message : ℕ → Answer
+  message rows = Answers.Message (h .heading2 .given .0 .0) (at h + z .size .result .bits) rows
 
-returns-2 : tie.Need-returns-2
-unfolding rowsAfter over flatten
-returns-2 c =
-    let e = c .before .before .before in
-    let none = sym (c .before .if2 .taken) ∙ z e .size .ensures .rows in
-    (said e 0 none, rw (there e, none-at (lines (t e)) (s (t e) .args .bytes .now) (at (t e)) (sym none)) refl)
+  said : (rows : ℕ) → rows ≡ length (lines h) → message rows ≡ answerOf (whole h)
+  said rows e = body-said (held h) (start .args .bytes .now) (start .args .end) _ (lines h) (at h) _ rows (counts z .bits) e ∙ ap answerOf (sym there)
 
--- slots and strips that are lent are the holding's
-fill-requires : tie.Need-fill-requires
-fill-requires c κs =
-    let e = c .before .before .before in
-    let p = s (t e) .pre in
-    let bits = z e .size .ensures .bits ∙ ap (λ (v : View). bodyWidth (linesIn v (body (t e)))) (sym (lent-view (p .1))) in
-    let lent = lent-well (p .1) (p .0 .held) in (
+  abbrev placed : Placed
+  placed = record { body = body h; bits = z .size .result .bits; at = at h }
+
+  -- its rows can be filled
+  fills : Fills (start .args .ids .now) (start .args .masks .now) (start .args .strips .now) placed (start .args .rows .now)
+  fills =
+      let p = start .pre in
+      let lent = lent-well (p .1) (p .0 .held) in
       record {
         lent = lent;
-        fits = fits (t e);
-        bits = bits;
-        near = omega (arith, begins (t e), p .0 .limit, e .if1 .left);
-        room = omega (arith, p .0 .room, few-in lent (body (t e)) (fits (t e)) .rows);
-      },
-      omega (arith, begins (t e), p .0 .lent, e .if1 .left),
-    )
+        fits = fits h;
+        bits = z .size .ensures .bits;
+        near = omega (arith, begins h, p .0 .limit, c .if1 .left);
+        room = omega (arith, p .0 .room, few-in lent (body h) (fits h) .rows);
+      }
 
-returns-4 : tie.Need-returns-4
-unfolding rowsAfter
-returns-4 c =
-    let e = c .before .before .before .before .before .before in
-    let x = s (t e) .args in
-    let same = ap (λ (v : View). over (flatten (rowsAt (linesIn v (body (t e))) (x .bytes .now) (at (t e)))) (x .rows .now)) (lent-view (s (t e) .pre .1)) in
-    (said e _ (z e .size .ensures .rows), rw (there e) (c .before .before .fill .ensures ∙ same))
+  inside : at h + z .size .result .bits ≤ 8 * length (start .args .bytes .now)
+  inside = omega (arith, begins h, start .pre .0 .lent, c .if1 .left)
+
+  -- the row buffer with them
+  filled : over (numbersAt (linesIn (viewBy (start .args .ids .now) (start .args .masks .now) (start .args .strips .now)) (body h)) (start .args .bytes .now) (at h)) (start .args .rows .now)
+      ≡ rowsAfter (whole h) (start .args .rows .now)
+  unfolding rowsAfter
+  filled = rw there (ap (λ (v : View). over (numbersAt (linesIn v (body h)) (start .args .bytes .now) (at h)) (start .args .rows .now)) (lent-view (start .pre .1)))
+
+  -- whether they are left
+  abbrev far : Bool
+  far = windowed (start .args .bytes .now) (at h + z .size .result .bits)
+
+  nears : (z .size .result .rows ≡ 0 → ⊥) → cond far false true ≡ nearIn (start .args .bytes .now) (Answered (answerOf (whole h)))
+  unfolding nearIn
+  nears some =
+      sym (rw (ne-eqb (z .size .result .rows) 0 some)) ∙ ap (λ (a : Answer). nearIn (start .args .bytes .now) (Answered a)) (said _ (counts z .rows))
+
+returns-2 : tie.Need-returns-2
+unfolding rowsAfter over flatten settled settledRows isNear nearIn Fillable
+returns-2 c =
+    let e = c .before .before .before in
+    let none = sym (c .before .if2 .taken) ∙ counts (z e) .rows in
+    record {
+      found = ap Answered (said e 0 none);
+      rows = rw (there e, none-at (lines (h e)) (start e .args .bytes .now) (at (h e)) (sym none)) refl;
+      near = ap (λ (a : Answer). nearIn (start e .args .bytes .now) (Answered a)) (said e 0 none);
+      left = tt;
+    }
+
+-- they are left
+returns-3 : tie.Need-returns-3
+unfolding settled settledRows isNear Fillable
+returns-3 c =
+    let f = c .before .before .before in
+    let m = f .before .before in
+    let e = m .before .before in
+    let off = sym (f .fill .ensures .0) ∙ not-true _ (c .before .if3 .taken) in
+    let same : f .fill .last .1 .1 .1 .1 .1 .0 ≡ start e .args .rows .now = rw off at (f .fill .ensures .1) in
+    record {
+      found = ap Answered (said e _ (counts (z e) .rows));
+      rows = rw same (filled e);
+      near = rw off at (nears e (m .if2 .left));
+      left = (rw same (fills e), inside e);
+    }
+
+-- they are there
+returns-5 : tie.Need-returns-5
+unfolding settled settledRows isNear Fillable
+returns-5 c =
+    let f = c .before .before .before in
+    let m = f .before .before in
+    let e = m .before .before in
+    let on = sym (f .fill .ensures .0) ∙ not-false _ (c .before .if3 .left) in
+    record {
+      found = ap Answered (said e _ (counts (z e) .rows));
+      rows = f .fill .ensures .1 ∙ rw on (filled e);
+      near = rw on at (nears e (m .if2 .left));
+      left = tt;
+    }
 
 pub body-of-spec : {M : Type 1} → statement M
-unfolding saidBy answerOf rowsAfter headedAt
+unfolding saidBy answerOf rowsAfter headedAt settled settledRows isNear nearIn Fillable
 body-of-spec =
     tie.close
-    (tie.spec (λ c. search needs) (λ c. search needs) (λ c κs. let p = s (c .before) .pre in (p .0 .held, p .1, fits (c .before))) (λ c. begins (c .before .before))
-    (λ c. search needs) returns (λ c. let e = c .before .before .before in omega (arith, begins (t e), s (t e) .pre .0 .limit, e .if1 .left)) returns-2 fill-requires
-    (λ c. let e = c .before .before .before .before .before .before in omega (arith, begins (t e), s (t e) .pre .0 .limit, e .if1 .left))
-    (λ c. rw (c .before .heading .given .1) (refl, refl)) (λ c. search needs) returns-4)
+    (tie.spec (λ c. search needs) (λ c. search needs) (λ c κs. let p = s (c .before) .pre in (lent-sizes (p .1) (p .0 .held), fits (c .before))) (λ c. begins (c .before .before))
+    (λ c. search needs) returns (λ c. let e = c .before .before .before in omega (arith, begins (h e), start e .pre .0 .limit, e .if1 .left)) returns-2
+    (λ c κs. fills (c .before .before .before))
+    (λ c. let e = c .before .before .before .before .before .before .before in omega (arith, begins (h e), start e .pre .0 .limit, e .if1 .left)) (λ c. search needs) returns-3
+    (λ c. let e = c .before .before .before .before .before .before .before in omega (arith, begins (h e), start e .pre .0 .limit, e .if1 .left))
+    (λ c. rw (c .before .heading .given .1) (record { found = refl; rows = refl; near = refl; left = tt })) (λ c. search needs) returns-5)

@@ -13,7 +13,7 @@ unfolding frontFields joinedTo total openingField lastField
 returns c =
     let x = c .before .before .before .before .args in
     let epoch : c .before .word .result ≡ wordOf (x .head .epoch) = of-struct wordOf _ (c .before .before .struct-told .given .1 .0 .1) (c .before .word .ensures .0) in
-    (ap (λ (g : ℕ). record { place = x .start; width = 37; gathered = g }) (omega arith) ∙ sym (all-join (frontFields 12 (x .head)) (penAt (x .start)) (omega arith)), omega arith)
+    (ap (λ (g : ℕ). record { place = x .start; width = 37; gathered = g }) (omega arith) ∙ sym (all-join (frontFields 12 (x .head)) (penAt (x .start)) (omega arith) (omega arith)), omega arith)
 
 pub common-spec : {M : Type 1} → statement M
 common-spec =

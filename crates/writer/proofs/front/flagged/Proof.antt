@@ -25,13 +25,15 @@ module _ (c : tie.After-is-absent) where
 returns : tie.Need-returns
 returns c =
     let t = c .before .before in
-    flags-alone (s t .args .start) (s t .args .head) _ (t .before .before .before .before .before .before .common .ensures .0) _ _ (a t) (b t) (sym (none t) ∙ c .before .if1 .taken)
+    let front = t .before .before .before .before .before .before .common .ensures in
+    flags-alone (s t .args .start) (s t .args .head) _ (front .0) (front .1) _ _ (a t) (b t) (sym (none t) ∙ c .before .if1 .taken)
 
 returns-2 : tie.Need-returns-2
 returns-2 c =
     let t = c .before .before .before .before in
+    let front = t .before .before .before .before .before .before .common .ensures in
     let network : c .word3 .result ≡ wordOf (s t .args .head .c) = of-struct wordOf _ (c .before .struct-told4 .given .1 .1 .1 .1 .1 .1 .1 .0 .1) (c .word3 .ensures .0) in
-    flags-network (s t .args .start) (s t .args .head) _ (t .before .before .before .before .before .before .common .ensures .0) _ _ (a t) (b t) (sym (none t) ∙ c .before .before .before .if1 .left) _ network
+    flags-network (s t .args .start) (s t .args .head) _ (front .0) (front .1) _ _ (a t) (b t) (sym (none t) ∙ c .before .before .before .if1 .left) _ network
 
 pub flagged-spec : {M : Type 1} → statement M
 flagged-spec =

@@ -30,7 +30,7 @@ returns c =
     let t = c .before .before in
     let x = s t .args in
     let a : c .word2 .result ≡ wordOf (x .head .a) = of-struct wordOf _ (c .before .struct-told2 .given .1 .1 .1 .1 .1 .0 .1) (c .word2 .ensures .0) in
-    ap (λ (g : ℕ). record { place = x .start; width = 49; gathered = g }) (omega (arith, epoch t)) ∙ sym (all-join (maskFront (x .head)) (penAt (x .start)) (omega arith))
+    ap (λ (g : ℕ). record { place = x .start; width = 49; gathered = g }) (omega (arith, epoch t)) ∙ sym (all-join (maskFront (x .head)) (penAt (x .start)) (omega arith) (omega (arith, epoch t, front-small t)))
 
 pub mask-spec : {M : Type 1} → statement M
 mask-spec =

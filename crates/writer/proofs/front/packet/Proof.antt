@@ -15,7 +15,7 @@ returns c =
     let indicator : c .before .before .before .before .before .word .result ≡ wordOf (x .head .indicator) = of-struct wordOf _ (c .before .before .before .before .before .before .struct-told .given .1 .1 .1 .0 .1) (c .before .before .before .before .before .word .ensures .0) in
     let a : c .before .before .before .word2 .result ≡ wordOf (x .head .a) = of-struct wordOf _ (c .before .before .before .before .struct-told2 .given .1 .1 .1 .1 .1 .0 .1) (c .before .before .before .word2 .ensures .0) in
     let b : c .before .word3 .result ≡ wordOf (x .head .b) = of-struct wordOf _ (c .before .before .struct-told3 .given .1 .1 .1 .1 .1 .1 .0 .1) (c .before .word3 .ensures .0) in
-    ap (λ (g : ℕ). record { place = x .start; width = 22; gathered = g }) (omega arith) ∙ sym (all-join (packetFields (x .head)) (penAt (x .start)) (omega arith))
+    ap (λ (g : ℕ). record { place = x .start; width = 22; gathered = g }) (omega arith) ∙ sym (all-join (packetFields (x .head)) (penAt (x .start)) (omega arith) (omega arith))
 
 pub packet-spec : {M : Type 1} → statement M
 packet-spec =

@@ -8,11 +8,12 @@ use Rattle.pens.specs.declared.pen.Pen.{Pen}
 use Rattle.writer.specs.declared.Writing.the-variants.{Done}
 use Rattle.writer.specs.Fronts.{penAt, maskFront}
 use Rattle.putting.specs.MaskFields.{maskFields}
-use Rattle.pens.specs.Pens.{penAfter, inkAfter, Ready}
+use Rattle.pens.specs.Pens.{begunBy, penAfter, inkAfter, Ready, Begins}
+use Rattle.pens.proofs.Begun.{ready-begun, begins-alone}
 use Rattle.writer.specs.Stages.{answered}
 use Rattle.writer.specs.Written.{maskRight, maskSpelled, masked}
 use Rattle.writer.proofs.Behind.{unfit, roomless, done}
-use Rattle.writer.proofs.Masked.{right-common, right-count, mask-long, mask-parts, mask-ready, mask-place}
+use Rattle.writer.proofs.Masked.{right-common, right-count, mask-long, mask-parts, mask-begins, mask-place}
 use Rattle.writer.proofs.Putting.{ready-last, all-set}
 use Rattle.writer.proofs.message.of_mask.Statement.{statement}
 use Rattle.writer.proofs.message.of_mask.Tie as tie
@@ -57,27 +58,45 @@ module _ (c : tie.Else2) where
   inside : st z .args .start + length (bits (st z)) ≤ limit (st z .args .bytes .now)
   inside = omega (arith, long z, c .if2 .left, c .before .limit .ensures .0, st z .pre .2)
 
-  ready : Ready (penAfter (penAt (st z .args .start)) (maskFront (st z .args .head))) (maskFields (st z .args .holding)) (st z .args .bytes .now)
+  -- the pen that has gathered the front
+  abbrev front : Pen
+  front = penAfter (penAt (st z .args .start)) (maskFront (st z .args .head))
+
+  begins : Begins front (maskFields (st z .args .holding)) (st z .args .bytes .now)
   unfolding limit
-  ready =
-      mask-ready (st z .args .holding) (st z .pre .0) (st z .args .head) (st z .args .count) (st z .pre .1) (right z) (st z .args .start) (st z .args .bytes .now)
+  begins =
+      mask-begins (st z .args .holding) (st z .pre .0) (st z .args .head) (st z .args .count) (st z .pre .1) (right z) (st z .args .start) (st z .args .bytes .now)
       (omega (arith, inside)) (omega (arith, inside, c .before .limit .ensures))
+
+  abbrev begun : Pen
+  begun = begunBy (st z .args .bytes .now) front
+
+  ready : Ready begun (maskFields (st z .args .holding)) (st z .args .bytes .now)
+  ready = ready-begun begins
+
+-- it begins
+module _ (c : tie.After-begin) where
+  abbrev b : tie.Else2
+  b = c .before .before .before
+
+  pen-begun : c .begin .result ≡ begun b
+  pen-begun = c .begin .ensures ∙ ap (begunBy (st (z b) .args .bytes .now)) (c .before .mask .ensures)
 
 put-systems-requires : tie.Need-put-systems-requires
 put-systems-requires c κs =
-    let e = c .before .before in
-    (st (z e) .pre .0, rw (c .mask .ensures) (ready e))
+    let k = c .before in
+    (st (z (b k)) .pre .0, rw (pen-begun k) (ready (b k)))
 
 -- what the systems leave
 module _ (c : tie.After-put-systems) where
   abbrev e : tie.Else2
-  e = c .before .before .before
+  e = b (c .before .before)
 
-  pens : c .put-systems .result ≡ penAfter (penAfter (penAt (st (z e) .args .start)) (maskFront (st (z e) .args .head))) (maskFields (st (z e) .args .holding))
-  pens = c .put-systems .ensures .0 ∙ ap (λ (p : Pen). penAfter p (maskFields (st (z e) .args .holding))) (c .before .mask .ensures)
+  pens : c .put-systems .result ≡ penAfter (begun e) (maskFields (st (z e) .args .holding))
+  pens = c .put-systems .ensures .0 ∙ ap (λ (p : Pen). penAfter p (maskFields (st (z e) .args .holding))) (pen-begun (c .before .before))
 
-  inks : c .put-systems .last .1 .0 ≡ inkAfter (penAfter (penAt (st (z e) .args .start)) (maskFront (st (z e) .args .head))) (maskFields (st (z e) .args .holding)) (st (z e) .args .bytes .now)
-  inks = c .put-systems .ensures .1 ∙ ap (λ (p : Pen). inkAfter p (maskFields (st (z e) .args .holding)) (st (z e) .args .bytes .now)) (c .before .mask .ensures)
+  inks : c .put-systems .last .1 .0 ≡ inkAfter (begun e) (maskFields (st (z e) .args .holding)) (st (z e) .args .bytes .now)
+  inks = c .put-systems .ensures .1 ∙ ap (λ (p : Pen). inkAfter p (maskFields (st (z e) .args .holding)) (st (z e) .args .bytes .now)) (pen-begun (c .before .before))
 
 returns-3 : tie.Need-returns-3
 unfolding masked answered bytesAfter
@@ -89,7 +108,7 @@ returns-3 c =
     let parts = mask-parts (s .args .holding) (s .pre .0) (s .args .head) (s .args .count) (s .pre .1) (right (z x)) (s .args .start) in
     rw (done (bits s) (s .args .bytes .now) (s .args .start) (right (z x)) (inside x)) (
       ap Done (ap (λ (n : ℕ). s .args .start + n) (sym (long (z x)))),
-      all-set (maskFields (s .args .holding)) _ (s .args .bytes .now) (ready x) (pens p) (inks p) (c .before .before .set .ensures)
+      all-set (maskFields (s .args .holding)) (front x) (s .args .bytes .now) (begins x) (λ k. z x .before .before .before .slice-known .given k .fits) (pens p) (inks p) (c .before .before .set .ensures)
           ∙ ap₂ (setBytes (s .args .bytes .now)) m (sym parts),
     )
 
@@ -98,5 +117,6 @@ of-mask-spec =
     tie.close
     (tie.spec (λ c κs. let s = c .before in omega (arith, sounds (s .args .holding) (s .pre .0) .few-systems)) returns (λ c κs. search needs) (λ c. search needs) (λ c κs. search needs) (λ c. search needs) (λ c. search needs) returns-2
     (λ c κs. let x = c .before in let s = st (z x) in (right-common (s .args .holding) (s .pre .0) (s .args .head) (s .args .count) (s .pre .1) (right (z x)), s .pre .1, right-count (s .args .holding) (s .pre .0) (s .args .head) (s .args .count) (s .pre .1) (right (z x))))
-    put-systems-requires (λ c κs. let p = c .before .before .before in let x = e p in ready-last (maskFields (st (z x) .args .holding)) _ (st (z x) .args .bytes .now) (ready x) (pens p) (inks p))
+    (λ c κs. let x = c .before .before in rw (c .mask .ensures) (begins-alone (begins x))) put-systems-requires
+    (λ c κs. let p = c .before .before .before in let x = e p in ready-last (maskFields (st (z x) .args .holding)) _ (st (z x) .args .bytes .now) (ready x) (pens p) (inks p))
     (λ c. search needs) (λ c. search needs) returns-3)

@@ -3,7 +3,6 @@
 use Rattle.bits.proofs.Words.{_≡_, refl, ap, List, [], _∷_, ℕ, _-_, _^_, _<_, arith, needs, pos}
 use borrow.Author.Tests.{not-true, not-false}
 use lib.Count.{leadingZeros}
-use Rattle.body.proofs.Groups.{narrow-in}
 use Rattle.body.proofs.Keys.{key}
 use Rattle.body.proofs.Slots.{Next, next, next-of, none-of}
 use Rattle.body.specs.Chosen.{satelliteOf, cellsIn}
@@ -11,7 +10,7 @@ use Rattle.format.specs.Masks.{Satellite}
 use Rattle.format.specs.Messages.{cellLines}
 use Rattle.format.specs.Rows.{Column, Line}
 use Rattle.rows.specs.Shapes.{columnsIn}
-use Rattle.matching.proofs.Lines.{tested-by}
+use Rattle.matching.proofs.Lines.{tested-by, pair-columns}
 use Rattle.matching.proofs.Matching.{fitsAt, Tests, tests-start, row-fits, row-fails, tests-end}
 use Rattle.matching.proofs.fits.cells.satellite.Statement.{statement}
 use Rattle.matching.proofs.fits.cells.satellite.Tie as tie
@@ -53,13 +52,13 @@ module _ (c : tie.After-first Inv-loop μ-loop) where
   near : c .first .result < 2 ^ 31
   near = omega (arith, fewer _ refl .inside, c .first .ensures)
 
-tested : (c : tie.After-fits2 Inv-loop μ-loop) → let f = c .before in c .fits2 .result ≡ fitsAt (line f) (start f .args .rows .now) (f .before .before .loop .k)
+tested : (c : tie.After-pair-fits Inv-loop μ-loop) → let f = c .before in c .pair-fits .result ≡ fitsAt (line f) (start f .args .rows .now) (f .before .before .loop .k)
 tested c =
     let f = c .before in
     let x = start f in
     let id = x .args .sat .system in
-    tested-by (x .args .s) (columns f id) (x .args .rows .now) (f .before .before .loop .k) (key id id (omega arith) refl)
-    (key (x .args .sat .number) (x .args .sat .number) (x .pre .0) refl) (key (f .first .result) (leadingZeros 64 (left f)) (near f) (f .first .ensures)) (narrow-in (x .args .s) id (x .pre .2)) (c .fits2 .ensures)
+    tested-by _ (columns f id) (x .args .rows .now) (f .before .before .loop .k) (key id id (omega arith) refl)
+    (key (x .args .sat .number) (x .args .sat .number) (x .pre .0) refl) (key (f .first .result) (leadingZeros 64 (left f)) (near f) (f .first .ensures)) (pair-columns (x .args .s) id (x .pre .2)) (c .pair-fits .ensures)
 
 loop-again : tie.Need-loop-again Inv-loop μ-loop
 loop-again c =
@@ -68,7 +67,7 @@ loop-again c =
     let f = t .before in
     let r = c .rest in (
       omega (arith, fewer f (r .result) (r .ensures) .fewer, f .before .before .loop .inv .0),
-      row-fits (f .before .before .loop .inv .1) (line f) _ (both f (r .result) (r .ensures)) (t .fits2 .result) (tested t) (not-false _ (e .if1 .left)),
+      row-fits (f .before .before .loop .inv .1) (line f) _ (both f (r .result) (r .ensures)) (t .pair-fits .result) (tested t) (not-false _ (e .if1 .left)),
     )
 
 pub satellite-spec : {M : Type 1} → statement M
@@ -76,8 +75,8 @@ unfolding cellLines
 satellite-spec =
     tie.close
     (tie.spec Inv-loop μ-loop (λ c. search needs) (λ c. record { sfits = c .before .before .pre .0 }) (λ c. (omega arith, tests-start (c .before .before .pre .3))) (λ c κs. search needs)
-    (λ c. record { sfits = near c }) (λ c κs. (c .before .before .loop .inv .1 .within, start c .pre .1))
-    (λ c. let t = c .before in let f = t .before in row-fails (f .before .before .loop .inv .1) (line f) _ (both f _ refl) (t .fits2 .result) (tested t) (not-true _ (c .if1 .taken)))
+    (λ c. record { sfits = near c }) (λ c κs. (c .before .before .loop .inv .1 .within, start c .pre .1 .first, start c .pre .1 .second))
+    (λ c. let t = c .before in let f = t .before in row-fails (f .before .before .loop .inv .1) (line f) _ (both f _ refl) (t .pair-fits .result) (tested t) (not-true _ (c .if1 .taken)))
     (λ c κs. search needs) (λ c. let f = c .before .before .before in omega (arith, f .before .before .loop .inv .1 .within, start f .good .1 .1 .1 .0))
     (λ c. fewer (c .before .before .before) (c .rest .result) (c .rest .ensures) .fewer) loop-again
     (λ c. let x = c .before .before .before .before .args in tests-end (c .before .loop .inv .1) (ap (cellLines (columnsIn (x .s))) (none-of (satelliteOf (x .sat)) (omega arith)))))

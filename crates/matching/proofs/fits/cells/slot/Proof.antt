@@ -1,10 +1,11 @@
 -- `matching::fits::cells::slot` meets its contract. The loop's invariant: how far the rows fit is told by the satellites that are left, with the strips from the
 -- n-th on, chosen by the marks that are left. Assumes nothing.
-use Rattle.bits.proofs.Words.{_≡_, refl, ap, _∙_, List, _∷_, _++_, ℕ, suc, _+_, _-_, _*_, _%_, _^_, _≤_, _<_, add-one, arith, needs, length, getD, drop}
+use Rattle.bits.proofs.Words.{_≡_, refl, sym, ap, _∙_, List, _∷_, _++_, ℕ, suc, _+_, _-_, _*_, _%_, _^_, _≤_, _<_, add-one, arith, needs, length, getD, drop}
 use mathlib.Core.Logic.{⊎-elim}
 use native.Mathlib.Nat.{mod-lt}
 use lib.Count.{leadingZeros}
-use Rattle.body.proofs.Groups.{striped-nil, striped-next}
+use Rattle.body.proofs.Groups.{striped-length, striped-nil, striped-next}
+use Rattle.body.proofs.Marks.{Moved, moved-start, moved-next, moved-end}
 use Rattle.body.proofs.Slots.{Next, next, next-in, none-in}
 use Rattle.body.proofs.Walking.{chosen-nil, chosen-set, chosen-clear}
 use Rattle.body.specs.Chosen.{cellsIn, striped, chosenLines}
@@ -13,12 +14,14 @@ use Rattle.format.specs.Rows.{Column, Line}
 use Rattle.holding.specs.Held.{satellitesIn}
 use Rattle.rows.specs.Shapes.{columnsIn}
 use Rattle.matching.proofs.Matching.{is-not, Tests, tests-start, tests-by, call-fits, call-fails, tests-end}
+use Rattle.matching.proofs.Passing.{strips-go-on, strips-stop}
 use Rattle.matching.proofs.fits.cells.slot.Statement.{statement}
 use Rattle.matching.proofs.fits.cells.slot.Tie as tie
 
 abbrev Inv-loop : tie.InvT-loop
 Inv-loop id word strips rows s left₀ marks₀ n₀ k₀ left marks n k =
-    (left < 2 ^ 64) × (marks < 2 ^ 64) × (n + length (satellitesIn 64 id left) ≤ length strips)
+    (left < 2 ^ 64) × (marks < 2 ^ 64) × (n + length (satellitesIn 64 id left) ≡ length (satellitesIn 64 id word))
+    × Moved marks₀ (length (satellitesIn 64 id word)) (length (satellitesIn 64 id left)) marks
     × Tests (chosenLines marks₀ (striped (columnsIn s) (satellitesIn 64 id word) strips)) rows k₀ (chosenLines marks (striped (columnsIn s) (satellitesIn 64 id left) (drop n strips))) k
 
 abbrev μ-loop : tie.MeasureT-loop
@@ -48,11 +51,11 @@ module _ (c : tie.In-loop Inv-loop μ-loop) where
     all-sats : satellitesIn 64 (x .args .id) left ≡ record { system = x .args .id; number = suc (leadingZeros 64 left) } ∷ satellitesIn 64 (x .args .id) rest
     all-sats = next-in left rest (c .loop-test .taken) (c .before .loop .inv .0) e (x .args .id)
 
-    again : (rest < 2 ^ 64) × (n + 1 + length (satellitesIn 64 (x .args .id) rest) ≤ length (x .args .strips .now))
-    again = (omega (arith, fewer .fewer, c .before .loop .inv .0), omega (arith, c .before .loop .inv .2, ap length all-sats))
+    one-less : n + 1 + length (satellitesIn 64 (x .args .id) rest) ≡ length (satellitesIn 64 (x .args .id) (x .args .word))
+    one-less = omega (arith, c .before .loop .inv .2, ap length all-sats)
 
   inside : n < length (x .args .strips .now)
-  inside = omega (arith, again _ refl .1)
+  inside = omega (arith, one-less _ refl, x .pre .0)
 
   -- the lines of this satellite, and those of the satellites behind it
   abbrev here : ℕ → List Line
@@ -83,18 +86,20 @@ fails c =
     let f = t .before .before in
     let h = f .before in
     let p = h .before in
-    call-fails (p .before .loop .inv .3) (here p (f .first .result + 1)) _ (chosen p (f .first .result + 1) _ (number f) refl (omega (arith, h .if1 .taken))) (t .satellite .result) (t .satellite .ensures)
-    (is-not (t .satellite .result) (c .before .match .keys2))
+    strips-stop _ _ _ _
+    (call-fails (p .before .loop .inv .4) (here p (f .first .result + 1)) _ (chosen p (f .first .result + 1) _ (number f) refl (omega (arith, h .if1 .taken))) (t .satellite .result) (t .satellite .ensures)
+    (is-not (t .satellite .result) (c .before .match .keys2)))
 
 loop-again : tie.Need-loop-again Inv-loop μ-loop
 loop-again c =
     let p = c .before .before in
-    let w = p .before .loop .inv .3 in
+    let w = p .before .loop .inv .4 in
     let r = c .rest .result in
     let e = c .rest .ensures in (
-      again p r e .0,
+      omega (arith, fewer p r e .fewer, p .before .loop .inv .0),
       mod-lt _ (omega arith),
-      again p r e .1,
+      one-less p r e,
+      moved-next _ (ap length (all-sats p r e)) (p .before .loop .inv .3),
       rw (add-one (n p))
           (⊎-elim
           (λ t.
@@ -106,13 +111,16 @@ loop-again c =
 pub slot-spec : {M : Type 1} → statement M
 slot-spec =
     tie.close
-    (tie.spec Inv-loop μ-loop (λ c. let s = c .before .before in (omega arith, omega arith, omega (arith, s .pre .0), tests-start (s .pre .3))) (λ c κs. search needs)
+    (tie.spec Inv-loop μ-loop (λ c. let s = c .before .before in (omega arith, omega arith, omega arith, moved-start (s .args .tested .chosen) _ (omega arith), tests-start (s .pre .3))) (λ c κs. search needs)
     (λ c. omega (arith, fewer (c .before .before) _ refl .inside, c .first .ensures)) (λ c. omega (arith, inside (c .before .before))) (λ c. omega (arith, inside (c .before .before .before)))
     (λ c. omega (arith, c .shared-slice-known2 .given (n (c .before .before .before))))
-    (λ c κs. let f = c .before in let p = f .before .before in (omega (arith, fewer p _ refl .inside, f .first .ensures), x p .pre .1, x p .pre .2, p .before .loop .inv .3 .within))
+    (λ c κs. let f = c .before in let p = f .before .before in (omega (arith, fewer p _ refl .inside, f .first .ensures), x p .pre .1, x p .pre .2, p .before .loop .inv .4 .within))
     (λ c. c .match .keys1) (λ c. c .match .keys2) fails (λ c κs. search needs) (λ c. omega (arith, inside (c .before .before)))
     (λ c. fewer (c .before .before) (c .rest .result) (c .rest .ensures) .fewer) loop-again
     (λ c.
     let l = c .before .loop in
     let y = c .before .before .before .before .args in
-    tests-end (l .inv .3) (ap (chosenLines (l .marks)) (striped-nil _ (drop (l .n) (y .strips .now)) (none-in (y .id) (omega arith))) ∙ chosen-nil (l .marks))))
+    let none = none-in (y .id) (omega arith) in
+    let all = striped-length (columnsIn (y .tested .shape)) (satellitesIn 64 (y .id) (y .word)) (y .strips .now) (c .before .before .before .before .pre .0) in
+    strips-go-on _ _ _ _ (tests-end (l .inv .4) (ap (chosenLines (l .marks)) (striped-nil _ (drop (l .n) (y .strips .now)) none) ∙ chosen-nil (l .marks))) (omega (arith, l .inv .2, ap length none, all))
+    (moved-end (ap length none) (l .inv .3) ∙ ap (λ (m : ℕ). y .tested .chosen * 2 ^ m % 2 ^ 64) (sym all))))

@@ -1,11 +1,10 @@
 -- `matching::fits::line::valued` meets its contract. Assumes nothing.
-use Rattle.bits.proofs.Words.{_≡_, sym, ap, _∙_, Bool, ℕ, needs, getD, pos}
+use Rattle.bits.proofs.Words.{_≡_, sym, _∙_, Bool, ℕ, needs, getD, pos}
 use borrow.Author.Tests.{not-true, not-false}
-use mir.Facts.{toZ-ofZ}
 use Rattle.rows.specs.declared.shape.Column.{Column as CodeColumn}
 use Rattle.rows.specs.Shapes.{columnOf}
 use Rattle.fitting.specs.Fits.{columnFits}
-use Rattle.matching.proofs.RowTests.{values-by}
+use Rattle.matching.proofs.RowTests.{read-fits, shape-by}
 use Rattle.matching.proofs.fits.line.valued.Statement.{statement}
 use Rattle.matching.proofs.fits.line.valued.Tie as tie
 
@@ -15,28 +14,28 @@ fits s c i = columnFits (columnOf c) (getD (s .args .row .now) i (pos 0))
 
 -- what each call told
 first : (c : tie.After-column-fits) → let s = c .before .before in c .column-fits .result ≡ fits s (s .args .s .v1) 3
-first c = let s = c .before .before in c .column-fits .ensures ∙ ap (columnFits (columnOf (s .args .s .v1))) (toZ-ofZ (record { sfits = c .before .column-fits-arg .given }))
+first c = let s = c .before .before in read-fits (s .args .s .v1) _ (record { sfits = c .before .column-fits-arg .given }) (c .column-fits .ensures)
 
 second : (c : tie.After-column-fits2) → let s = c .before .before .before .before .before in c .column-fits2 .result ≡ fits s (s .args .s .v2) 4
 second c =
     let s = c .before .before .before .before .before in
-    c .column-fits2 .ensures ∙ ap (columnFits (columnOf (s .args .s .v2))) (toZ-ofZ (record { sfits = c .before .column-fits-arg2 .given }))
+    read-fits (s .args .s .v2) _ (record { sfits = c .before .column-fits-arg2 .given }) (c .column-fits2 .ensures)
 
 fifth : (c : tie.After-column-fits3) → let s = c .before .before .before .before .before .before .before .before .before .before in c .column-fits3 .result ≡ fits s (s .args .s .v5) 7
 fifth c =
     let s = c .before .before .before .before .before .before .before .before .before .before in
-    c .column-fits3 .ensures ∙ ap (columnFits (columnOf (s .args .s .v5))) (toZ-ofZ (record { sfits = c .before .column-fits-arg3 .given }))
+    read-fits (s .args .s .v5) _ (record { sfits = c .before .column-fits-arg3 .given }) (c .column-fits3 .ensures)
 
 returns : tie.Need-returns
 returns c =
     let s = c .before .before .before in
-    rw (values-by (s .args .row .now) (s .pre .0) (s .args .s), sym (first (c .before)) ∙ not-true _ (c .if1 .taken))
+    rw (shape-by (s .args .row .now) (s .pre .0) (s .args .s), sym (first (c .before)) ∙ not-true _ (c .if1 .taken))
 
 returns-2 : tie.Need-returns-2
 returns-2 c =
     let e = c .before .before .before in
     let s = e .before .before .before in
-    rw (values-by (s .args .row .now) (s .pre .0) (s .args .s), sym (first (e .before)) ∙ not-false _ (e .if1 .left), sym (second (c .before)) ∙ not-true _ (c .if2 .taken))
+    rw (shape-by (s .args .row .now) (s .pre .0) (s .args .s), sym (first (e .before)) ∙ not-false _ (e .if1 .left), sym (second (c .before)) ∙ not-true _ (c .if2 .taken))
 
 returns-3 : tie.Need-returns-3
 returns-3 c =
@@ -44,7 +43,7 @@ returns-3 c =
     let e = f .before .before .before in
     let s = e .before .before .before in
     rw (
-      values-by (s .args .row .now) (s .pre .0) (s .args .s),
+      shape-by (s .args .row .now) (s .pre .0) (s .args .s),
       sym (first (e .before)) ∙ not-false _ (e .if1 .left),
       sym (second (f .before)) ∙ not-false _ (f .if2 .left),
       sym (c .before .middle .ensures) ∙ not-true _ (c .if3 .taken),
@@ -57,7 +56,7 @@ returns-4 c =
     let e = f .before .before .before in
     let s = e .before .before .before in
     rw (
-      values-by (s .args .row .now) (s .pre .0) (s .args .s),
+      shape-by (s .args .row .now) (s .pre .0) (s .args .s),
       sym (first (e .before)) ∙ not-false _ (e .if1 .left),
       sym (second (f .before)) ∙ not-false _ (f .if2 .left),
       sym (g .before .middle .ensures) ∙ not-false _ (g .if3 .left),

@@ -48,7 +48,7 @@ tested : (c : tie.After-fits2 Inv-loop μ-loop) → let p = c .before in c .fits
 tested c =
     let p = c .before in
     let number = key (i p + 1) (suc (i p)) (omega (arith, p .loop-test .taken, start p .pre)) (add-one (i p)) in
-    tested-by (p .before .before .packet .result) packetShape (start p .args .rows .now) (p .before .loop .k) refl refl number (columns p) (c .fits2 .ensures)
+    tested-by _ packetShape (start p .args .rows .now) (p .before .loop .k) refl refl number (columns p) (c .fits2 .ensures)
 
 loop-again : tie.Need-loop-again Inv-loop μ-loop
 loop-again c =

@@ -78,7 +78,7 @@ tested c =
     let f = c .before in
     let p = f .before .before in
     let number = key (f .first .result + 1) (suc (leadingZeros 64 (left p))) (near f) (omega (arith, f .first .ensures)) in
-    tested-by (p .before .before .shape-in .result) (columns p) (start p .args .rows .now) (p .before .loop .k) (key (id p) (id p) (omega arith) refl) number refl refl (c .fits2 .ensures)
+    tested-by _ (columns p) (start p .args .rows .now) (p .before .loop .k) (key (id p) (id p) (omega arith) refl) number refl refl (c .fits2 .ensures)
 
 -- the lines of all satellites, as the contract has them
 all-lines : (c : tie.After-shape-in Inv-loop μ-loop) → let x = c .before .args in lines (x .id) (x .word) (columnsOf (c .shape-in .result)) ≡ alone (columnsIn (x .s)) (satellitesIn 64 (x .id) (x .word))

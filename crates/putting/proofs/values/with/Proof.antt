@@ -1,11 +1,11 @@
--- `putting::row::with` meets its contract. Assumes nothing.
+-- `putting::values::with` meets its contract. Assumes nothing.
 use Rattle.bits.proofs.Words.{_≡_, needs}
 use mir.Facts.{toZ-ofZ}
 use Rattle.bits.specs.Signed.{unsigned}
 use Rattle.putting.proofs.ColumnBits.{bits-small}
 use Rattle.putting.proofs.RowBits.{sum-joined, sum-fits}
-use Rattle.putting.proofs.row.with.Statement.{statement}
-use Rattle.putting.proofs.row.with.Tie as tie
+use Rattle.putting.proofs.values.with.Statement.{statement}
+use Rattle.putting.proofs.values.with.Tie as tie
 
 module _ (c : tie.After-column-bits) where
   abbrev s : tie.Start
