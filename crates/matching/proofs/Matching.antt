@@ -1,11 +1,11 @@
 -- How far rows fit lines: by the parts of the lines, and what it says of all rows together. And a loop that tests them line by line.
 -- Assumes nothing.
-use Rattle.bits.proofs.Words.{_≡_, refl, sym, ap, _∙_, Bool, true, false, cond, _&&_, List, [], _∷_, _++_, ℕ, zero, suc, _+_, _*_, _≤_, arith, eqb, leb, length, take, drop, ℤ}
+use Rattle.bits.proofs.Words.{_≡_, refl, sym, ap, _∙_, subst, Bool, true, false, cond, _&&_, List, [], _∷_, _++_, ℕ, zero, suc, _+_, _*_, _≤_, arith, eqb, leb, length, take, drop, ℤ}
 use mathlib.Core.Bool.{false≢true}
 use lib.Seq.{drop-drop, take-take, take-add, drop-at, length-take-le}
 use lib.ListN.{length-drop}
 use denote.Enum.Declared.{tagOf}
-use borrow.Author.Tests.{leb-true, le-leb, lt-leb, eq-eqb, ne-eqb}
+use borrow.Author.Tests.{leb-true, leb-false, le-leb, lt-leb, eq-eqb, ne-eqb}
 use Rattle.format.specs.Rows.{Line}
 use Rattle.format.specs.Writing.{rowsIn}
 use Rattle.format.proofs.Sames.{and-true}
@@ -26,6 +26,19 @@ is-not (To k) e = absurd (omega arith)
 
 row-there : (n : Line) (numbers : List ℤ) (k : ℕ) → fitsAt n numbers k ≡ true → k + 8 ≤ length numbers
 row-there n numbers k there = leb-true (k + 8) (length numbers) (and-true (leb (k + 8) (length numbers)) _ there .0)
+
+-- of the numbers from another one on
+pub fits-behind : (n : Line) (numbers : List ℤ) (from k : ℕ) → from ≤ length numbers → fitsAt n (drop from numbers) k ≡ fitsAt n numbers (from + k)
+fits-behind n numbers from k within =
+    let far : leb (k + 8) (length (drop from numbers)) ≡ leb (from + k + 8) (length numbers) = leb-by (k + 8) (length (drop from numbers)) (from + k + 8) (length numbers) (omega (arith, length-drop from numbers)) in
+    λ i. far i && rowFits n (take 8 (drop-drop k from numbers i))
+  where
+    leb-by : (a b x y : ℕ) → a + y ≡ x + b → leb a b ≡ leb x y
+    leb-by a b x y e = go (leb a b) refl
+      where
+        go : (t : Bool) → leb a b ≡ t → t ≡ leb x y
+        go true so = sym (le-leb x y (omega (arith, leb-true a b so)))
+        go false so = sym (lt-leb x y (omega (arith, leb-false a b so)))
 
 -- ---- the lines in two parts
 
@@ -107,6 +120,10 @@ module _ {all : List Line} {numbers : List ℤ} {from : ℕ} {left : List Line} 
   -- the lines that are left, by another name
   pub tests-by : {others : List Line} → left ≡ others → Tests all numbers from others k
   tests-by e = record { same = ap (λ (l : List Line). matchedAt l numbers k) (sym e) ∙ t .same; within = t .within }
+
+  -- where it is, said in another way
+  pub tests-at : (j : ℕ) → k ≡ j → Tests all numbers from left j
+  tests-at j e = subst (Tests all numbers from left) e t
 
   -- one row
   module _ (n : Line) (ns : List Line) (e : left ≡ n ∷ ns) (b : Bool) (tested : b ≡ fitsAt n numbers k) where

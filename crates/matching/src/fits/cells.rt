@@ -38,21 +38,22 @@ fn satellite(sat: Satellite, word: u64, s: Shape, rows: &[i32], from: usize) -> 
 {
     let system = sat.system as i32;
     let satellite = sat.number as i32;
+    let own = &rows[from..];
     let mut left = word;
-    let mut k = from;
+    let mut k = 0;
     while left > 0 {
         let key = Key {
             system,
             satellite,
             signal: set_places::first(left) as i32,
         };
-        if !line::pair_fits(rows, k, key, s.v1, s.v2) {
+        if !line::pair_fits(own, k, key, s.v1, s.v2) {
             return Matched::Not;
         }
         left = set_places::rest(left);
         k += 8;
     }
-    Matched::To(k)
+    Matched::To(from + k)
 }
 
 // How far the rows fit the lines of one system's cells: the strips, in their order, of the satellites that are chosen.
