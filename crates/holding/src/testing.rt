@@ -66,18 +66,17 @@ fn slots_empty(ids: &[u8], satellites: &[u64], signals: &[u16], flags: &[bool], 
     wide | ((half as u64) | (thin as u64)) == 0
 }
 
-// Whether a slot fits after n satellites, its strips being those from the n-th on.
-fn slot_fits(
-    ids: &[u8],
-    i: usize,
-    n: usize,
+// What a slot says of its system beside the ID.
+struct Slot {
     satellites: u64,
     signals: u16,
     flag: bool,
-    strips: &[u16],
-) -> bool
+}
+
+// Whether a slot fits after n satellites, its strips being those from the n-th on.
+fn slot_fits(ids: &[u8], i: usize, n: usize, slot: Slot, strips: &[u16]) -> bool
     requires { ⌜ (i < length (now ids)) × (n ≤ 64) × (length (now strips) ≡ 64) ⌝ }
-    ensures { λ r. ⌜ r ≡ slotFits (take i (now (ids .entry))) n (getD (now (ids .entry)) i 0) satellites signals flag (drop n (now (strips .entry))) ⌝ }
+    ensures { λ r. ⌜ r ≡ slotFits (take i (now (ids .entry))) n (getD (now (ids .entry)) i 0) (slot .satellites) (slot .signals) (slot .flag) (drop n (now (strips .entry))) ⌝ }
 {
     let id = ids[i];
     if id as usize >= Holding::SYSTEMS {
@@ -86,11 +85,11 @@ fn slot_fits(
     if named::named_in(ids, i, id) {
         return false;
     }
-    if !masks_fit(n, id as usize, satellites, signals) {
+    if !masks_fit(n, id as usize, slot.satellites, slot.signals) {
         return false;
     }
-    let to = n + set_places::count(satellites);
-    strips_fit::strips_fit(strips, n, to, signals, flag)
+    let to = n + set_places::count(slot.satellites);
+    strips_fit::strips_fit(strips, n, to, slot.signals, slot.flag)
 }
 
 // Whether the cells of n satellites, behind whose strips none is used, are that many and no more than 256.
@@ -123,7 +122,12 @@ pub fn slots_fit(
     let mut i = 0;
     let mut n = 0;
     while i < count {
-        if !slot_fits(ids, i, n, satellites[i], signals[i], flags[i], strips) {
+        let slot = Slot {
+            satellites: satellites[i],
+            signals: signals[i],
+            flag: flags[i],
+        };
+        if !slot_fits(ids, i, n, slot, strips) {
             return false;
         }
         n += set_places::count(satellites[i]);

@@ -1,7 +1,7 @@
 -- `holding::testing::slot_fits` meets its contract: the tests of slotFits one after the other. Assumes nothing.
-use Rattle.bits.proofs.Words.{_≡_, sym, ap, _∙_, ℕ, _+_, _-_, arith, needs, getD, take, drop}
+use Rattle.bits.proofs.Words.{_≡_, sym, ap, _∙_, ℕ, _+_, _-_, _≤_, arith, needs, getD, take, drop}
 use borrow.Author.Tests.{lt-ltb, le-ltb, not-true, not-false}
-use lib.Count.{ones, ones-le}
+use lib.Count.{ones}
 use Rattle.holding.specs.Testing.{stripsFit, slotFits}
 use Rattle.holding.proofs.Fitting.{few-with}
 use Rattle.holding.proofs.testing.slot_fits.Statement.{statement}
@@ -22,11 +22,11 @@ returns-3 c =
     let over = sym (c .before .masks-fit .ensures) ∙ not-true _ (c .if3 .taken) in
     rw (lt-ltb (getD (x .ids .now) (x .i) 0) 5 (omega arith), new, over)
 
-strips-fit-requires : tie.Need-strips-fit-requires
-strips-fit-requires c κs =
+-- a slot whose masks fit leaves room for its satellites
+few : (c : tie.After-count) → let x = c .before .before .before .before .before .before .before .before .before .args in x .n + ones (x .slot .satellites) ≤ 64
+few c =
     let x = c .before .before .before .before .before .before .before .before .before .args in
-    let few = few-with (x .n) (getD (x .ids .now) (x .i) 0) (x .satellites) (x .signals) (sym (c .before .before .masks-fit .ensures) ∙ not-false _ (c .before .if3 .left)) in
-    (omega arith, omega (arith, c .count .ensures))
+    few-with (x .n) (getD (x .ids .now) (x .i) 0) (x .slot .satellites) (x .slot .signals) (sym (c .before .before .masks-fit .ensures) ∙ not-false _ (c .before .if3 .left))
 
 returns-4 : tie.Need-returns-4
 unfolding slotFits
@@ -34,9 +34,9 @@ returns-4 c =
     let x = c .before .before .before .before .before .before .before .before .before .before .args in
     let new = sym (c .before .before .before .before .before .named-in .ensures) ∙ c .before .before .before .before .if2 .left in
     let fit = sym (c .before .before .before .masks-fit .ensures) ∙ not-false _ (c .before .before .if3 .left) in
-    let width : x .n + c .before .count .result - x .n ≡ ones (x .satellites) = omega (arith, c .before .count .ensures) in
+    let width : x .n + c .before .count .result - x .n ≡ ones (x .slot .satellites) = omega (arith, c .before .count .ensures) in
     rw (lt-ltb (getD (x .ids .now) (x .i) 0) 5 (omega arith), new, fit)
-    (c .strips-fit .ensures ∙ ap (λ (k : ℕ). stripsFit (x .flag) (x .signals) (take k (drop (x .n) (x .strips .now)))) width)
+    (c .strips-fit .ensures ∙ ap (λ (k : ℕ). stripsFit (x .slot .flag) (x .slot .signals) (take k (drop (x .n) (x .strips .now)))) width)
 
 pub slot-fits-spec : {M : Type 1} → statement M
 unfolding slotFits
@@ -44,6 +44,5 @@ slot-fits-spec =
     tie.close
     (tie.spec (λ c. search needs) (λ c. omega (arith, c .shared-slice-known3 .given (c .before .before .before .args .i)))
     (λ c. let x = c .before .before .before .before .args in rw (le-ltb (getD (x .ids .now) (x .i) 0) 5 (omega arith))) (λ c κs. search needs) returns-2
-    (λ c. search needs) (λ c κs. search needs) returns-3 (λ c κs. search needs)
-    (λ c. let s = c .before .before .before .before .before .before .before .before .before in omega (arith, c .count .ensures, ones-le 64 (s .args .satellites) (s .fits .satellites .fits)))
-    strips-fit-requires returns-4)
+    (λ c. search needs) (λ c κs. search needs) returns-3 (λ c κs. search needs) (λ c. omega (arith, c .count .ensures, few c))
+    (λ c κs. (omega arith, omega (arith, c .count .ensures, few c))) returns-4)
