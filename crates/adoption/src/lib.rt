@@ -15,6 +15,7 @@ ghost use Rattle.format.specs.Messages.{common, maskMessage};
 ghost use Rattle.format.specs.Programs.{badly};
 ghost use Rattle.heads.specs.Fronts.{Opens, Opened};
 ghost use Rattle.heads.specs.Heads.{Small, commonBy};
+use crate::systems::Before;
 use bits::read::Taken;
 use bits::read::Widths;
 use bits::read::short_by;
@@ -90,18 +91,15 @@ fn after_head(
     match taken {
         Taken::Short(missing) => refused(Refusal::Short, missing),
         Taken::Whole(n) => {
-            let numbers = heading::head(table::MASK, h, n as i32, ABSENT, ABSENT);
-            let at = f.start + COMMON + COUNT;
-            systems::all(
-                h.iod as u8,
-                numbers,
-                bytes,
-                f.end,
-                at,
-                n as usize,
-                satellites,
-                strips,
-            )
+            let head = heading::head(table::MASK, h, n as i32, ABSENT, ABSENT);
+            let place = f.start + COMMON + COUNT;
+            let before = Before {
+                iod: h.iod as u8,
+                head,
+                systems: n as usize,
+                place,
+            };
+            systems::all(before, bytes, f.end, satellites, strips)
         }
     }
 }

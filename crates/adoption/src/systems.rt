@@ -52,26 +52,32 @@ fn read_system(
     }
 }
 
-// n systems from a place on, under an issue, and the message that they end under a head. The holding is written out
-// here and changed in place: each function that it went through by value would be a copy. What is lent gets its masks and
-// strips where all is well. The test of 256 cells comes
-// after the cell mask, or after a zero flag (document 01, "Reader's order").
+// What a mask message says before its systems: the issue, the head, how many there are, and the place of the first.
+pub struct Before {
+    pub iod: u8,
+    pub head: Head,
+    pub systems: usize,
+    pub place: usize,
+}
+
+// The systems from a place on, and the message that they end. The holding is written out here and changed in place: each
+// function that it went through by value would be a copy. What is lent gets its masks and strips where all is well. The
+// test of 256 cells comes after the cell mask, or after a zero flag (document 01, "Reader's order").
 pub fn all(
-    iod: u8,
-    numbers: Head,
+    before: Before,
     bytes: &[u8],
     end: usize,
-    mut at: usize,
-    n: usize,
     satellites: &mut [u64; Holding::SYSTEMS],
     strips: &mut [u16; Holding::SATELLITES],
 ) -> Adoption
-    requires { ⌜ (iod < 16) × Within (now bytes) end at ⌝ }
-    ensures { λ r. ⌜ made r (now (satellites .exit)) (now (strips .exit)) ≡ madeBy (endFrom (withSystems numbers n (record { iod = iod; systems = [] })) (now (bytes .entry)) end at) (now (satellites .entry)) (now (strips .entry)) ⌝ }
+    requires { ⌜ (before .iod < 16) × Within (now bytes) end (before .place) ⌝ }
+    ensures { λ r. ⌜ made r (now (satellites .exit)) (now (strips .exit)) ≡ madeBy (endFrom (withSystems (before .head) (before .systems) (record { iod = before .iod; systems = [] })) (now (bytes .entry)) end (before .place)) (now (satellites .entry)) (now (strips .entry)) ⌝ }
 {
+    let n = before.systems;
+    let mut at = before.place;
     let mut h = Holding {
         held: true,
-        iod,
+        iod: before.iod,
         count: 0,
         ids: [0; Holding::SYSTEMS],
         satellites: [0; Holding::SYSTEMS],
@@ -101,12 +107,13 @@ pub fn all(
             }
         }
     }
+    let head = before.head;
     let masks = h.satellites;
     let cells = h.strips;
     *satellites = masks;
     *strips = cells;
     Adoption {
-        answer: Answer::Message(numbers, at, 0),
+        answer: Answer::Message(head, at, 0),
         outline: h.outline(),
     }
 }

@@ -23,10 +23,10 @@ use Rattle.adoption.proofs.systems.all.Statement.{statement}
 use Rattle.adoption.proofs.systems.all.Tie as tie
 
 abbrev Inv-loop : tie.InvT-loop
-Inv-loop iod numbers bytes end at₀ n satellites strips h₀ at h = Stands numbers bytes end (ended numbers bytes end (firstMask iod) at₀ n) h at (n - h .count)
+Inv-loop said bytes end satellites strips n at₀ h₀ at h = Stands (said .head) bytes end (ended (said .head) bytes end (firstMask (said .iod)) (said .place) (said .systems)) h at (n - h .count)
 
 abbrev μ-loop : tie.MeasureT-loop
-μ-loop iod numbers bytes end at₀ n satellites strips h₀ at h = n - h .count
+μ-loop said bytes end satellites strips n at₀ h₀ at h = n - h .count
 
 -- a refusal leaves what is lent
 stays : (s : tie.Start Inv-loop μ-loop) {r : Adoption} {q : Refusal} {missing : ℕ} {all : Ended Adopted} → r ≡ adoptionBy (badly q missing) → all ≡ badly q missing
@@ -44,13 +44,13 @@ module _ (c : tie.After-read-system Inv-loop μ-loop) where
   start = l .before .before
 
   abbrev more : ℕ
-  more = l .before .before .args .n - (l .loop .h .count + 1)
+  more = l .before .before .args .before .systems - (l .loop .h .count + 1)
 
   stands :
       let x = l .before .before .args in
-      Stands (x .numbers) (x .bytes .now) (x .end) (ended (x .numbers) (x .bytes .now) (x .end) (firstMask (x .iod)) (x .at) (x .n)) (l .loop .h) (l .loop .at) (suc more)
+      Stands (x .before .head) (x .bytes .now) (x .end) (ended (x .before .head) (x .bytes .now) (x .end) (firstMask (x .before .iod)) (x .before .place) (x .before .systems)) (l .loop .h) (l .loop .at) (suc more)
   stands =
-      let e : l .before .before .args .n - l .loop .h .count ≡ suc more = omega arith in
+      let e : l .before .before .args .before .systems - l .loop .h .count ≡ suc more = omega arith in
       rw e at (l .loop .inv)
 
 -- where it is read up to its cells
@@ -102,13 +102,13 @@ loop-again c =
 returns-3 : tie.Need-returns-3 Inv-loop μ-loop
 unfolding adoptionBy madeBy
 returns-3 c =
-    let a = c .before .before .before .before in
+    let a = c .before .before .before .before .before in
     let x = a .before .before .args in
     let h = a .loop .h in
-    let none : x .n - h .count ≡ 0 = omega arith in
+    let none : x .before .systems - h .count ≡ 0 = omega arith in
     let s = rw none at (a .loop .inv) in
-    ap (λ (o : Outline). made (record { answer = Message (x .numbers) (a .loop .at) 0; outline = o }) (h .satellites) (h .strips)) (c .outline .ensures)
-    ∙ ap (λ (g : Holding). made (record { answer = Message (x .numbers) (a .loop .at) 0; outline = outlineOf g }) (g .satellites) (g .strips)) (sym (s .held .picture))
+    ap (λ (o : Outline). made (record { answer = Message (x .before .head) (a .loop .at) 0; outline = o }) (h .satellites) (h .strips)) (c .outline .ensures)
+    ∙ ap (λ (g : Holding). made (record { answer = Message (x .before .head) (a .loop .at) 0; outline = outlineOf g }) (g .satellites) (g .strips)) (sym (s .held .picture))
     ∙ ap (λ (e : Ended Adopted). madeBy e (x .satellites .now) (x .strips .now)) (sym (none-left s))
 
 pub all-spec : {M : Type 1} → statement M
@@ -116,7 +116,7 @@ unfolding filled pictureOf satellites cells flatMap
 all-spec =
     tie.close
     (tie.spec Inv-loop μ-loop
-    (λ c. rw sub-zero (none-yet (c .before .args .numbers) (c .before .args .iod) (c .before .args .n) (c .before .pre .0) (c .before .pre .1)))
+    (λ c. rw sub-zero (none-yet (c .before .args .before .head) (c .before .args .before .iod) (c .before .args .before .systems) (c .before .pre .0) (c .before .pre .1)))
     (λ c κs. let l = c .before .before .before .before .loop .inv in (ids-named l .0, l .held .few-satellites, l .there)) (λ c. search needs) (λ c κs. search needs)
     (λ c. let p = c .before .before .before .before in stays (start p) (c .refused .ensures) (one-refused (stands p) (p .read-system .result) (p .read-system .ensures .0) (c .before .before .r .given .1)))
     (λ c. search needs)
