@@ -33,27 +33,23 @@ moved-up bs i n t end whole =
     Pow.shl-exact (8 * n) t 64 (field-lt bs (8 * i) (8 * n)) (omega arith)
     ∙ omega (arith, none, field-add bs (8 * i) (8 * n) t, ap (field bs (8 * i)) whole)
 
--- one byte more, k bits above the lowest place
-glue : (x b k : ℕ) → b < 256 → 8 + k ≤ 64 → bitOr (x * 2 ^ (8 + k)) (b * 2 ^ k % 2 ^ 64) ≡ (x * 256 + b) * 2 ^ k
+-- one byte more, k bits above the lowest place of 32
+glue : (x b k : ℕ) → b < 256 → 8 + k ≤ 32 → bitOr (x * 2 ^ (8 + k)) (b * 2 ^ k % 2 ^ 32) ≡ (x * 256 + b) * 2 ^ k
 glue x b k small room =
-    rw (Pow.shl-exact 8 k 64 small room, or-shifted x (8 + k) (b * 2 ^ k) (shl-lt 8 k small), pow-add 2 8 k)
+    rw (Pow.shl-exact 8 k 32 small room, or-shifted x (8 + k) (b * 2 ^ k) (shl-lt 8 k small), pow-add 2 8 k)
     (sym (add-mul (x * 256) b (2 ^ k) ∙ ap (λ (y : ℕ). y + b * 2 ^ k) (mul-assoc x 256 (2 ^ k))))
 
-pub joined :
-    (a b c d e f g h : ℕ)
-    → a < 256 → b < 256 → c < 256 → d < 256 → e < 256 → f < 256 → g < 256 → h < 256
-    → bitOr (bitOr (bitOr (bitOr (bitOr (bitOr (bitOr (a * 2 ^ 56 % 2 ^ 64) (b * 2 ^ 48 % 2 ^ 64)) (c * 2 ^ 40 % 2 ^ 64)) (d * 2 ^ 32 % 2 ^ 64)) (e * 2 ^ 24 % 2 ^ 64)) (f * 2 ^ 16 % 2 ^ 64)) (g * 2 ^ 8 % 2 ^ 64)) h
-    ≡ a * 2 ^ 56 + b * 2 ^ 48 + c * 2 ^ 40 + d * 2 ^ 32 + e * 2 ^ 24 + f * 2 ^ 16 + g * 2 ^ 8 + h
-joined a b c d e f g h ha hb hc hd he hf hg hh =
-    let top : a * 2 ^ 56 % 2 ^ 64 ≡ a * 2 ^ 56 = omega arith in
-    let x1 : ℕ = a * 256 + b in
-    let x2 : ℕ = x1 * 256 + c in
-    let x3 : ℕ = x2 * 256 + d in
-    let x4 : ℕ = x3 * 256 + e in
-    let x5 : ℕ = x4 * 256 + f in
-    let x6 : ℕ = x5 * 256 + g in
-    rw (top, glue a b 48 hb (omega arith), glue x1 c 40 hc (omega arith), glue x2 d 32 hd (omega arith), glue x3 e 24 he (omega arith), glue x4 f 16 hf (omega arith), glue x5 g 8 hg (omega arith), or-shifted x6 8 h hh)
-    (omega arith)
+pub joined : (a b c d : ℕ) → a < 256 → b < 256 → c < 256 → d < 256
+    → bitOr (bitOr (bitOr (a * 2 ^ 24 % 2 ^ 32) (b * 2 ^ 16 % 2 ^ 32)) (c * 2 ^ 8 % 2 ^ 32)) d ≡ a * 2 ^ 24 + b * 2 ^ 16 + c * 2 ^ 8 + d
+joined a b c d ha hb hc hd =
+    let top : a * 2 ^ 24 % 2 ^ 32 ≡ a * 2 ^ 24 = omega arith in
+    rw (top, glue a b 16 hb (omega arith), glue (a * 256 + b) c 8 hc (omega arith), or-shifted ((a * 256 + b) * 256 + c) 8 d hd) (omega arith)
+
+-- two halves
+pub halves : (x y : ℕ) → x < 2 ^ 32 → y < 2 ^ 32 → bitOr (x * 2 ^ 32 % 2 ^ 64) y ≡ x * 2 ^ 32 + y
+halves x y hx hy =
+    let top : x * 2 ^ 32 % 2 ^ 64 ≡ x * 2 ^ 32 = omega arith in
+    rw top (or-shifted x 32 y hy)
 
 -- a shift left drops what leaves the m bits, so with the shift right after it w bits are left, those with t bits below them
 pub shifted : (y s w t m : ℕ) → m ≡ (w + t) + s → y * 2 ^ s % 2 ^ m / 2 ^ (s + t) ≡ y / 2 ^ t % 2 ^ w

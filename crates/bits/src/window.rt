@@ -6,19 +6,19 @@ ghost use lib.ListN.{length};
 ghost use Rattle.bits.specs.BitLists.{bytes, spell, setField};
 ghost use Rattle.bits.specs.Places.{field};
 
-// Eight bytes as one number. Written with shifts and `|`, which LLVM makes one load and one swap
-// where the bytes are neighbours; a sum of products it does not.
-pub fn join(a: u8, b: u8, c: u8, d: u8, e: u8, f: u8, g: u8, h: u8) -> u64
-    ensures { λ r. ⌜ r ≡ a * 2 ^ 56 + b * 2 ^ 48 + c * 2 ^ 40 + d * 2 ^ 32 + e * 2 ^ 24 + f * 2 ^ 16 + g * 2 ^ 8 + h ⌝ }
+// Four bytes as one number. Written with shifts and `|`, of which LLVM makes one load and one swap for all eight bytes of
+// a window where they are neighbours; of a sum of products it does not.
+pub fn four(a: u8, b: u8, c: u8, d: u8) -> u32
+    ensures { λ r. ⌜ r ≡ a * 2 ^ 24 + b * 2 ^ 16 + c * 2 ^ 8 + d ⌝ }
 {
-    ((a as u64) << 56)
-        | ((b as u64) << 48)
-        | ((c as u64) << 40)
-        | ((d as u64) << 32)
-        | ((e as u64) << 24)
-        | ((f as u64) << 16)
-        | ((g as u64) << 8)
-        | (h as u64)
+    ((a as u32) << 24) | ((b as u32) << 16) | ((c as u32) << 8) | (d as u32)
+}
+
+// Eight bytes as one number, by their halves.
+pub fn join(high: u32, low: u32) -> u64
+    ensures { λ r. ⌜ r ≡ high * 2 ^ 32 + low ⌝ }
+{
+    ((high as u64) << 32) | (low as u64)
 }
 
 // The window at byte i where eight bytes are left.
@@ -27,14 +27,8 @@ pub fn eight(bytes: &[u8], i: usize) -> u64
     ensures { λ r. ⌜ r ≡ field (now (bytes .entry)) (8 * i) 64 ⌝ }
 {
     join(
-        bytes[i],
-        bytes[i + 1],
-        bytes[i + 2],
-        bytes[i + 3],
-        bytes[i + 4],
-        bytes[i + 5],
-        bytes[i + 6],
-        bytes[i + 7],
+        four(bytes[i], bytes[i + 1], bytes[i + 2], bytes[i + 3]),
+        four(bytes[i + 4], bytes[i + 5], bytes[i + 6], bytes[i + 7]),
     )
 }
 

@@ -11,6 +11,7 @@ use crate::SATELLITES;
 use crate::SIGNALS;
 use crate::SIZE;
 use crate::STRIPS;
+use bits::window::four;
 use bits::window::join;
 use holding::Holding;
 
@@ -27,14 +28,8 @@ fn long(bytes: &[u8], i: usize) -> u64
     ensures { λ r. ⌜ r ≡ little 8 (drop i (now (bytes .entry))) ⌝ }
 {
     join(
-        bytes[i + 7],
-        bytes[i + 6],
-        bytes[i + 5],
-        bytes[i + 4],
-        bytes[i + 3],
-        bytes[i + 2],
-        bytes[i + 1],
-        bytes[i],
+        four(bytes[i + 7], bytes[i + 6], bytes[i + 5], bytes[i + 4]),
+        four(bytes[i + 3], bytes[i + 2], bytes[i + 1], bytes[i]),
     )
 }
 
