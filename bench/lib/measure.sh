@@ -1,7 +1,7 @@
 # Sourced in the repository's root by the bench scripts and tests/bars.sh: what is measured, in instructions.
 #   INPUTS                        the inputs that every table has (bench/stretches.h)
 #   build_read, build_write,
-#   build_fields                  make the programs that are measured
+#   build_fields, build_texts     make the programs that are measured
 #   handed_out INPUT              what each decoder hands out for it: a checksum and totals; fails where they differ
 #   reading WAY INPUT TOTAL..     with what handed_out says: a line DECODER PER-BIT PER-ROW PER-MESSAGE TO-BITWISE
 #                                 TO-TUNED for each decoder; '-' where there are no rows
@@ -9,8 +9,8 @@
 #                                 the stretches' own, or the writers differ on what is no holding
 #   writing INPUT TOTAL..         with what written says: a line WRITER .. for each writer, as reading's
 #   measure_row INPUT             with such lines: what ours takes, and the others for a message, as a table's row
-#   stack FUNCTION                the deepest stack of read, walk, empty or write over all inputs, in bytes; damaged
-#                                 ones are read too
+#   stack FUNCTION                the deepest stack of read, walk, empty, save, load, line or write over all inputs, in
+#                                 bytes; but for write over damaged ones, too
 #   per_call KIND WIDTH           of a call (bench/fields.c) and its return: the mean over the eight alignments
 #   build_listing                 makes the listing program, and what prints an input as its lines
 #   per_byte INPUT                of listing it: how many bytes the listing has, and what each takes, reading included
@@ -26,6 +26,10 @@ build_read() {
 build_write() {
     build write host bench/write.c bench/meter.c bench/stretches.c bench/encode.c bench/bitwise_write.c \
         bench/bitwise_hold.c bench/setbit.c bench/tuned_write.c bench/tuned_hold.c bench/tuned_test.c
+}
+
+build_texts() {
+    build texts host bench/texts.c bench/meter.c bench/stretches.c bench/encode.c
 }
 
 build_fields() {
@@ -111,6 +115,7 @@ stack() {
         read-*) $RUN target/bench/read host $input messages stack ;;
         walk-*) $RUN target/bench/read host $input walks stack ;;
         empty-*) $RUN target/bench/read host $input empty stack ;;
+        save-* | load-* | line-*) $RUN target/bench/texts "$1" $input ;;
         write-damaged) ;;
         write-*) $RUN target/bench/write host $input stack ;;
         esac
