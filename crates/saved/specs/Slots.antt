@@ -1,6 +1,7 @@
 -- A slot of a holding: one system, with the strips from its first satellite's on; and the slots that are left from one on.
-use mathlib.Core.Bool.{false, cond}
+use mathlib.Core.Bool.{true, false, cond}
 use mathlib.Core.List.{List, _∷_, _++_}
+use mathlib.Core.Path.{_≡_}
 use Prim.Native.Nat.{ℕ, _+_, _-_, _*_, _/_}
 use lib.Count.{ones}
 use lib.Dec.{eqb}
@@ -10,12 +11,22 @@ use Rattle.format.specs.Masks.{System}
 use Rattle.format.specs.Saved.{flagText}
 use Rattle.format.specs.Text.{tab, decimal, hex}
 use Rattle.holding.specs.declared.Holding.{Holding}
-use Rattle.holding.specs.Pictures.{systemOf, systemsOf}
+use Rattle.holding.specs.declared.Outline.{Outline}
+use Rattle.holding.specs.Outlines.{outlineOf, wholeOf}
+use Rattle.holding.specs.Pictures.{systemOf, systemsOf, sound}
 use Rattle.saved.specs.declared.systems.Slot.{Slot}
 
+abbrev pub slotIn : Outline → List ℕ → ℕ → Slot
+slotIn o satellites i =
+    record { id = getD (o .ids) i 0; satellites = getD satellites i 0; signals = getD (o .signals) i 0; flag = getD (o .flags) i false }
+
 abbrev pub slotAt : Holding → ℕ → Slot
-slotAt h i =
-    record { id = getD (h .ids) i 0; satellites = getD (h .satellites) i 0; signals = getD (h .signals) i 0; flag = getD (h .flags) i false }
+slotAt h i = slotIn (outlineOf h) (h .satellites) i
+
+-- an outline and masks that are a sound holding's, with some strips
+pub record Outlined (o : Outline) (satellites : List ℕ) : Type 0 where
+  pub strips : List ℕ
+  pub sounds : sound (wholeOf o satellites strips) ≡ true
 
 abbrev pub systemIn : Slot → List ℕ → System
 systemIn s strips = systemOf (s .id) (s .satellites) (s .signals) (s .flag) strips

@@ -8,9 +8,10 @@ ghost use lib.Seq.{sets};
 ghost use Rattle.bits.specs.BitLists.{spell};
 ghost use Rattle.format.specs.Saved.{cellText, systemText};
 ghost use Rattle.format.specs.Text.{tab, decimal, hex};
-ghost use Rattle.saved.specs.Slots.{slotAt, systemIn, cellCount, frontText, cellLong, systemLong};
+ghost use Rattle.saved.specs.Slots.{slotIn, slotAt, systemIn, cellCount, frontText, cellLong, systemLong};
 use crate::cells;
 use holding::Holding;
+use holding::Outline;
 use holding::set_places;
 use text::DASH;
 use text::TAB;
@@ -23,6 +24,19 @@ pub struct Slot {
     pub satellites: u64,
     pub signals: u16,
     pub flag: bool,
+}
+
+// The same of one in parts: only its outline and its masks are looked at.
+pub fn slot_in(outline: Outline, satellites: &[u64; Holding::SYSTEMS], i: usize) -> Slot
+    requires { ⌜ i < 5 ⌝ }
+    ensures { λ r. ⌜ r ≡ slotIn outline (now (satellites .entry)) i ⌝ }
+{
+    Slot {
+        id: outline.ids[i],
+        satellites: satellites[i],
+        signals: outline.signals[i],
+        flag: outline.flags[i],
+    }
 }
 
 pub fn slot_at(h: Holding, i: usize) -> Slot
