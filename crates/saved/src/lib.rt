@@ -37,13 +37,16 @@ pub fn save(holding: Holding, line: &mut [u8]) -> Saving
     ensures { λ r. ⌜ r ≡ savingBy (saving (lentBy holding) (now (line .entry))) ⌝ }
     ensures { λ _. ⌜ now (line .exit) ≡ bufferAfter (saving (lentBy holding) (now (line .entry))) (maskOf holding) (now (line .entry)) ⌝ }
 {
-    if !holding.is_sound() {
+    let satellites = holding.satellites;
+    let strips = holding.strips;
+    let outline = holding.outline();
+    if !outline.is_sound(&satellites, &strips) {
         return Saving::Refused(Refusal::Value);
     }
-    if line.len() < line::line_long(holding) {
+    if line.len() < line::line_long(outline, &satellites) {
         return Saving::Refused(Refusal::Room);
     }
-    Saving::Saved(line::line_text(line, holding))
+    Saving::Saved(line::line_text(line, outline, &satellites, &strips))
 }
 
 // The holding that a line says: the one that it would say, if that is a holding and the line is its own. A form is told by its
@@ -52,10 +55,13 @@ pub fn load(line: &[u8]) -> Loading
     ensures { λ r. ⌜ r ≡ loadingBy (load (now (line .entry))) ⌝ }
 {
     let holding = candidate::candidate(line);
-    if !holding.is_sound() {
+    let satellites = holding.satellites;
+    let strips = holding.strips;
+    let outline = holding.outline();
+    if !outline.is_sound(&satellites, &strips) {
         return refused();
     }
-    if !line::is_own(holding, line) {
+    if !line::is_own(outline, &satellites, &strips, line) {
         return refused();
     }
     Loading {

@@ -9,11 +9,17 @@ use lib.ListN.{length, take}
 use lib.Seq.{length-take-le, take-append-seam}
 use Rattle.format.specs.Same.{sameList}
 use Rattle.format.specs.Saved.{lineOf}
+use Rattle.holding.specs.declared.Holding.{Holding}
+use Rattle.holding.specs.Outlines.{wholeOf}
 use Rattle.holding.specs.Pictures.{maskOf}
 use Rattle.saved.proofs.Longest.{line-most}
 use Rattle.saved.proofs.SavedLines.{line-over}
 use Rattle.saved.proofs.line.is_own.Statement.{statement}
 use Rattle.saved.proofs.line.is_own.Tie as tie
+
+-- what is held
+abbrev whole : tie.Start → Holding
+whole s = wholeOf (s .args .outline) (s .args .satellites .now) (s .args .strips .now)
 
 -- its own line is written
 module _ (c : tie.After-line-text) where
@@ -21,10 +27,10 @@ module _ (c : tie.After-line-text) where
   s = c .before .before .before
 
   abbrev text : List ℕ
-  text = lineOf (maskOf (s .args .h))
+  text = lineOf (maskOf (whole s))
 
   few : length text ≤ 371
-  few = line-most (s .args .h) (s .pre)
+  few = line-most (whole s) (s .pre)
 
   inside : c .line-text .result ≤ length (c .line-text .last .0)
   inside = omega (arith, few, c .line-text .ensures .0, c .line-text .kept .0)
@@ -32,7 +38,7 @@ module _ (c : tie.After-line-text) where
   own : take (c .line-text .result) (c .line-text .last .0) ≡ text
   own =
       ap (λ (n : ℕ). take n (c .line-text .last .0)) (c .line-text .ensures .0)
-      ∙ ap (take (length text)) (c .line-text .ensures .1 ∙ line-over (s .args .h) _ (s .pre) few)
+      ∙ ap (take (length text)) (c .line-text .ensures .1 ∙ line-over (whole s) _ (s .pre) few)
       ∙ take-append-seam text _
 
 returns : tie.Need-returns
@@ -43,4 +49,4 @@ returns c =
 pub is-own-spec : {M : Type 1} → statement M
 is-own-spec =
     tie.close
-    (tie.spec (λ c. search needs) (λ c κs. (c .before .before .pre, line-most (c .before .before .args .h) (c .before .before .pre))) (λ c. inside (c .before)) (λ c. sym (length-take-le _ _ (inside (c .before .before)))) (λ c κs. search needs) returns)
+    (tie.spec (λ c. search needs) (λ c κs. (c .before .before .pre, line-most (whole (c .before .before)) (c .before .before .pre))) (λ c. inside (c .before)) (λ c. sym (length-take-le _ _ (inside (c .before .before)))) (λ c κs. search needs) returns)

@@ -5,6 +5,7 @@ use native.Mathlib.Omega.{arith}
 use borrow.Author.Needs.{needs}
 use borrow.Author.Tests.{not-true, not-false}
 use lib.ListN.{length}
+use Rattle.holding.specs.Outlines.{wholeOf}
 use Rattle.holding.specs.Pictures.{maskOf}
 use Rattle.text.proofs.Values.{decimal-long}
 use Rattle.saved.proofs.HeldTexts.{nothing-text, mask-long, line-long}
@@ -12,19 +13,21 @@ use Rattle.saved.proofs.line.line_long.Statement.{statement}
 use Rattle.saved.proofs.line.line_long.Tie as tie
 
 returns : tie.Need-returns
-returns c =
-    let h = c .before .before .args .h in
+returns c strips sounds =
+    let x = c .before .before .args in
+    let h = wholeOf (x .outline) (x .satellites .now) strips in
     omega (arith, line-long (maskOf h), ap length (nothing-text h (not-true _ (c .if1 .taken))))
 
 few : (c : tie.After-decimals) → c .decimals .result ≤ 3
-few c = omega (arith, c .decimals .ensures, decimal-long 2 (c .before .before .before .before .args .h .iod) (omega (arith, c .before .struct-known2 .given)))
+few c = omega (arith, c .decimals .ensures, decimal-long 2 (c .before .before .before .before .args .outline .iod) (omega (arith, c .before .struct-known2 .given)))
 
 returns-2 : tie.Need-returns-2
-returns-2 c =
+returns-2 c strips sounds =
     let d = c .before in
     let e = d .before .before in
-    let h = e .before .before .args .h in
-    omega (arith, line-long (maskOf h), mask-long h (not-false _ (e .if1 .left)), d .decimals .ensures, c .systems-long .ensures .0)
+    let x = e .before .before .args in
+    let h = wholeOf (x .outline) (x .satellites .now) strips in
+    omega (arith, line-long (maskOf h), mask-long h (not-false _ (e .if1 .left)), d .decimals .ensures, c .systems-long .ensures .0 strips sounds)
 
 pub line-long-spec : {M : Type 1} → statement M
 line-long-spec =

@@ -1,8 +1,12 @@
 -- `saved::line::systems_long` meets its contract. The loop's invariant: what is counted, and the slots that are left. Assumes nothing.
-use mathlib.Core.Path.{ap, _∙_}
-use Prim.Native.Nat.{_-_}
+use mathlib.Core.Path.{_≡_, ap, _∙_}
+use mathlib.Core.Bool.{true}
+use mathlib.Core.List.{List}
+use Prim.Native.Nat.{ℕ, _-_}
 use native.Mathlib.Omega.{arith}
 use borrow.Author.Needs.{needs}
+use Rattle.holding.specs.Outlines.{wholeOf}
+use Rattle.holding.specs.Pictures.{sound}
 use Rattle.saved.specs.declared.systems.Slot.{Slot}
 use Rattle.saved.specs.Slots.{systemLong}
 use Rattle.saved.proofs.SlotsLeft.{LongLeft, none-long, one-long, all-long, long-few, few-slots}
@@ -10,15 +14,20 @@ use Rattle.saved.proofs.line.systems_long.Statement.{statement}
 use Rattle.saved.proofs.line.systems_long.Tie as tie
 
 abbrev Inv-loop : tie.InvT-loop
-Inv-loop h long₀ i₀ long i = LongLeft h long i
+Inv-loop outline satellites long₀ i₀ long i = (strips : List ℕ) → sound (wholeOf outline satellites strips) ≡ true → LongLeft (wholeOf outline satellites strips) long i
 
 abbrev μ-loop : tie.MeasureT-loop
-μ-loop h long₀ i₀ long i = h .count - i
+μ-loop outline satellites long₀ i₀ long i = outline .count - i
+
+-- with some strips
+module _ (l : tie.At-loop Inv-loop μ-loop) where
+  one : let x = l .before .args in LongLeft (wholeOf (x .outline) (x .satellites .now) (l .before .pre .strips)) (l .loop .long) (l .loop .i)
+  one = l .loop .inv (l .before .pre .strips) (l .before .pre .sounds)
 
 loop-again : tie.Need-loop-again Inv-loop μ-loop
-loop-again c =
+loop-again c strips sounds =
     let l = c .before .before .before .before in
-    one-long (l .loop .inv) (omega arith) (c .system-long .ensures .0 ∙ ap (λ (s : Slot). systemLong s) (c .before .slot-at .ensures)) (c .system-long .ensures .1)
+    one-long (l .loop .inv strips sounds) (omega arith) (c .system-long .ensures .0 ∙ ap (λ (s : Slot). systemLong s) (c .before .slot-in .ensures)) (c .system-long .ensures .1)
 
 pub systems-long-spec : {M : Type 1} → statement M
 systems-long-spec =
@@ -26,11 +35,11 @@ systems-long-spec =
     (tie.spec
     Inv-loop
     μ-loop
-    (λ c. none-long (c .args .h) (c .pre))
-    (λ c κs. omega (arith, few-slots (c .before .before .loop .inv .slots)))
+    (λ c strips sounds. none-long _ sounds)
+    (λ c κs. omega (arith, few-slots (one (c .before .before) .slots)))
     (λ c κs. search needs)
-    (λ c. omega (arith, long-few (c .before .before .before .before .loop .inv), c .system-long .ensures .1))
-    (λ c. omega (arith, few-slots (c .before .before .before .before .loop .inv .slots)))
+    (λ c. omega (arith, long-few (one (c .before .before .before .before)), c .system-long .ensures .1))
+    (λ c. omega (arith, few-slots (one (c .before .before .before .before) .slots)))
     (λ c. omega arith)
     loop-again
-    (λ c. (all-long (c .before .before .loop .inv) (omega arith), long-few (c .before .before .loop .inv))))
+    (λ c. (λ strips sounds. all-long (c .before .before .loop .inv strips sounds) (omega arith), long-few (one (c .before .before)))))

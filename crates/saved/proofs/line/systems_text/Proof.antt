@@ -7,6 +7,7 @@ use lib.Count.{ones}
 use lib.ListN.{length, drop}
 use Rattle.format.specs.Saved.{systemText}
 use Rattle.holding.specs.declared.Holding.{Holding}
+use Rattle.holding.specs.Outlines.{wholeOf}
 use Rattle.text.proofs.Stores.{wrote, told}
 use Rattle.saved.specs.declared.systems.Slot.{Slot}
 use Rattle.saved.specs.Slots.{slotAt, systemIn}
@@ -15,24 +16,24 @@ use Rattle.saved.proofs.line.systems_text.Statement.{statement}
 use Rattle.saved.proofs.line.systems_text.Tie as tie
 
 abbrev Inv-loop : tie.InvT-loop
-Inv-loop line₀ at h strips place₀ from₀ i₀ line place from i = TextLeft line₀ at h line place from i
+Inv-loop line₀ at outline satellites strips place₀ from₀ i₀ line place from i = TextLeft line₀ at (wholeOf outline satellites strips) line place from i
 
 abbrev μ-loop : tie.MeasureT-loop
-μ-loop line₀ at h strips place₀ from₀ i₀ line place from i = h .count - i
+μ-loop line₀ at outline satellites strips place₀ from₀ i₀ line place from i = outline .count - i
 
 -- the slot that is read is the next one
-module _ (c : tie.After-slot-at Inv-loop μ-loop) where
+module _ (c : tie.After-slot-in Inv-loop μ-loop) where
   abbrev at : tie.At-loop Inv-loop μ-loop
   at = c .before .before .before
 
   abbrev h : Holding
-  h = at .before .before .before .args .h
+  h = let x = at .before .before .args in wholeOf (x .outline) (x .satellites .now) (x .strips .now)
 
-  sats : c .slot-at .result .satellites ≡ slotAt h (at .loop .i) .satellites
-  sats = ap (λ (s : Slot). s .satellites) (c .slot-at .ensures)
+  sats : c .slot-in .result .satellites ≡ slotAt h (at .loop .i) .satellites
+  sats = ap (λ (s : Slot). s .satellites) (c .slot-in .ensures)
 
-  text : systemText (systemIn (c .slot-at .result) (drop (at .loop .from) (h .strips))) ≡ systemText (systemIn (slotAt h (at .loop .i)) (drop (at .loop .from) (h .strips)))
-  text = ap (λ (s : Slot). systemText (systemIn s (drop (at .loop .from) (h .strips)))) (c .slot-at .ensures)
+  text : systemText (systemIn (c .slot-in .result) (drop (at .loop .from) (h .strips))) ≡ systemText (systemIn (slotAt h (at .loop .i)) (drop (at .loop .from) (h .strips)))
+  text = ap (λ (s : Slot). systemText (systemIn s (drop (at .loop .from) (h .strips)))) (c .slot-in .ensures)
 
   few : at .loop .from + ones (slotAt h (at .loop .i) .satellites) ≤ 64
   few = slot-passed (at .loop .inv .slots) (omega arith) .few
@@ -43,7 +44,7 @@ system-requires c κs =
     let l = at s .loop .inv in (
       omega (arith, sats s, low (l .slots) (omega arith)),
       omega (arith, ap ones (sats s), few s, strips-there (l .slots)),
-      omega (arith, ap length (text s), one-room l (omega arith) (at s .before .before .before .pre .1)),
+      omega (arith, ap length (text s), one-room l (omega arith) (at s .before .before .pre .1)),
     )
 
 loop-again : tie.Need-loop-again Inv-loop μ-loop
@@ -52,7 +53,7 @@ loop-again c =
     let s = y .before .before .before in
     let l = at s .loop in
     rw (c .count .ensures, sats s)
-    (one-written (l .inv) (omega arith) (rw (text s) at (wrote (l .line) (systemText (systemIn (s .slot-at .result) (drop (l .from) (h s .strips)))) (y .system .ensures))))
+    (one-written (l .inv) (omega arith) (rw (text s) at (wrote (l .line) (systemText (systemIn (s .slot-in .result) (drop (l .from) (h s .strips)))) (y .system .ensures))))
 
 pub systems-text-spec : {M : Type 1} → statement M
 systems-text-spec =
@@ -60,9 +61,8 @@ systems-text-spec =
     (tie.spec
     Inv-loop
     μ-loop
-    (λ c. let s = c .before .before in none-written (s .args .line .now) (s .args .at) (s .args .h) (s .pre .0))
+    (λ c. let s = c .before in none-written (s .args .line .now) (s .args .at) (wholeOf (s .args .outline) (s .args .satellites .now) (s .args .strips .now)) (s .pre .0))
     (λ c κs. omega (arith, few-slots (c .before .before .loop .inv .slots)))
-    (λ c. search needs)
     system-requires
     (λ c κs. search needs)
     (λ c. let s = c .before .before .before .before .before .before in omega (arith, c .count .ensures, ap ones (sats s), few s))
