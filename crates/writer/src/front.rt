@@ -91,16 +91,8 @@ pub fn common_fits(head: Head, epoch: usize) -> bool
     requires { ⌜ epoch ≤ 31 ⌝ }
     ensures { λ r. ⌜ r ≡ commonFits epoch head ⌝ }
 {
-    if !fits(head.epoch, epoch) {
-        return false;
-    }
-    if !fits(head.interval, INTERVAL) {
-        return false;
-    }
-    if !fits(head.indicator, INDICATOR) {
-        return false;
-    }
-    fits(head.iod, IOD)
+    fits(head.epoch, epoch)
+        & (fits(head.interval, INTERVAL) & (fits(head.indicator, INDICATOR) & fits(head.iod, IOD)))
 }
 
 // A mask's head with its number of systems: 49 bits.

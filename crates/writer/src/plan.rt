@@ -44,16 +44,8 @@ const SIZE: usize = 2;
 pub fn alone_fits(head: Head) -> bool
     ensures { λ r. ⌜ r ≡ aloneHead head ⌝ }
 {
-    if !front::common_fits(head, front::EPOCH) {
-        return false;
-    }
-    if !is_absent(head.a) {
-        return false;
-    }
-    if !is_absent(head.b) {
-        return false;
-    }
-    is_absent(head.c)
+    front::common_fits(head, front::EPOCH)
+        & (is_absent(head.a) & (is_absent(head.b) & is_absent(head.c)))
 }
 
 // Their plan.
@@ -90,16 +82,8 @@ fn network_fits(network: i32) -> bool
 pub fn flagged_fits(head: Head) -> bool
     ensures { λ r. ⌜ r ≡ flaggedHead head ⌝ }
 {
-    if !front::common_fits(head, front::EPOCH) {
-        return false;
-    }
-    if !fits(head.a, FLAG) {
-        return false;
-    }
-    if !fits(head.b, FLAG) {
-        return false;
-    }
-    network_fits(head.c)
+    front::common_fits(head, front::EPOCH)
+        & (fits(head.a, FLAG) & (fits(head.b, FLAG) & network_fits(head.c)))
 }
 
 // How many bits a selection has: one for each of n satellites, none without a network.
@@ -132,32 +116,15 @@ pub fn flagged(head: Head, shape: usize, start: usize, selected: Selected, n: us
 fn packet_bare(head: Head) -> bool
     ensures { λ r. ⌜ r ≡ packetBare head ⌝ }
 {
-    if !is_absent(head.epoch) {
-        return false;
-    }
-    if !is_absent(head.interval) {
-        return false;
-    }
-    if !is_absent(head.iod) {
-        return false;
-    }
-    is_absent(head.c)
+    is_absent(head.epoch) & (is_absent(head.interval) & (is_absent(head.iod) & is_absent(head.c)))
 }
 
 // A packet's part: whether the head's numbers fit.
 pub fn packet_fits(head: Head) -> bool
     ensures { λ r. ⌜ r ≡ packetHead head ⌝ }
 {
-    if !packet_bare(head) {
-        return false;
-    }
-    if !fits(head.indicator, front::INDICATOR) {
-        return false;
-    }
-    if !fits(head.a, COUNTER) {
-        return false;
-    }
-    fits(head.b, SIZE)
+    packet_bare(head)
+        & (fits(head.indicator, front::INDICATOR) & (fits(head.a, COUNTER) & fits(head.b, SIZE)))
 }
 
 // Its plan: a row more than the data size says.

@@ -1,47 +1,22 @@
--- `writer::plan::packet_fits` meets its contract. Assumes nothing.
-use Rattle.bits.proofs.Words.{_≡_, sym, _∙_, needs}
-use borrow.Author.Tests.{not-true, not-false}
+-- `writer::plan::packet_fits` meets its contract: its tests, each as the head has the number. Assumes nothing.
+use Rattle.bits.proofs.Words.{_&&_, needs}
 use Rattle.fitting.specs.FitHeads.{numberFits}
 use Rattle.writer.specs.Plans.{packetHead}
 use Rattle.pens.proofs.Numbers.{of-struct}
 use Rattle.writer.proofs.plan.packet_fits.Statement.{statement}
 use Rattle.writer.proofs.plan.packet_fits.Tie as tie
 
--- what each test found
-found-2 : (c : tie.After-fits2) → c .fits2 .result ≡ numberFits 1 (c .before .before .before .before .args .head .indicator)
-found-2 c = of-struct (numberFits 1) _ (c .before .struct-told .given .1 .1 .1 .0 .1) (c .fits2 .ensures)
-
-found-3 : (c : tie.After-fits3) → c .fits3 .result ≡ numberFits 3 (c .before .before .before .before .before .before .before .args .head .a)
-found-3 c = of-struct (numberFits 3) _ (c .before .struct-told2 .given .1 .1 .1 .1 .1 .0 .1) (c .fits3 .ensures)
-
-found-4 : (c : tie.After-fits4) → c .fits4 .result ≡ numberFits 2 (c .before .before .before .before .before .before .before .before .before .before .args .head .b)
-found-4 c = of-struct (numberFits 2) _ (c .before .struct-told3 .given .1 .1 .1 .1 .1 .1 .0 .1) (c .fits4 .ensures)
-
 returns : tie.Need-returns
 unfolding packetHead
 returns c =
-    rw (sym (c .before .packet-bare .ensures) ∙ not-true _ (c .if1 .taken))
-
-returns-2 : tie.Need-returns-2
-unfolding packetHead
-returns-2 c =
-    let t1 = c .before .before .before in
-    rw (sym (t1 .before .packet-bare .ensures) ∙ not-false _ (t1 .if1 .left), sym (found-2 (c .before)) ∙ not-true _ (c .if2 .taken))
-
-returns-3 : tie.Need-returns-3
-unfolding packetHead
-returns-3 c =
-    let t2 = c .before .before .before in
-    let t1 = t2 .before .before .before in
-    rw (sym (t1 .before .packet-bare .ensures) ∙ not-false _ (t1 .if1 .left), sym (found-2 (t2 .before)) ∙ not-false _ (t2 .if2 .left), sym (found-3 (c .before)) ∙ not-true _ (c .if3 .taken))
-
-returns-4 : tie.Need-returns-4
-unfolding packetHead
-returns-4 c =
     let t3 = c .before .before in
-    let t2 = t3 .before .before .before in
-    let t1 = t2 .before .before .before in
-    rw (sym (t1 .before .packet-bare .ensures) ∙ not-false _ (t1 .if1 .left), sym (found-2 (t2 .before)) ∙ not-false _ (t2 .if2 .left), sym (found-3 (t3 .before)) ∙ not-false _ (t3 .if3 .left)) (found-4 c)
+    let t2 = t3 .before .before in
+    let t1 = t2 .before .before in
+    let h = t1 .before .args .head in
+    let indicator = of-struct (numberFits 1) (h .indicator) (t2 .before .struct-told .given .1 .1 .1 .0 .1) (t2 .fits2 .ensures) in
+    let a = of-struct (numberFits 3) (h .a) (t3 .before .struct-told2 .given .1 .1 .1 .1 .1 .0 .1) (t3 .fits3 .ensures) in
+    let b = of-struct (numberFits 2) (h .b) (c .before .struct-told3 .given .1 .1 .1 .1 .1 .1 .0 .1) (c .fits4 .ensures) in
+    λ i. t1 .packet-bare .ensures i && (indicator i && (a i && b i))
 
 pub packet-fits-spec : {M : Type 1} → statement M
-packet-fits-spec = tie.close (tie.spec (λ c κs. search needs) returns (λ c κs. search needs) returns-2 (λ c κs. search needs) returns-3 (λ c κs. search needs) returns-4)
+packet-fits-spec = tie.close (tie.spec (λ c κs. search needs) (λ c κs. search needs) (λ c κs. search needs) (λ c κs. search needs) returns)
