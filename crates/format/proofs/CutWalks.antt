@@ -17,8 +17,6 @@ use Rattle.format.specs.Masks.{Held, Lent, stray, lent, heldIn}
 use Rattle.format.specs.Programs.{well, run}
 use Rattle.format.specs.Reading.{rowRoom, Outcome, accepted, idle, refused, endedAt, lentTests, readFrom, bitsFrom, placed, readingBy, reading, lentAfter, over, rowsAfter}
 use Rattle.format.specs.Table.{Message, Kind, table, byKind, messageBy, message}
-use Rattle.format.specs.declared.Refusal.{Refusal}
-use Rattle.format.specs.declared.Refusal.the-variants.{Place, Room}
 use Rattle.format.specs.Tests.{verdict}
 use Rattle.format.specs.Walking.{handedAt, Walk, hand, goOn, walkOn, walk}
 use Rattle.format.proofs.HeldGood.{stays-good}
@@ -27,6 +25,7 @@ use Rattle.format.proofs.Runs.{run-agree}
 use Rattle.format.proofs.Steps.{Gives, gives-so, gives-itself}
 use Rattle.format.proofs.Stops.{Stopped, stop-holds}
 use Rattle.format.proofs.Tables.{gives-message}
+use Rattle.format.proofs.Verdicts.{AllHold, all-hold}
 use Rattle.format.proofs.Walks.{ends-inside, walk-step, stop-ends, Law, every-walk, Within, all-within}
 
 -- the bits of a message are not blank: they begin with 4073, whose first bit is one
@@ -42,17 +41,8 @@ message-bits t held l m taken e =
 -- a reading accepts in a stretch only
 accepts-placed : (t : ℕ → Kind) (holding : Lent) (bytes : List ℕ) (end start : ℕ) (rows : List ℤ) (m : Message) (next : ℕ)
     → readingBy t holding bytes end start rows ≡ accepted m next → Inside bytes end start
-unfolding readingBy lentTests verdict
-accepts-placed t holding bytes end start rows m next e = inside bytes end start (go (leb rowRoom (length rows)) (placed bytes end start) _ e)
-  where
-    never : (r : Refusal) → refused r 0 holding ≡ accepted m next → ⊥
-    never r f = false≢true cc
-
-    go : (room there : Bool) (o : Outcome)
-        → elim room [ true ↦ elim there [ true ↦ o | false ↦ refused Place 0 holding ] | false ↦ refused Room 0 holding ] ≡ accepted m next → there ≡ true
-    go true true o e = refl
-    go true false o e = absurd (never Place e)
-    go false there o e = absurd (never Room e)
+unfolding readingBy lentTests AllHold
+accepts-placed t holding bytes end start rows m next e = inside bytes end start (all-hold (λ r. refused r 0 holding) _ (accepted m next) _ (λ r f. false≢true cc) e .1 .1 .0)
 
 -- ---- the same reading in a shorter stretch
 

@@ -25,6 +25,7 @@ pub mod Layouts
 pub mod Together
 pub mod Ends
 pub mod Walks
+pub mod Verdicts
 pub mod CutWalks
 pub mod AlikeWalks
 pub mod Numbered

@@ -14,7 +14,6 @@ use Rattle.bits.specs.BitLists.{spell, bits, setBits, setBytes}
 use Rattle.bits.proofs.BitLists.{length-bits}
 use Rattle.bits.proofs.Setting.{drop-setBits, length-setBits, bits-setBytes, length-setBytes}
 use Rattle.format.specs.declared.Head.{Head}
-use Rattle.format.specs.declared.Refusal.{Refusal}
 use Rattle.format.specs.Assigned.{blank}
 use Rattle.format.specs.Good.{good, isHolding}
 use Rattle.format.specs.Masks.{Held, Lent, lent, heldIn}
@@ -22,7 +21,6 @@ use Rattle.format.specs.Programs.{Ended, well, badly, run}
 use Rattle.format.specs.Reading.{rowRoom, accepted, idle, endedAt, readFrom, bitsFrom, lentTests, readingBy, reading}
 use Rattle.format.specs.Reading as Reading
 use Rattle.format.specs.Table.{Message, table, message, spelledBy, spelled}
-use Rattle.format.specs.Tests.{Test, verdict}
 use Rattle.format.specs.Writing.{wrote, refused, rowsIn, exact, limit, writing}
 use Rattle.format.proofs.Gates.{read-gated}
 use Rattle.format.proofs.HeldGood.{held-good, stays-good}
@@ -30,30 +28,8 @@ use Rattle.format.proofs.Placed.{Inside, inside, is-placed}
 use Rattle.format.proofs.RoundTrips.{exact-reads, written-again}
 use Rattle.format.proofs.Runs.{drop-take, taken-le}
 use Rattle.format.proofs.Sames.{and-true, true-and}
+use Rattle.format.proofs.Verdicts.{AllHold, all-hold, holds-all}
 use Rattle.format.proofs.Walks.{ends-inside}
-
--- ---- tests in their order
-
-unfoldable AllHold : List Test → Type 0
-AllHold [] = Unit {0}
-AllHold (t ∷ ts) = (t .holds ≡ true) × AllHold ts
-
--- what is no refusal is what comes where all hold
-all-hold : {A : Type 0} (refusal : Refusal → A) (fine a : A) (ts : List Test) → ((r : Refusal) → refusal r ≡ a → ⊥) → verdict refusal fine ts ≡ a
-    → (fine ≡ a) × AllHold ts
-unfolding verdict AllHold
-all-hold refusal fine a [] never e = (e, tt)
-all-hold {A} refusal fine a (t ∷ ts) never e = go (t .holds) refl e (all-hold refusal fine a ts never)
-  where
-    go : (b : Bool) → t .holds ≡ b → elim b [ true ↦ verdict refusal fine ts | false ↦ refusal (t .else) ] ≡ a
-        → (verdict refusal fine ts ≡ a → (fine ≡ a) × AllHold ts) → (fine ≡ a) × ((t .holds ≡ true) × AllHold ts)
-    go true holds e rest = let r = rest e in (r .0, (holds, r .1))
-    go false fails e rest = absurd (never (t .else) e)
-
-holds-all : {A : Type 0} (refusal : Refusal → A) (fine : A) (ts : List Test) → AllHold ts → verdict refusal fine ts ≡ fine
-unfolding verdict AllHold
-holds-all refusal fine [] all = refl
-holds-all refusal fine (t ∷ ts) all = rw (all .0) (holds-all refusal fine ts (all .1))
 
 -- ---- what was accepted
 

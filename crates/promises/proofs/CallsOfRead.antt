@@ -4,6 +4,8 @@ use mathlib.Core.Path.{_≡_, refl, sym, ap, _∙_}
 use mathlib.Core.Bool.{true, false, false≢true}
 use mathlib.Core.List.{List, [], _++_}
 use Prim.Native.Nat.{ℕ}
+use native.Mathlib.Omega.{arith}
+use borrow.Author.Tests.{ne-eqb}
 use lib.Dec.{eqb}
 use lib.IntN.{ℤ}
 use lib.ListN.{length, drop}
@@ -12,8 +14,8 @@ use denote.Ref.{RefT}
 use Rattle.format.specs.declared.Answer.{Answer}
 use Rattle.format.specs.declared.Answer.the-variants.{Message, Idle, Refused}
 use Rattle.format.specs.declared.Refusal.{Refusal}
-use Rattle.format.specs.declared.Refusal.the-variants.{Room, Place, Short, Number, SubType, NoMask, OtherIssue, System, Reserved, Size, Network, Value}
 use Rattle.format.specs.Answers.{Said, saidAt, numberOf}
+use Rattle.format.proofs.Numbered.{number-small}
 use Rattle.format.specs.Good.{good, isHolding}
 use Rattle.format.specs.Masks.{Held, Lent, stray, lent, heldIn}
 use Rattle.format.specs.Reading.{Outcome, over, answerOf}
@@ -93,19 +95,7 @@ module _ (h : Holding) (bytes : List ℕ) (end : ℕ) (rows : List ℤ) where
 
 -- no refusal has the number of a message, or of what is done
 pub not-answered : (r : Refusal) → eqb (numberOf r) messageNumber ≡ false
-unfolding numberOf
-not-answered Room = refl
-not-answered Place = refl
-not-answered Short = refl
-not-answered Number = refl
-not-answered SubType = refl
-not-answered NoMask = refl
-not-answered OtherIssue = refl
-not-answered System = refl
-not-answered Reserved = refl
-not-answered Size = refl
-not-answered Network = refl
-not-answered Value = refl
+not-answered r = ne-eqb (numberOf r) messageNumber (omega (arith, number-small r))
 
 -- so what is handed of an answer says the answer
 said-back : (start : ℕ) (a : Answer) → saidBy (handedBy start (saidAt start a)) ≡ saidAt start a
