@@ -8,7 +8,7 @@ use lib.Seq.{take-all}
 use Rattle.bits.specs.BitLists.{digit, number}
 use Rattle.holding.specs.declared.Holding.{Holding}
 use Rattle.holding.specs.Pictures.{sound}
-use Rattle.saved.proofs.SlotsLeft.{SlotsLeft, all-slots, strips-there, slot-passed, strips-room}
+use Rattle.saved.proofs.SlotsLeft.{SlotsLeft, all-slots, slot-passed, strips-room}
 use Rattle.saved.specs.declared.systems.Slot.{Slot}
 use Rattle.saved.specs.Gathering.{stripBits}
 use Rattle.saved.specs.Slots.{slotAt}
@@ -141,8 +141,8 @@ all-systems h on r = record { slots = all-slots h on; inks = rw (sub-zero (h .co
 
 module _ {p₀ : Pen} {bytes₀ : List ℕ} {h : Holding} {p : Pen} {bytes : List ℕ} {n i : ℕ} (l : SystemsLeft p₀ bytes₀ h p bytes n i) where
   -- the strips that are left, as code lends them
-  pub strips-lent : take (64 - n) (drop n (h .strips)) ≡ drop n (h .strips)
-  strips-lent = take-all (64 - n) (drop n (h .strips)) (omega (arith, length-drop n (h .strips), strips-there (l .slots)))
+  pub strips-lent : take (length (h .strips) - n) (drop n (h .strips)) ≡ drop n (h .strips)
+  strips-lent = take-all (length (h .strips) - n) (drop n (h .strips)) (omega (arith, length-drop n (h .strips)))
 
   -- one slot more, as code reads it
   module _ (more : i < h .count) {s : Slot} (is : s ≡ slotAt h i) {strips : List ℕ} (from : strips ≡ drop n (h .strips)) where

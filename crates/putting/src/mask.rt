@@ -1,16 +1,19 @@
 // The systems of a mask message (document 01, "Sub type 1"), from the held mask.
 ghost use mathlib.Core.Path.{_≡_};
 ghost use mathlib.Core.Bool.{true};
-ghost use mathlib.Core.List.{flatMap};
-ghost use Prim.Native.Nat.{_≤_};
+ghost use mathlib.Core.List.{List, flatMap};
+ghost use Prim.Native.Nat.{ℕ, _≤_};
 ghost use lib.Count.{ones};
 ghost use lib.ListN.{length};
 ghost use Rattle.format.specs.Lengths.{maskOr};
 ghost use Rattle.format.specs.Spelling.{putSystem};
+ghost use Rattle.holding.specs.Outlines.{wholeOf};
 ghost use Rattle.holding.specs.Pictures.{maskOf, sound};
 ghost use Rattle.putting.specs.MaskFields.{stripFields, frontFields, systemFields, maskFields};
 ghost use Rattle.pens.specs.Pens.{penAfter, inkAfter, Ready};
+ghost use Rattle.saved.specs.Slots.{Outlined};
 use holding::Holding;
+use holding::Outline;
 use holding::set_places;
 use pens::pen::Field;
 use pens::pen::Pen;
@@ -74,18 +77,24 @@ fn put_system(bytes: &mut [u8], pen: Pen, s: Slot, strips: &[u16]) -> Pen
 }
 
 // All systems.
-pub fn put_systems(holding: Holding, bytes: &mut [u8], pen: Pen) -> Pen
-    requires { ⌜ (sound holding ≡ true) × Ready pen (maskFields holding) (now bytes) ⌝ }
-    ensures { λ r. ⌜ r ≡ penAfter pen (maskFields holding) ⌝ }
-    ensures { λ _. ⌜ now (bytes .exit) ≡ inkAfter pen (maskFields holding) (now (bytes .entry)) ⌝ }
+pub fn put_systems(
+    outline: Outline,
+    satellites: &[u64; Holding::SYSTEMS],
+    strips: &[u16; Holding::SATELLITES],
+    bytes: &mut [u8],
+    pen: Pen,
+) -> Pen
+    requires { ⌜ (sound (wholeOf outline (now satellites) (now strips)) ≡ true) × Ready pen (maskFields (wholeOf outline (now satellites) (now strips))) (now bytes) ⌝ }
+    ensures { λ r. ⌜ r ≡ penAfter pen (maskFields (wholeOf outline (now (satellites .entry)) (now (strips .entry)))) ⌝ }
+    ensures { λ _. ⌜ now (bytes .exit) ≡ inkAfter pen (maskFields (wholeOf outline (now (satellites .entry)) (now (strips .entry)))) (now (bytes .entry)) ⌝ }
 {
-    let strips = holding.strips;
+    let all = &strips[..];
     let mut behind = pen;
     let mut from = 0;
     let mut i = 0;
-    while i < holding.count {
-        let slot = systems::slot_at(holding, i);
-        behind = put_system(bytes, behind, slot, &strips[from..]);
+    while i < outline.count {
+        let slot = systems::slot_in(outline, satellites, i);
+        behind = put_system(bytes, behind, slot, &all[from..]);
         from += set_places::count(slot.satellites);
         i += 1;
     }
@@ -96,15 +105,15 @@ pub fn put_systems(holding: Holding, bytes: &mut [u8], pen: Pen) -> Pen
 const FIXED: usize = ID + Holding::SATELLITE_MASK + Holding::SIGNAL_MASK + FLAG;
 
 // How many bits they are: at most so many for each of five systems, and 16 of a cell mask for each of 64 satellites.
-pub fn mask_bits(holding: Holding) -> usize
-    requires { ⌜ sound holding ≡ true ⌝ }
-    ensures { λ r. ⌜ r ≡ length (flatMap putSystem (maskOr (maskOf holding) .systems)) ⌝ }
+pub fn mask_bits(outline: Outline, satellites: &[u64; Holding::SYSTEMS]) -> usize
+    requires { ⌜ Outlined outline (now satellites) ⌝ }
+    ensures { λ r. ⌜ ((strips : List ℕ) → sound (wholeOf outline (now (satellites .entry)) strips) ≡ true → r ≡ length (flatMap putSystem (maskOr (maskOf (wholeOf outline (now (satellites .entry)) strips)) .systems))) ⌝ }
     ensures { λ r. ⌜ r ≤ 1329 ⌝ }
 {
     let mut bits = 0;
     let mut i = 0;
-    while i < holding.count {
-        bits += FIXED + systems::cell_count(systems::slot_at(holding, i));
+    while i < outline.count {
+        bits += FIXED + systems::cell_count(systems::slot_in(outline, satellites, i));
         i += 1;
     }
     bits

@@ -91,7 +91,7 @@ pub fn write(
         start,
     };
     if let Kind::Mask = kind {
-        return message::of_mask(holding, head, count, bytes, start);
+        return message::of_mask(outline, &masks, &strips, asked, bytes);
     }
     past(outline, &masks, &strips, asked, rows, bytes)
 }

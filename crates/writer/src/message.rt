@@ -22,6 +22,7 @@ ghost use Rattle.writer.specs.Written.{planFields, Puts, Made, Keyed, ro
 use crate::Writing;
 use crate::front;
 use crate::plan::Plan;
+use crate::planning::Asked;
 use crate::room::limit;
 use format::Head;
 use format::Refusal;
@@ -142,25 +143,27 @@ const MASK_FRONT: usize = 49;
 
 // A mask message of what is held.
 pub fn of_mask(
-    holding: Holding,
-    head: Head,
-    count: usize,
+    outline: Outline,
+    satellites: &[u64; Holding::SYSTEMS],
+    strips: &[u16; Holding::SATELLITES],
+    asked: Asked,
     bytes: &mut [u8],
-    start: usize,
 ) -> Writing
-    requires { ⌜ (sound holding ≡ true) × (numberFits 4 (head .subtype) ≡ true) × (start ≤ limit (now bytes)) ⌝ }
-    ensures { λ r. ⌜ r ≡ answered start (masked holding head count (now (bytes .entry)) start) ⌝ }
-    ensures { λ _. ⌜ now (bytes .exit) ≡ bytesAfter (masked holding head count (now (bytes .entry)) start) (now (bytes .entry)) start ⌝ }
+    requires { ⌜ (sound (wholeOf outline (now satellites) (now strips)) ≡ true) × (numberFits 4 (asked .head .subtype) ≡ true) × (asked .start ≤ limit (now bytes)) ⌝ }
+    ensures { λ r. ⌜ r ≡ answered (asked .start) (masked (wholeOf outline (now (satellites .entry)) (now (strips .entry))) (asked .head) (asked .count) (now (bytes .entry)) (asked .start)) ⌝ }
+    ensures { λ _. ⌜ now (bytes .exit) ≡ bytesAfter (masked (wholeOf outline (now (satellites .entry)) (now (strips .entry))) (asked .head) (asked .count) (now (bytes .entry)) (asked .start)) (now (bytes .entry)) (asked .start) ⌝ }
 {
-    if !mask_fits(head, holding.count, count) {
+    let head = asked.head;
+    let start = asked.start;
+    if !mask_fits(head, outline.count, asked.count) {
         return Writing::Refused(Refusal::Value);
     }
-    let bits = MASK_FRONT + mask_bits(holding);
+    let bits = MASK_FRONT + mask_bits(outline, satellites);
     if limit(bytes) - start < bits {
         return Writing::Refused(Refusal::Room);
     }
     let begun = pen::begin(bytes, front::mask(head, start));
-    let last = put_systems(holding, bytes, begun);
+    let last = put_systems(outline, satellites, strips, bytes, begun);
     pen::set(bytes, last.place, last.width, last.gathered);
     Writing::Done(start + bits)
 }

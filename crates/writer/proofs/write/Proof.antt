@@ -5,6 +5,7 @@ use borrow.Author.Tests.{not-true, not-false}
 use denote.Enum.Declared.{tagOf}
 use Rattle.format.specs.Writing.{Written, limit, writing, bytesAfter}
 use Rattle.holding.proofs.Sounds.{sounds}
+use Rattle.holding.specs.declared.Holding.{Holding}
 use Rattle.holding.specs.declared.Outline.{Outline}
 use Rattle.holding.specs.Held.{isHeld, issueOf}
 use Rattle.holding.specs.Outlines.{wholeOf}
@@ -17,7 +18,8 @@ use Rattle.fitting.specs.FitHeads.{numberFits}
 use Rattle.writer.specs.Kinds.{kindAt, gateBy}
 use Rattle.writer.specs.declared.planning.Asked.{Asked}
 use Rattle.writer.specs.Stages.{byGate, answered}
-use Rattle.writer.specs.Writings.{Passed, pastGate}
+use Rattle.writer.specs.Written.{masked}
+use Rattle.writer.specs.Writings.{pastGate}
 use Rattle.pens.proofs.Numbers.{of-struct}
 use Rattle.writer.proofs.Order.{out-of-place}
 use Rattle.writer.proofs.PastGate.{past-mask}
@@ -50,8 +52,14 @@ module _ (c : tie.After-is-sound) where
   abbrev parts : tie.After-outline
   parts = c .before .before .before
 
+  abbrev whole : Holding
+  whole = wholeOf (parts .outline .result) (s .args .holding .satellites) (s .args .holding .strips)
+
+  together : whole ≡ s .args .holding
+  together = ap (λ (o : Outline). wholeOf o (s .args .holding .satellites) (s .args .holding .strips)) (parts .outline .ensures)
+
   tested : c .is-sound .result ≡ sound (s .args .holding)
-  tested = c .is-sound .ensures ∙ ap (λ (o : Outline). sound (wholeOf o (s .args .holding .satellites) (s .args .holding .strips))) (parts .outline .ensures)
+  tested = c .is-sound .ensures ∙ ap (λ (h : Holding). sound h) together
 
 returns-2 : tie.Need-returns-2
 unfolding answered bytesAfter
@@ -71,6 +79,9 @@ module _ (c : tie.After-of) where
 
   on : sound (st .args .holding) ≡ true
   on = sym (tested (two .before)) ∙ not-false _ (two .if2 .left)
+
+  in-parts : sound (whole (two .before)) ≡ true
+  in-parts = sym (two .before .is-sound .ensures) ∙ not-false _ (two .if2 .left)
 
   kind : c .before .kind-in .result ≡ kindAt (st .args .head .subtype)
   kind = of-struct kindAt _ (c .before .before .struct-told .given .0 .1) (c .before .kind-in .ensures)
@@ -123,37 +134,31 @@ returns-4 : tie.Need-returns-4
 unfolding byGate
 returns-4 c =
     let m = c .before .before in
-    let e = m .before .before in
+    let e = m .before .before .before .before in
     let x = st (o (through e)) in
+    let same = ap (λ (h : Holding). masked h (x .args .head) (x .args .count) (x .args .bytes .now) (x .args .start)) (together (two (o (through e)) .before)) in
     rw (all (o (through e)), opened (through e), past-mask (x .args .holding) (on (o (through e))) (asked (o (through e))) (x .args .rows .now) (x .args .bytes .now) (known e) (open-held (through e) Kinds.Mask (sym (known e))))
-    (m .of-mask .ensures)
+    (m .of-mask .ensures .0 ∙ ap (answered (x .args .start)) same, m .of-mask .ensures .1 ∙ ap (λ (d : Written). bytesAfter d (x .args .bytes .now) (x .args .start)) same)
 
 -- any other
 module _ (c : tie.At-match2-keys2) where
   abbrev gone : tie.After-enum-told
   gone = c .before
 
-  abbrev lent : tie.After-outline
-  lent = parts (two (o gone) .before)
-
   abbrev x : tie.Start
   x = st (o gone)
 
-  in-parts : sound (wholeOf (lent .outline .result) (x .args .holding .satellites) (x .args .holding .strips)) ≡ true
-  in-parts = sym (two (o gone) .before .is-sound .ensures) ∙ not-false _ (two (o gone) .if2 .left)
-
-  same : pastGate (wholeOf (lent .outline .result) (x .args .holding .satellites) (x .args .holding .strips))
-      (record { kind = o gone .before .kind-in .result; head = x .args .head; count = x .args .count; start = x .args .start }) (x .args .rows .now) (x .args .bytes .now)
+  same : pastGate (whole (two (o gone) .before)) (record { kind = o gone .before .kind-in .result; head = x .args .head; count = x .args .count; start = x .args .start }) (x .args .rows .now) (x .args .bytes .now)
       ≡ pastGate (x .args .holding) (asked (o gone)) (x .args .rows .now) (x .args .bytes .now)
   same =
-      ap₂ (λ (l : Outline) (k : Kind). pastGate (wholeOf l (x .args .holding .satellites) (x .args .holding .strips)) (record { kind = k; head = x .args .head; count = x .args .count; start = x .args .start }) (x .args .rows .now) (x .args .bytes .now))
-      (lent .outline .ensures) (kind (o gone))
+      ap₂ (λ (h : Holding) (k : Kind). pastGate h (record { kind = k; head = x .args .head; count = x .args .count; start = x .args .start }) (x .args .rows .now) (x .args .bytes .now))
+      (together (two (o gone) .before)) (kind (o gone))
 
 past-requires : tie.Need-past-requires
 past-requires c κs =
     let k = c .before .before .before in
     let g = gone k in (
-      in-parts k,
+      in-parts (o g),
       record { known = kind (o g); other = not-mask (o g .before .kind-in .result) (k .match2 .keys2); opens = sym (o g .of .ensures) ∙ g .enum-told .given .1 },
       inside (one (two (o g) .before)),
     )
@@ -175,6 +180,6 @@ write-spec =
     (tie.spec (λ c κs. search needs) (λ c. search needs)
     (λ c. let y = c .before .before .before .before .args in rw (out-of-place (lentBy (y .holding)) (y .head) (y .rows .now) (y .count) (y .bytes .now) (y .start) (omega (arith, c .if1 .taken, c .before .limit .ensures .0))) (refl, refl))
     (λ c κs. search needs) (λ c κs. search needs) (λ c. search needs) returns-2 (λ c κs. search needs) (λ c κs. search needs) (λ c. search needs) (λ c. search needs) returns-3 (λ c. search needs) (λ c. search needs)
-    (λ c κs. let e = c .before in (on (o (through e)), typed e, inside (one (two (o (through e)) .before)))) (λ c. search needs) returns-4
+    (λ c κs. let e = c .before .before .before in (in-parts (o (through e)), typed e, inside (one (two (o (through e)) .before)))) (λ c. search needs) returns-4
     (λ c. let k = c .before in sym (sounds (x k .args .holding) (on (o (gone k))) .shaped .satellites)) (λ c. let k = c .before .before in sym (sounds (x k .args .holding) (on (o (gone k))) .shaped .strips))
     past-requires (λ c. search needs) returns-5)

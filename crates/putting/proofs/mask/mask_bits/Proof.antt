@@ -1,5 +1,7 @@
--- `putting::mask::mask_bits` meets its contract. The loop's invariant: what is counted, and the slots that are left. Assumes nothing.
-use Rattle.bits.proofs.Words.{ap, _∙_, _-_, arith, needs}
+-- `putting::mask::mask_bits` meets its contract. The loop's invariant, with any strips: what is counted, and the slots that are left. Assumes nothing.
+use Rattle.bits.proofs.Words.{_≡_, ap, _∙_, true, List, ℕ, _-_, arith, needs}
+use Rattle.holding.specs.Outlines.{wholeOf}
+use Rattle.holding.specs.Pictures.{sound}
 use Rattle.saved.proofs.SlotsLeft.{few-slots}
 use Rattle.saved.specs.declared.systems.Slot.{Slot}
 use Rattle.saved.specs.Slots.{cellCount}
@@ -8,15 +10,23 @@ use Rattle.putting.proofs.mask.mask_bits.Statement.{statement}
 use Rattle.putting.proofs.mask.mask_bits.Tie as tie
 
 abbrev Inv-loop : tie.InvT-loop
-Inv-loop holding bits₀ i₀ bits i = BitsLeft holding bits i
+Inv-loop outline satellites bits₀ i₀ bits i = (strips : List ℕ) → sound (wholeOf outline satellites strips) ≡ true → BitsLeft (wholeOf outline satellites strips) bits i
 
 abbrev μ-loop : tie.MeasureT-loop
-μ-loop holding bits₀ i₀ bits i = holding .count - i
+μ-loop outline satellites bits₀ i₀ bits i = outline .count - i
+
+-- with the strips that there are
+module _ (c : tie.At-loop Inv-loop μ-loop) where
+  abbrev s : tie.Start Inv-loop μ-loop
+  s = c .before
+
+  here : BitsLeft (wholeOf (s .args .outline) (s .args .satellites .now) (s .pre .strips)) (c .loop .bits) (c .loop .i)
+  here = c .loop .inv (s .pre .strips) (s .pre .sounds)
 
 loop-again : tie.Need-loop-again Inv-loop μ-loop
-loop-again c =
-    let s = c .before in
-    one-counted (s .before .before .before .loop .inv) (s .before .if1 .taken) (c .cell-count .ensures .0 ∙ ap (λ (t : Slot). cellCount t) (s .slot-at .ensures))
+loop-again c strips on =
+    let d = c .before in
+    one-counted (d .before .before .before .loop .inv strips on) (d .before .if1 .taken) (c .cell-count .ensures .0 ∙ ap (λ (t : Slot). cellCount t) (d .slot-in .ensures))
 
 pub mask-bits-spec : {M : Type 1} → statement M
 mask-bits-spec =
@@ -24,12 +34,12 @@ mask-bits-spec =
     (tie.spec
     Inv-loop
     μ-loop
-    (λ c. none-counted (c .args .holding) (c .pre))
-    (λ c κs. omega (arith, few-slots (c .before .before .loop .inv .slots)))
+    (λ c strips on. none-counted (wholeOf (c .args .outline) (c .args .satellites .now) strips) on)
+    (λ c κs. omega (arith, few-slots (here (c .before .before) .slots)))
     (λ c κs. search needs)
     (λ c. omega (arith, c .cell-count .ensures .1))
-    (λ c. omega (arith, counted-few (loop-again c)))
-    (λ c. omega (arith, few-slots (c .before .before .before .before .loop .inv .slots)))
+    (λ c. let p = s (c .before .before .before .before) .pre in omega (arith, counted-few (loop-again c (p .strips) (p .sounds))))
+    (λ c. omega (arith, few-slots (here (c .before .before .before .before) .slots)))
     (λ c. omega arith)
     loop-again
-    (λ c. (all-counted (c .before .before .loop .inv) (c .if1 .left), counted-few (c .before .before .loop .inv))))
+    (λ c. (λ strips on. all-counted (c .before .before .loop .inv strips on) (c .if1 .left), counted-few (here (c .before .before)))))
