@@ -8,7 +8,7 @@ ghost use lib.Seq.{sets};
 ghost use Rattle.bits.specs.BitLists.{spell};
 ghost use Rattle.format.specs.Saved.{cellText, systemText};
 ghost use Rattle.format.specs.Text.{tab, decimal, hex};
-ghost use Rattle.saved.specs.Slots.{slotIn, slotAt, systemIn, cellCount, frontText, cellLong, systemLong};
+ghost use Rattle.saved.specs.Slots.{slotIn, systemIn, cellCount, frontText, cellLong, systemLong};
 use crate::cells;
 use holding::Holding;
 use holding::Outline;
@@ -26,7 +26,7 @@ pub struct Slot {
     pub flag: bool,
 }
 
-// The same of one in parts: only its outline and its masks are looked at.
+// One of a holding in parts: its outline and its masks have it.
 pub fn slot_in(outline: Outline, satellites: &[u64; Holding::SYSTEMS], i: usize) -> Slot
     requires { ⌜ i < 5 ⌝ }
     ensures { λ r. ⌜ r ≡ slotIn outline (now (satellites .entry)) i ⌝ }
@@ -36,18 +36,6 @@ pub fn slot_in(outline: Outline, satellites: &[u64; Holding::SYSTEMS], i: usize)
         satellites: satellites[i],
         signals: outline.signals[i],
         flag: outline.flags[i],
-    }
-}
-
-pub fn slot_at(h: Holding, i: usize) -> Slot
-    requires { ⌜ i < 5 ⌝ }
-    ensures { λ r. ⌜ r ≡ slotAt h i ⌝ }
-{
-    Slot {
-        id: h.ids[i],
-        satellites: h.satellites[i],
-        signals: h.signals[i],
-        flag: h.flags[i],
     }
 }
 

@@ -123,19 +123,8 @@ fn mask_fits(head: Head, systems: usize, count: usize) -> bool
     requires { ⌜ systems ≤ 255 ⌝ }
     ensures { λ r. ⌜ r ≡ maskRight head systems count ⌝ }
 {
-    if !front::common_fits(head, front::MASK_EPOCH) {
-        return false;
-    }
-    if !is(head.a, systems as u64) {
-        return false;
-    }
-    if !is_absent(head.b) {
-        return false;
-    }
-    if !is_absent(head.c) {
-        return false;
-    }
-    count == 0
+    let rest = is_absent(head.b) & (is_absent(head.c) & (count == 0));
+    front::common_fits(head, front::MASK_EPOCH) & (is(head.a, systems as u64) & rest)
 }
 
 // How many bits a mask message has before its systems.
