@@ -2,11 +2,12 @@
 # bench/read.sh: instructions of reading whole stretches, the holding kept, through the host interface ('host'), with a
 # decoder in C that is tuned ('tuned') and with one that gets its fields bit by bit ('bitwise'), by walks and message by
 # message; as the tables of docs/PERFORMANCE.md. Fails where they do not hand out the same, also for damaged stretches,
-# or a walk is not its readings one after another.
+# or a walk is not its readings one after another. The stack of the functions for lines is measured here, too.
 set -eu
 cd "$(dirname "$0")/.."
 . bench/lib/measure.sh
 build_read
+build_texts
 
 # columns NUMBER..: as the columns of a table
 columns() {
@@ -80,6 +81,6 @@ stops_row $totals
 echo
 echo '| function | deepest stack, bytes |'
 echo '|---|---|'
-for function in empty read walk; do
+for function in empty read walk save load line; do
     stack_row $function
 done

@@ -4,6 +4,7 @@ set -eu
 cd "$(dirname "$0")/.."
 . bench/lib/measure.sh
 build_read
+build_texts
 build_write
 build_fields
 build_listing
