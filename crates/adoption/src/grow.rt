@@ -4,8 +4,8 @@ ghost use Prim.Native.Nat.{_+_, _-_, _*_, _^_, _≤_, _<_};
 ghost use lib.Count.{ones};
 ghost use lib.ListN.{length, drop, replicate};
 ghost use lib.Seq.{sets};
-ghost use Rattle.adoption.specs.Growing.{windowFor};
-ghost use Rattle.adoption.specs.Stages.{cellBits, systemAt};
+ghost use Rattle.adoption.specs.Growing.{Grows, windowFor};
+ghost use Rattle.adoption.specs.Stages.{systemAt};
 ghost use Rattle.bits.specs.BitLists.{spell, bits};
 ghost use Rattle.holding.specs.Building.{onesIn};
 ghost use Rattle.holding.specs.Pictures.{stripsFrom, stripsOf};
@@ -95,7 +95,7 @@ pub fn strips(
     bytes: &[u8],
     place: usize,
 ) -> usize
-    requires { ⌜ (from + ones (m .satellites) ≤ 64) × (m .satellites < 2 ^ 40) × (place + cellBits m flag ≤ 8 * length (now bytes)) × (place < 2 ^ 32) × (drop from (now strips) ≡ replicate (64 - from) 0) ⌝ }
+    requires { ⌜ Grows (now strips) from m flag (now bytes) place ⌝ }
     ensures { λ r. ⌜ (r ≡ onesIn (stripsOf (systemAt (now (bytes .entry)) m flag place))) × (r ≤ 1024) ⌝ }
     ensures { λ _. ⌜ now (strips .exit) ≡ sets (now (strips .entry)) from (stripsOf (systemAt (now (bytes .entry)) m flag place)) ⌝ }
 {

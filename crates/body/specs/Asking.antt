@@ -7,12 +7,13 @@ use lib.ListN.{length}
 use Rattle.format.specs.Masks.{Satellite}
 use Rattle.format.specs.Rows.{Line, bodyWidth}
 use Rattle.rows.specs.declared.shape.Shape.{Shape}
-use Rattle.rows.specs.Shapes.{columnsIn, FormedShape}
+use Rattle.holding.specs.Held.{slotSatellites}
+use Rattle.rows.specs.Shapes.{columnsIn, FormedShape, Narrow}
 use Rattle.table.specs.Bodies.{linesIn, Fits}
 use Rattle.body.specs.declared.Placed.{Placed}
 use Rattle.body.specs.declared.Wanted.{Wanted}
 use Rattle.body.specs.Chosen.{alone, striped, chosenLines}
-use Rattle.body.specs.Lent.{viewBy, Lent}
+use Rattle.body.specs.Lent.{viewBy, Lent, Slots}
 use Rattle.body.specs.Written.{Room}
 
 -- the lines that are wanted: one for each satellite, or one for each cell
@@ -27,6 +28,12 @@ pub record Asks (Kind : Shape → Type 0) (lines : List Line) (bytes : List ℕ)
   pub formed : FormedShape (wanted .shape)
   pub kind : Kind (wanted .shape)
   pub room : Room lines bytes (wanted .at) rows
+
+-- the cells of all slots, each satellite with its strip
+abbrev pub AsksCells : List ℕ → List ℕ → List ℕ → List ℕ → Wanted → List ℤ → Type 0
+AsksCells ids masks strips bytes wanted rows =
+    let sats = slotSatellites ids masks in
+    Slots ids masks × (length sats ≤ length strips) × Asks Narrow (stripedIn wanted sats strips) bytes wanted rows
 
 -- a body under what is lent, of so many bits, and room for its rows
 pub record Fills (ids masks strips : List ℕ) (placed : Placed) (rows : List ℤ) : Type 0 where

@@ -4,9 +4,8 @@ ghost use Prim.Native.Nat.{_≤_, _<_, _^_};
 ghost use lib.Count.{ones};
 ghost use lib.ListN.{length};
 ghost use Rattle.bits.specs.BitLists.{spell};
-ghost use Rattle.body.specs.Asking.{stripedIn, Asks};
+ghost use Rattle.body.specs.Asking.{stripedIn, Asks, AsksCells};
 ghost use Rattle.body.specs.Chosen.{satelliteOf, cellsIn, striped};
-ghost use Rattle.body.specs.Lent.{Slots};
 ghost use Rattle.body.specs.Written.{numbersAt, Room, Wrote, Handed};
 ghost use Rattle.format.specs.Lengths.{total};
 ghost use Rattle.format.specs.Masks.{pick};
@@ -95,7 +94,7 @@ pub fn fill(
     bytes: &[u8],
     rows: &mut [i32],
 )
-    requires { ⌜ Slots (now ids) (now masks) × (length (slotSatellites (now ids) (now masks)) ≤ length (now strips)) × Asks Narrow (stripedIn wanted (slotSatellites (now ids) (now masks)) (now strips)) (now bytes) wanted (now rows) ⌝ }
+    requires { ⌜ AsksCells (now ids) (now masks) (now strips) (now bytes) wanted (now rows) ⌝ }
     ensures { λ _. ⌜ now (rows .exit) ≡ over (numbersAt (stripedIn wanted (slotSatellites (now (ids .entry)) (now (masks .entry))) (now (strips .entry))) (now (bytes .entry)) (wanted .at)) (now (rows .entry)) ⌝ }
 {
     let shape = wanted.shape;

@@ -7,12 +7,12 @@ use lib.Dec.{eqb}
 use lib.IntN.{ℤ}
 use lib.ListN.{length}
 use Rattle.body.specs.Asking.{Fills}
-use Rattle.body.specs.Lent.{viewBy}
+use Rattle.body.specs.Lent.{viewBy, Lends}
 use Rattle.body.specs.Written.{numbersAt, windowed}
 use Rattle.format.specs.declared.Answer.the-variants as Answers
 use Rattle.format.specs.Reading.{Outcome, answerOf, over, rowsAfter}
 use Rattle.heads.specs.declared.heading.Heading.{Heading}
-use Rattle.heads.specs.Headings.{saidBy}
+use Rattle.heads.specs.Headings.{saidBy, FitsHeading}
 use Rattle.heads.specs.Sorting.{headedAt}
 use Rattle.holding.specs.declared.Holding.{Holding}
 use Rattle.holding.specs.Held.{View, viewOf}
@@ -21,8 +21,13 @@ use Rattle.reader.specs.declared.message.Finding.{Finding}
 use Rattle.reader.specs.declared.message.Finding.the-variants as Findings
 use Rattle.reader.specs.declared.message.Found.{Found}
 use Rattle.reader.specs.declared.message.Found.the-variants.{Mask, Answered}
-use Rattle.reader.specs.Readings.{readAt, foundAt}
+use Rattle.reader.specs.Readings.{Ready, Begins, readAt, foundAt}
 use Rattle.table.specs.Bodies.{linesIn}
+
+-- a heading under what is held, whose slots' IDs, masks and strips are lent
+abbrev pub AsksBody : Holding → Heading → List ℕ → List ℕ → ℕ → List ℤ → Type 0
+AsksBody h heading ids bytes end rows =
+    Ready h bytes end rows × Lends h ids (h .satellites) (h .strips) × FitsHeading heading × Begins end (saidBy (viewOf h) heading)
 
 -- what it is once all rows are there, and the row buffer then
 unfoldable pub settled : Finding → Found

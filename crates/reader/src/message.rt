@@ -8,13 +8,11 @@ ghost use Rattle.format.specs.Messages.{maskMessage};
 ghost use Rattle.format.specs.Programs.{run};
 ghost use Rattle.format.specs.Reading.{stretchLimit, bitsFrom};
 ghost use Rattle.heads.specs.Fronts.{Opens};
-ghost use Rattle.heads.specs.Headings.{saidBy, FitsHeading};
 ghost use Rattle.heads.specs.Sorting.{adoptedBy};
-ghost use Rattle.holding.specs.Held.{viewOf};
 ghost use Rattle.holding.specs.Outlines.{wholeOf};
 ghost use Rattle.holding.specs.Pictures.{maskOf, sound};
-ghost use Rattle.reader.specs.Readings.{readingOf, unopenedAt, Ready, Begins};
-ghost use Rattle.reader.specs.Findings.{Headed, Finds};
+ghost use Rattle.reader.specs.Readings.{readingOf, unopenedAt, Ready};
+ghost use Rattle.reader.specs.Findings.{AsksBody, Headed, Finds};
 use crate::Reading;
 use bits::rest::zero_from;
 use body::Placed;
@@ -57,7 +55,7 @@ fn body_of(
     end: usize,
     rows: &mut [i32],
 ) -> Finding
-    requires { ⌜ Ready (wholeOf outline (now masks) (now strips)) (now bytes) end (now rows) × Lends (wholeOf outline (now masks) (now strips)) (now ids) (now masks) (now strips) × FitsHeading heading × Begins end (saidBy (viewOf (wholeOf outline (now masks) (now strips))) heading) ⌝ }
+    requires { ⌜ AsksBody (wholeOf outline (now masks) (now strips)) heading (now ids) (now bytes) end (now rows) ⌝ }
     ensures { λ r. ⌜ Headed (wholeOf outline (now (masks .entry)) (now (strips .entry))) heading (now (ids .entry)) (now (bytes .entry)) end (now (rows .entry)) (now (rows .exit)) r ⌝ }
 {
     match heading {

@@ -2,7 +2,7 @@
 use mathlib.Core.Bool.{true, false, cond}
 use mathlib.Core.List.{List, _∷_, _++_}
 use mathlib.Core.Path.{_≡_}
-use Prim.Native.Nat.{ℕ, _+_, _-_, _*_, _/_}
+use Prim.Native.Nat.{ℕ, _+_, _-_, _*_, _/_, _≤_}
 use lib.Count.{ones}
 use lib.Dec.{eqb}
 use lib.ListN.{length, getD, drop}
@@ -34,6 +34,10 @@ systemIn s strips = systemOf (s .id) (s .satellites) (s .signals) (s .flag) stri
 -- the systems in the slots from one on, with the strips from one on
 abbrev pub systemsFrom : Holding → ℕ → ℕ → List System
 systemsFrom h i n = systemsOf (h .count - i) (drop i (h .ids)) (drop i (h .satellites)) (drop i (h .signals)) (drop i (h .flags)) (drop n (h .strips))
+
+-- a sound holding, and room for a text from a place of a line on
+abbrev pub HasRoom : Holding → List ℕ → ℕ → List ℕ → Type 0
+HasRoom h text at line = (sound h ≡ true) × (at + length text ≤ length line)
 
 -- how many bits its cell mask has
 abbrev pub cellCount : Slot → ℕ

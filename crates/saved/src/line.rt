@@ -10,7 +10,7 @@ ghost use Rattle.format.specs.Same.{sameList};
 ghost use Rattle.format.specs.Saved.{systemText, heldText, lineOf};
 ghost use Rattle.holding.specs.Outlines.{wholeOf};
 ghost use Rattle.holding.specs.Pictures.{maskOf, sound};
-ghost use Rattle.saved.specs.Slots.{Outlined, systemsFrom};
+ghost use Rattle.saved.specs.Slots.{Outlined, HasRoom, systemsFrom};
 use crate::systems;
 use holding::Holding;
 use holding::Outline;
@@ -63,7 +63,7 @@ fn systems_text(
     satellites: &[u64; Holding::SYSTEMS],
     strips: &[u16; Holding::SATELLITES],
 ) -> usize
-    requires { ⌜ (sound (wholeOf outline (now satellites) (now strips)) ≡ true) × (at + length (flatMap systemText (systemsFrom (wholeOf outline (now satellites) (now strips)) 0 0)) ≤ length (now line)) ⌝ }
+    requires { ⌜ HasRoom (wholeOf outline (now satellites) (now strips)) (flatMap systemText (systemsFrom (wholeOf outline (now satellites) (now strips)) 0 0)) at (now line) ⌝ }
     ensures { λ r. ⌜ r ≡ at + length (flatMap systemText (systemsFrom (wholeOf outline (now (satellites .entry)) (now (strips .entry))) 0 0)) ⌝ }
     ensures { λ _. ⌜ now (line .exit) ≡ sets (now (line .entry)) at (flatMap systemText (systemsFrom (wholeOf outline (now (satellites .entry)) (now (strips .entry))) 0 0)) ⌝ }
 {
@@ -87,7 +87,7 @@ fn held_text(
     satellites: &[u64; Holding::SYSTEMS],
     strips: &[u16; Holding::SATELLITES],
 ) -> usize
-    requires { ⌜ (sound (wholeOf outline (now satellites) (now strips)) ≡ true) × (at + length (heldText (maskOf (wholeOf outline (now satellites) (now strips)))) ≤ length (now line)) ⌝ }
+    requires { ⌜ HasRoom (wholeOf outline (now satellites) (now strips)) (heldText (maskOf (wholeOf outline (now satellites) (now strips)))) at (now line) ⌝ }
     ensures { λ r. ⌜ r ≡ at + length (heldText (maskOf (wholeOf outline (now (satellites .entry)) (now (strips .entry))))) ⌝ }
     ensures { λ _. ⌜ now (line .exit) ≡ sets (now (line .entry)) at (heldText (maskOf (wholeOf outline (now (satellites .entry)) (now (strips .entry))))) ⌝ }
 {
