@@ -16,7 +16,6 @@ use Rattle.format.specs.Writing.{rowsIn}
 use Rattle.holding.specs.declared.Holding.{Holding}
 use Rattle.holding.specs.Held.{View, viewOf}
 use Rattle.holding.specs.Pictures.{maskOf, sound}
-use Rattle.rows.specs.declared.shape.Shape.{Shape}
 use Rattle.rows.specs.Shapes.{columnsIn}
 use Rattle.rows.specs.Table.{shapeFor}
 use Rattle.table.specs.Bodies.{linesIn, Fits}
@@ -61,12 +60,9 @@ pub record Keyed (v : View) (p : Plan) (rows : List (List ℤ)) : Type 0 where
   pub four : p .keyed ≡ true → p .body .shape < 4
   pub rest : p .keyed ≡ true → rowsFit (linesIn v (p .body)) rows ≡ (eqb (p .told) (8 * length rows) && rowsValued (columnsIn (shapeFor (p .body .shape))) rows)
 
--- a plan for rows under what is held, with the shape of its rows; and one at a place of the bytes
-abbrev pub AsksRows : Holding → Plan → Shape → List ℤ → Type 0
-AsksRows h p s numbers = (sound h ≡ true) × Made p × Keyed (viewOf h) p (rowsOf numbers) × (s ≡ shapeFor (p .body .shape))
-
-abbrev pub AsksPlan : Holding → Plan → List ℤ → List ℕ → Type 0
-AsksPlan h p numbers bytes = (sound h ≡ true) × Made p × Keyed (viewOf h) p (rowsOf numbers) × (p .pen .place ≤ Writing.limit bytes)
+-- a plan for rows under what is held, and what is asked beside that
+abbrev pub AsksPlan : Holding → Plan → List ℤ → Type 0 → Type 0
+AsksPlan h p numbers Also = (sound h ≡ true) × Made p × Keyed (viewOf h) p (rowsOf numbers) × Also
 
 -- what writing it with rows comes to
 unfoldable pub planned : View → Plan → List (List ℤ) → List ℕ → Writing.Written

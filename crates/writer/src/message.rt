@@ -18,7 +18,7 @@ ghost use Rattle.rows.specs.Shapes.{columnsIn};
 ghost use Rattle.rows.specs.Table.{shapeFor};
 ghost use Rattle.pens.specs.Pens.{spellFields};
 ghost use Rattle.writer.specs.Stages.{answered};
-ghost use Rattle.writer.specs.Written.{planFields, Puts, AsksRows, AsksPlan, rowsOf, planned, maskRight, masked};
+ghost use Rattle.writer.specs.Written.{planFields, Puts, AsksPlan, rowsOf, planned, maskRight, masked};
 use crate::Writing;
 use crate::front;
 use crate::plan::Plan;
@@ -76,7 +76,7 @@ fn rows_right(
     s: Shape,
     rows: &[i32],
 ) -> bool
-    requires { ⌜ AsksRows (wholeOf outline (now masks) (now strips)) plan s (now rows) ⌝ }
+    requires { ⌜ AsksPlan (wholeOf outline (now masks) (now strips)) plan (now rows) (s ≡ shapeFor (plan .body .shape)) ⌝ }
     ensures { λ r. ⌜ r ≡ rowsFit (linesIn (viewOf (wholeOf outline (now (masks .entry)) (now (strips .entry)))) (plan .body)) (rowsOf (now (rows .entry))) ⌝ }
 {
     let count = rows.len() / ROW;
@@ -99,7 +99,7 @@ pub fn with_rows(
     rows: &[i32],
     bytes: &mut [u8],
 ) -> Writing
-    requires { ⌜ AsksPlan (wholeOf outline (now masks) (now strips)) plan (now rows) (now bytes) ⌝ }
+    requires { ⌜ AsksPlan (wholeOf outline (now masks) (now strips)) plan (now rows) (plan .pen .place ≤ limit (now bytes)) ⌝ }
     ensures { λ r. ⌜ r ≡ answered (plan .pen .place) (planned (viewOf (wholeOf outline (now (masks .entry)) (now (strips .entry)))) plan (rowsOf (now (rows .entry))) (now (bytes .entry))) ⌝ }
     ensures { λ _. ⌜ now (bytes .exit) ≡ bytesAfter (planned (viewOf (wholeOf outline (now (masks .entry)) (now (strips .entry)))) plan (rowsOf (now (rows .entry))) (now (bytes .entry))) (now (bytes .entry)) (plan .pen .place) ⌝ }
 {
