@@ -84,6 +84,14 @@ impl Outline {
         )
     }
 
+    // A new mask replaces what was held, whole; its masks and strips stand where the old ones did.
+    pub fn adopt(mut self, new: Outline) -> Self
+        ensures { λ r. ⌜ r ≡ new ⌝ }
+    {
+        self = new;
+        self
+    }
+
     // The holding that it is with these masks and strips.
     pub fn with(
         self,
@@ -169,14 +177,6 @@ impl Holding {
             nsat: self.nsat,
             ncell: self.ncell,
         }
-    }
-
-    // A new mask replaces what was held, whole.
-    pub fn adopt(mut self, new: Holding) -> Self
-        ensures { λ r. ⌜ r ≡ new ⌝ }
-    {
-        self = new;
-        self
     }
 
     // With the slot of one more system, whose strips are there.

@@ -111,37 +111,6 @@ fn hand(answer: Answer, start: usize) -> Handed
     }
 }
 
-// Adopts the mask message behind its number and sub type: where it is accepted, the holding's bytes are the mask's.
-fn adopt(holding: &mut [u8], bytes: &[u8], end: usize, place: usize) -> Answer
-    requires { ⌜ Within (now bytes) end place × (sound (holdingIn (now holding)) ≡ true) × (size ≤ length (now holding)) × (over (bytesOf (holdingIn (now holding))) (now holding) ≡ now holding) ⌝ }
-    ensures { λ r. ⌜ r ≡ answerOf (adoptedBy (maskOf (holdingIn (now (holding .entry)))) place (run maskMessage (bitsFrom (now (bytes .entry)) end place))) ⌝ }
-    ensures { λ _. ⌜ now (holding .exit) ≡ bytesAfter (lentAfter (adoptedBy (maskOf (holdingIn (now (holding .entry)))) place (run maskMessage (bitsFrom (now (bytes .entry)) end place)))) (now (holding .entry)) ⌝ }
-{
-    let mut satellites = [0u64; Holding::SYSTEMS];
-    let mut strips = [0u16; Holding::SATELLITES];
-    let adoption = adoption::adopt(bytes, end, place, &mut satellites, &mut strips);
-    let answer = adoption.answer;
-    let outline = adoption.outline;
-    if let Answer::Message(_, _, _) = answer {
-        let new = outline.with(satellites, strips);
-        passing::give::holding_over(holding, new);
-    }
-    answer
-}
-
-// Makes the empty holding.
-#[no_mangle]
-pub extern "C" fn hundurzek_empty(holding: &mut [u8]) -> u64
-    ensures { λ r. ⌜ r ≡ emptiedNumber (now (holding .entry)) ⌝ }
-    ensures { λ _. ⌜ now (holding .exit) ≡ emptied (now (holding .entry)) ⌝ }
-{
-    if holding.len() < passing::SIZE {
-        return 1;
-    }
-    passing::give::holding_over(holding, Holding::empty());
-    0
-}
-
 // What lent bytes say, in parts: masks and strips into what is lent for them. The struct lives here alone, and what comes
 // after it can lie at its place of the stack.
 fn opened(
@@ -157,6 +126,39 @@ fn opened(
     *satellites = masks;
     *strips = cells;
     held.outline()
+}
+
+// Adopts the mask message behind its number and sub type: where it is accepted, the holding's bytes are the mask's.
+fn adopt(holding: &mut [u8], bytes: &[u8], end: usize, place: usize) -> Answer
+    requires { ⌜ Within (now bytes) end place × (sound (holdingIn (now holding)) ≡ true) × (size ≤ length (now holding)) × (over (bytesOf (holdingIn (now holding))) (now holding) ≡ now holding) ⌝ }
+    ensures { λ r. ⌜ r ≡ answerOf (adoptedBy (maskOf (holdingIn (now (holding .entry)))) place (run maskMessage (bitsFrom (now (bytes .entry)) end place))) ⌝ }
+    ensures { λ _. ⌜ now (holding .exit) ≡ bytesAfter (lentAfter (adoptedBy (maskOf (holdingIn (now (holding .entry)))) place (run maskMessage (bitsFrom (now (bytes .entry)) end place)))) (now (holding .entry)) ⌝ }
+{
+    let mut satellites = [0u64; Holding::SYSTEMS];
+    let mut strips = [0u16; Holding::SATELLITES];
+    let held = opened(holding, &mut satellites, &mut strips);
+    let adoption = adoption::adopt(bytes, end, place, &mut satellites, &mut strips);
+    let answer = adoption.answer;
+    let new = adoption.outline;
+    if let Answer::Message(_, _, _) = answer {
+        let after = held.adopt(new);
+        let whole = after.with(satellites, strips);
+        passing::give::holding_over(holding, whole);
+    }
+    answer
+}
+
+// Makes the empty holding.
+#[no_mangle]
+pub extern "C" fn hundurzek_empty(holding: &mut [u8]) -> u64
+    ensures { λ r. ⌜ r ≡ emptiedNumber (now (holding .entry)) ⌝ }
+    ensures { λ _. ⌜ now (holding .exit) ≡ emptied (now (holding .entry)) ⌝ }
+{
+    if holding.len() < passing::SIZE {
+        return 1;
+    }
+    passing::give::holding_over(holding, Holding::empty());
+    0
 }
 
 // Reads one message, unless it is a mask. What is held is here alone: it and the holding that a mask makes can then lie

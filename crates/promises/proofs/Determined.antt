@@ -7,6 +7,7 @@ use Prim.Native.Nat.{ℕ}
 use contract.Lifetimes.{Lfts}
 use borrow.Fn.Kinds.{PK, RK, Out, Dens}
 use Rattle.holding.proofs.Holding as holding
+use Rattle.holding.proofs.Outline as outline
 use Rattle.host.proofs as host
 use Rattle.host_write.proofs as host_write
 use Rattle.lines.proofs as lines
@@ -46,7 +47,7 @@ pub is-sound-determined : Determined holding.is_sound.Kinds.ps holding.is_sound.
 is-sound-determined = says _ _ _ λ κs args x v p. (p, refl)
 
 -- "adopting takes mut self and hands the new holding back"
-pub adopt-determined : Determined holding.adopt.Kinds.ps holding.adopt.Kinds.r holding.adopt.Reads.Learnt
+pub adopt-determined : Determined outline.adopt.Kinds.ps outline.adopt.Kinds.r outline.adopt.Reads.Learnt
 adopt-determined = says _ _ _ λ κs args x v p. (p, refl)
 
 -- ---- reader

@@ -89,14 +89,15 @@ pub fn adopted(holding: Holding, bytes: &[u8], end: usize, place: usize) -> Read
 {
     let mut satellites = holding.satellites;
     let mut strips = holding.strips;
+    let held = holding.outline();
     let adoption = adoption::adopt(bytes, end, place, &mut satellites, &mut strips);
     let answer = adoption.answer;
-    let outline = adoption.outline;
+    let new = adoption.outline;
     if let Answer::Message(_, _, _) = answer {
-        let new = outline.with(satellites, strips);
+        let after = held.adopt(new);
         return Reading {
             answer,
-            holding: holding.adopt(new),
+            holding: after.with(satellites, strips),
         };
     }
     Reading { answer, holding }

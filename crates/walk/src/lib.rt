@@ -98,7 +98,8 @@ fn on(
                 outline,
             };
         };
-        outline = adoption.outline;
+        let new = adoption.outline;
+        outline = outline.adopt(new);
         tally = Tally {
             place: next,
             messages: here.messages + 1,

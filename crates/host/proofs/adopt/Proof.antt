@@ -10,6 +10,8 @@ use Rattle.format.specs.Programs.{run}
 use Rattle.format.specs.Reading.{Outcome, bitsFrom, lentAfter, answerOf, over}
 use Rattle.heads.specs.Sorting.{adoptedBy}
 use Rattle.holding.specs.declared.Holding.{Holding}
+use Rattle.holding.specs.declared.Outline.{Outline}
+use Rattle.holding.specs.Outlines.{wholeOf}
 use Rattle.holding.specs.Pictures.{maskOf, sound}
 use Rattle.holding.proofs.Sounds.{sounds}
 use Rattle.host.specs.Handing.{bytesAfter}
@@ -23,7 +25,7 @@ use Rattle.reader.specs.Readings.{structOf, readingOf}
 
 module _ (c : tie.After-adopt) where
   abbrev s : tie.Start
-  s = c .before .before .before .before .before
+  s = c .before .before .before .before .before .before .before .before .before
 
   -- what the lent bytes say
   abbrev held : Holding
@@ -42,11 +44,13 @@ module _ (c : tie.After-adopt) where
 -- accepted: the holding made is what is held
 module _ (c : tie.After-with) where
   abbrev a : tie.After-adopt
-  a = c .before .before .before .before
+  a = c .before .before .before .before .before
 
   after : c .with .result ≡ structOf (held a) (lentAfter (outcome a))
   unfolding endFrom readingOf
-  after = c .with .ensures ∙ ap (λ (r : Reading). r .holding) (adopted-new (held a) (s a .pre .1) (s a .args .place) _ _ _ (a .adopt .ensures) (c .before .before .match .keys1))
+  after =
+      c .with .ensures ∙ ap (λ (o : Outline). wholeOf o (a .adopt .last .1 .1 .1 .0) (a .adopt .last .1 .1 .1 .1 .0)) (c .before .adopt2 .ensures)
+      ∙ ap (λ (r : Reading). r .holding) (adopted-new (held a) (s a .pre .1) (s a .args .place) _ _ _ (a .adopt .ensures) (c .before .before .before .match .keys1))
 
 holding-over-requires : tie.Need-holding-over-requires
 holding-over-requires c κs =
@@ -71,4 +75,7 @@ returns-2 c =
     (answered a, sym (ap (λ (l : Lent). bytesAfter l (x .holding .now)) stays ∙ ap (λ (h : Holding). over (bytesOf h) (x .holding .now)) (sounds (held a) (s a .pre .1) .picture) ∙ s a .pre .3))
 
 pub adopt-spec : {M : Type 1} → statement M
-adopt-spec = tie.close (tie.spec (λ c κs. search needs) (λ c. search needs) (λ c κs. search needs) holding-over-requires (λ c. search needs) returns returns-2)
+adopt-spec =
+    tie.close
+    (tie.spec (λ c κs. search needs) (λ c κs. search needs) (λ c. search needs) (λ c κs. search needs) (λ c κs. search needs) holding-over-requires (λ c. search needs) returns
+    (λ c. search needs) returns-2)

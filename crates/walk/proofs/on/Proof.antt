@@ -140,13 +140,13 @@ module _ (c : tie.After-fill Inv-loop μ-loop) where
       passes (bytes (m k)) (end (m k)) (l (m k) .loop .inv .0) (paused (m k)) (ap settled near ∙ ap Answered (k .before .answer .given .1)) filled
       (c .fill .ensures ∙ sym (ap (λ (f : Finding). settledRows f (view (m k)) (bytes (m k)) (left (m k))) near))
 
-add-t35 : tie.Need-add-t35 Inv-loop μ-loop
-add-t35 c =
+add-t36 : tie.Need-add-t36 Inv-loop μ-loop
+add-t36 c =
     let stands = passed (c .before .before) .stands in
     omega (arith, stands .few, stands .there, stands .limit)
 
-add-t36 : tie.Need-add-t36 Inv-loop μ-loop
-add-t36 c =
+add-t37 : tie.Need-add-t37 Inv-loop μ-loop
+add-t37 c =
     let stands = passed (c .before .before .before) .stands in
     omega (arith, stands .few, stands .there, stands .limit, stands .rows)
 
@@ -236,20 +236,21 @@ module _ (c : tie.After-known-told4 Inv-loop μ-loop) where
       let reads = adopted-new h (firm v) (place (q d)) (h .satellites) (h .strips) _ (d .adopt .ensures) (ap (tagOf Answer.the-type) (a .1)) ∙ sym (adopts d) in
       mask-goes _ _ (here v) (stands (q d)) (masked (q d)) _ reads (a .0 .0) (a .0 .1 .0) (a .0 .1 .1 .0) (a .1)
 
-add-t37 : tie.Need-add-t37 Inv-loop μ-loop
-add-t37 c =
-    let stands = goes (c .before .before) .stands in
+add-t38 : tie.Need-add-t38 Inv-loop μ-loop
+add-t38 c =
+    let stands = goes (c .before .before .before) .stands in
     omega (arith, stands .few, stands .there, stands .limit)
 
 loop-less-2 : tie.Need-loop-less-2 Inv-loop μ-loop
 loop-less-2 c =
-    let k = c .before .before in
+    let k = c .before .before .before in
     omega (arith, goes k .past, goes k .stands .there, arrived (v k) (far (q (d k))) .gone .forth)
 
 loop-again-2 : tie.Need-loop-again-2 Inv-loop μ-loop
 loop-again-2 c =
-    let k = c .before .before in
+    let k = c .before .before .before in
     let w = v k in
+    rw (c .before .adopt2 .ensures)
     (goes k .stands, gone-on (gone w (far (q (d k)))) (goes k .gone), w .under .kept .1 .1 .1 .1 .1 .1 .1 .0 ∙ l w .loop .inv .2)
 
 pub on-spec : {M : Type 1} → statement M
@@ -257,5 +258,5 @@ on-spec =
     tie.close
     (tie.spec Inv-loop μ-loop loop-holds (λ c κs. c .before .before .before .loop .inv .0) (λ c. search needs) (λ c. search needs) returns (λ c. search needs) (λ c. search needs) (λ c. search needs) returns-2
     (λ c. let w = m (c .before) in counted (hold w) (firm w)) (λ c. let w = m (c .before .before) in prefix (hold w) (firm w))
-    (λ c κs. fillable (c .before .before .before .before .before .before .before)) add-t35 add-t36 loop-less loop-again add-adopt (λ c κs. room (c .before .before .before))
-    (λ c. search needs) (λ c. search needs) returns-3 add-t37 loop-less-2 loop-again-2)
+    (λ c κs. fillable (c .before .before .before .before .before .before .before)) add-t36 add-t37 loop-less loop-again add-adopt (λ c κs. room (c .before .before .before))
+    (λ c. search needs) (λ c. search needs) returns-3 (λ c κs. search needs) add-t38 loop-less-2 loop-again-2)
