@@ -7,7 +7,4 @@ pub mod Slots
 pub mod Groups
 pub mod Sizes
 pub mod Bodies
-pub mod Tails
-pub mod Cuts
-pub mod Halving
-pub mod Endings
+pub mod Near

@@ -35,10 +35,11 @@ AsksCells ids masks strips bytes wanted rows =
     let sats = slotSatellites ids masks in
     Slots ids masks × (length sats ≤ length strips) × Asks Narrow (stripedIn wanted sats strips) bytes wanted rows
 
--- a body under what is lent, of so many bits, and room for its rows
+-- a body under what is lent, of so many bits and rows, and room for these
 pub record Fills (ids masks strips : List ℕ) (placed : Placed) (rows : List ℤ) : Type 0 where
   pub lent : Lent ids masks strips
   pub fits : Fits (placed .body)
   pub bits : placed .bits ≡ bodyWidth (linesIn (viewBy ids masks strips) (placed .body))
+  pub rows : placed .rows ≡ length (linesIn (viewBy ids masks strips) (placed .body))
   pub near : placed .at + placed .bits < 2 ^ 32
   pub room : 8 * length (linesIn (viewBy ids masks strips) (placed .body)) ≤ length rows

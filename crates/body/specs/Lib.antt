@@ -2,4 +2,4 @@ pub mod Chosen
 pub mod Lent
 pub mod Written
 pub mod Asking
-pub mod Cutting
+pub mod Near

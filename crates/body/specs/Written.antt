@@ -1,9 +1,7 @@
 -- How long a body is; what writing some rows asks of the part of the row buffer lent to it, and what it leaves there.
 use mathlib.Core.Path.{_≡_}
-use mathlib.Core.Bool.{Bool}
 use mathlib.Core.List.{List, flatten}
-use Prim.Native.Nat.{ℕ, _+_, _*_, _/_, _%_, _^_, _≤_, _<_}
-use lib.Dec.{leb}
+use Prim.Native.Nat.{ℕ, _+_, _*_, _%_, _^_, _≤_, _<_}
 use lib.IntN.{ℤ}
 use lib.ListN.{length}
 use Rattle.body.specs.declared.End.{End}
@@ -17,10 +15,6 @@ use Rattle.format.specs.Rows.{Line, bodyWidth}
 -- the numbers of all rows, one row after the other
 abbrev pub numbersAt : List Line → List ℕ → ℕ → List ℤ
 numbersAt lines bytes at = flatten (rowsAt lines bytes at)
-
--- behind a place the string goes on far enough for windows
-abbrev pub windowed : List ℕ → ℕ → Bool
-windowed bytes next = leb ((next + 127) / 8) (length bytes)
 
 -- the part has room for the rows, no number and no place is as far as 2 ^ 32, and windows are there up to the last row
 pub record Room (lines : List Line) (bytes : List ℕ) (at : ℕ) (rows : List ℤ) : Type 0 where

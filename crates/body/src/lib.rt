@@ -1,13 +1,11 @@
 // The body of a message: one reader of rows over their shapes, for all sub types.
 pub mod cells;
-pub mod ending;
+pub mod near;
 pub mod packet;
 pub mod satellites;
-pub mod tail;
 pub mod whole;
 
 ghost use mathlib.Core.Path.{_≡_};
-ghost use mathlib.Core.Bool.{cond};
 ghost use Prim.Native.Nat.{_+_, _-_, _*_, _^_, _≤_};
 ghost use lib.Count.{ones};
 ghost use lib.ListN.{length, take};
@@ -15,7 +13,7 @@ ghost use Rattle.bits.specs.BitLists.{spell};
 ghost use Rattle.body.specs.Asking.{Fills};
 ghost use Rattle.body.specs.Chosen.{alone, chosenLines};
 ghost use Rattle.body.specs.Lent.{viewBy, Slots, Sized};
-ghost use Rattle.body.specs.Written.{numbersAt, windowed, Counts};
+ghost use Rattle.body.specs.Written.{numbersAt, Counts};
 ghost use Rattle.format.specs.Lengths.{total};
 ghost use Rattle.format.specs.Masks.{pick};
 ghost use Rattle.format.specs.Reading.{over};
@@ -34,10 +32,11 @@ pub struct Extent {
     pub rows: usize,
 }
 
-// A body, how many bits it has, and the place where they begin.
+// A body, how many bits and rows it has, and the place where it begins.
 pub struct Placed {
     pub body: Body,
     pub bits: usize,
+    pub rows: usize,
     pub at: usize,
 }
 
@@ -126,9 +125,9 @@ pub fn size(
     }
 }
 
-// The rows of a body under the slots and strips that are lent, into the row buffer, and whether they are there: where the
-// string ends too soon behind the body for windows they are left to ending::fill. (It would take more of the stack: who
-// reads message after message hands such a body out first.)
+// The rows of a body under the slots and strips that are lent, into the row buffer. Where the string ends too soon behind
+// the body for windows their values come last. (Rows are written at one place of the code for both, so that this function
+// becomes part of the loop over messages.)
 pub fn fill(
     ids: &[u8],
     masks: &[u64],
@@ -136,14 +135,22 @@ pub fn fill(
     placed: Placed,
     bytes: &[u8],
     rows: &mut [i32],
-) -> bool
+)
     requires { ⌜ Fills (now ids) (now masks) (now strips) placed (now rows) ⌝ }
-    ensures { λ r. ⌜ r ≡ windowed (now (bytes .entry)) (placed .at + placed .bits) ⌝ }
-    ensures { λ _. ⌜ now (rows .exit) ≡ cond (windowed (now (bytes .entry)) (placed .at + placed .bits)) (over (numbersAt (linesIn (viewBy (now (ids .entry)) (now (masks .entry)) (now (strips .entry))) (placed .body)) (now (bytes .entry)) (placed .at)) (now (rows .entry))) (now (rows .entry)) ⌝ }
+    ensures { λ _. ⌜ now (rows .exit) ≡ over (numbersAt (linesIn (viewBy (now (ids .entry)) (now (masks .entry)) (now (strips .entry))) (placed .body)) (now (bytes .entry)) (placed .at)) (now (rows .entry)) ⌝ }
 {
-    if (placed.at + placed.bits + 127) / 8 > bytes.len() {
-        return false;
+    let near = (placed.at + placed.bits + 127) / 8 > bytes.len();
+    let zeros = [0u8; near::ZEROS];
+    let first = near::body(near, placed);
+    whole::fill(
+        ids,
+        masks,
+        strips,
+        first,
+        near::string(near, bytes, &zeros),
+        rows,
+    );
+    if near {
+        near::values(placed, bytes, rows);
     }
-    whole::fill(ids, masks, strips, placed, bytes, rows);
-    true
 }

@@ -1,2 +1,2 @@
 pub mod Readings
-pub mod Findings
+pub mod Bodies

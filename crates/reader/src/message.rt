@@ -6,13 +6,13 @@ ghost use lib.ListN.{length};
 ghost use Rattle.body.specs.Lent.{Lends};
 ghost use Rattle.format.specs.Messages.{maskMessage};
 ghost use Rattle.format.specs.Programs.{run};
-ghost use Rattle.format.specs.Reading.{stretchLimit, bitsFrom};
+ghost use Rattle.format.specs.Reading.{stretchLimit, answerOf, rowsAfter, bitsFrom};
 ghost use Rattle.heads.specs.Fronts.{Opens};
 ghost use Rattle.heads.specs.Sorting.{adoptedBy};
 ghost use Rattle.holding.specs.Outlines.{wholeOf};
 ghost use Rattle.holding.specs.Pictures.{maskOf, sound};
-ghost use Rattle.reader.specs.Readings.{readingOf, unopenedAt, Ready};
-ghost use Rattle.reader.specs.Findings.{AsksBody, Headed, Finds};
+ghost use Rattle.reader.specs.Readings.{readingOf, readAt, unopenedAt, foundAt, Ready};
+ghost use Rattle.reader.specs.Bodies.{AsksBody, headedIn};
 use crate::Reading;
 use bits::rest::zero_from;
 use body::Placed;
@@ -35,14 +35,6 @@ pub enum Found {
     Answered(Answer),
 }
 
-// The same, or the answer beside the body whose rows are still to be filled: the string ends soon behind it. (The answer
-// lies where that of the other variant does, so that LLVM keeps its parts in registers.)
-pub enum Finding {
-    Mask,
-    Answered(Answer),
-    Near(Answer, Placed),
-}
-
 // The body that a heading says: its length is tested once, and only then are its rows written, and the slots and strips
 // lent for them: a message without rows copies none.
 fn body_of(
@@ -54,30 +46,30 @@ fn body_of(
     bytes: &[u8],
     end: usize,
     rows: &mut [i32],
-) -> Finding
+) -> Answer
     requires { ⌜ AsksBody (wholeOf outline (now masks) (now strips)) heading (now ids) (now bytes) end (now rows) ⌝ }
-    ensures { λ r. ⌜ Headed (wholeOf outline (now (masks .entry)) (now (strips .entry))) heading (now (ids .entry)) (now (bytes .entry)) end (now (rows .entry)) (now (rows .exit)) r ⌝ }
+    ensures { λ r. ⌜ r ≡ answerOf (headedIn (wholeOf outline (now (masks .entry)) (now (strips .entry))) heading (now (bytes .entry)) end) ⌝ }
+    ensures { λ _. ⌜ now (rows .exit) ≡ rowsAfter (headedIn (wholeOf outline (now (masks .entry)) (now (strips .entry))) heading (now (bytes .entry)) end) (now (rows .entry)) ⌝ }
 {
     match heading {
-        Heading::Refused(r, missing) => Finding::Answered(Answer::Refused(r, missing)),
+        Heading::Refused(r, missing) => Answer::Refused(r, missing),
         Heading::Rows(head, body, at) => {
             let size = body::size(outline.nsat, outline.ncell, ids, masks, strips, body);
             let left = end - at;
             if left < size.bits {
-                return Finding::Answered(Answer::Refused(Refusal::Short, size.bits - left));
+                return Answer::Refused(Refusal::Short, size.bits - left);
             }
             if size.rows == 0 {
-                return Finding::Answered(Answer::Message(head, at + size.bits, 0));
+                return Answer::Message(head, at + size.bits, 0);
             }
             let placed = Placed {
                 body,
                 bits: size.bits,
+                rows: size.rows,
                 at,
             };
-            if !body::fill(ids, masks, strips, placed, bytes, rows) {
-                return Finding::Near(Answer::Message(head, at + size.bits, size.rows), placed);
-            }
-            Finding::Answered(Answer::Message(head, at + size.bits, size.rows))
+            body::fill(ids, masks, strips, placed, bytes, rows);
+            Answer::Message(head, at + size.bits, size.rows)
         }
     }
 }
@@ -129,18 +121,19 @@ pub fn find(
     end: usize,
     start: usize,
     rows: &mut [i32],
-) -> Finding
+) -> Found
     requires { ⌜ Ready (wholeOf outline (now masks) (now strips)) (now bytes) end (now rows) × Lends (wholeOf outline (now masks) (now strips)) (now ids) (now masks) (now strips) × (start ≤ end) ⌝ }
-    ensures { λ r. ⌜ Finds (wholeOf outline (now (masks .entry)) (now (strips .entry))) (now (ids .entry)) (now (bytes .entry)) end start (now (rows .entry)) (now (rows .exit)) r ⌝ }
+    ensures { λ r. ⌜ r ≡ foundAt (wholeOf outline (now (masks .entry)) (now (strips .entry))) (now (bytes .entry)) end start ⌝ }
+    ensures { λ _. ⌜ now (rows .exit) ≡ rowsAfter (readAt (wholeOf outline (now (masks .entry)) (now (strips .entry))) (now (bytes .entry)) end start) (now (rows .entry)) ⌝ }
 {
     let front = heads::front_at(bytes, end, start);
     let opening = heads::open(front);
     match opening {
-        Opening::Refused(r, missing) => Finding::Answered(unopened(front, bytes, r, missing)),
+        Opening::Refused(r, missing) => Found::Answered(unopened(front, bytes, r, missing)),
         Opening::SubType(n) => {
             let kind = kind_of(n);
             if let Kind::Mask = kind {
-                return Finding::Mask;
+                return Found::Mask;
             }
             let seen = Seen {
                 held: outline.held,
@@ -149,7 +142,8 @@ pub fn find(
                 subtype: n,
             };
             let heading = heading::of(kind, seen, front, bytes);
-            body_of(outline, ids, masks, strips, heading, bytes, end, rows)
+            let answer = body_of(outline, ids, masks, strips, heading, bytes, end, rows);
+            Found::Answered(answer)
         }
     }
 }

@@ -1,20 +1,24 @@
 // One row, written: its three keys, and the values that its columns have at a place. Windows are read without a
-// test, so eight bytes have to be there from the byte of the row's last bit on.
+// test, so eight bytes have to be there from the byte of the row's last bit on; `values` alone tests each.
 ghost use mathlib.Core.Path.{_≡_};
-ghost use mathlib.Core.Bool.{_&&_, false};
+ghost use mathlib.Core.Bool.{_&&_, cond, false};
 ghost use mathlib.Core.List.{[], _∷_};
 ghost use Prim.Native.Nat.{_+_, _*_, _^_, _≤_, _<_};
 ghost use lib.Dec.{eqb, ltb};
 ghost use lib.IntN.{pos};
 ghost use lib.ListN.{length};
+ghost use lib.Signed.{mag};
 ghost use Rattle.bits.specs.Places.{field};
-ghost use Rattle.format.specs.Rows.{absent, valueOf};
-ghost use Rattle.rows.specs.At.{valuesAt};
-ghost use Rattle.rows.specs.Shapes.{columnOf, columnsOf, columnsIn, Formed, FormedShape, Laid, Narrow};
+ghost use Rattle.format.specs.Messages.{iodeWidth};
+ghost use Rattle.format.specs.Rows.{plain, absent, valueOf, shapeWidth};
+ghost use Rattle.rows.specs.At.{valuesAt, columnsOn, valuedAt};
+ghost use Rattle.rows.specs.Shapes.{columnFor, columnOf, columnsOf, columnsIn, Formed, FormedShape, Laid, Narrow};
 use crate::shape;
 use crate::shape::Column;
 use crate::shape::Shape;
 use crate::shapes;
+use bits::read::read_field;
+use bits::signed::magnitude;
 use bits::window;
 use format::ABSENT;
 
@@ -108,6 +112,21 @@ pub fn wide(row: &mut [i32], key: Key, bytes: &[u8], at: usize, s: Shape)
     store(row, key, v);
 }
 
+// A row of gaps.
+fn gaps(row: &mut [i32], key: Key)
+    requires { ⌜ length (now row) ≡ 8 ⌝ }
+    ensures { λ _. ⌜ now (row .exit) ≡ key .system ∷ key .satellite ∷ key .signal ∷ absent ∷ absent ∷ absent ∷ absent ∷ absent ∷ [] ⌝ }
+{
+    let v = Values {
+        v1: ABSENT,
+        v2: ABSENT,
+        v3: ABSENT,
+        v4: ABSENT,
+        v5: ABSENT,
+    };
+    store(row, key, v);
+}
+
 // A row of a cell. Document 01's have at most two columns: those are cut from one window, moved up so that the first of
 // them is highest.
 pub fn cell(row: &mut [i32], key: Key, bytes: &[u8], at: usize, s: Shape)
@@ -126,6 +145,8 @@ pub fn cell(row: &mut [i32], key: Key, bytes: &[u8], at: usize, s: Shape)
             v5: ABSENT,
         };
         store(row, key, v);
+    } else if s.v1.width + s.v2.width + s.v3.width == 0 {
+        gaps(row, key);
     } else {
         wide(row, key, bytes, at, s);
     }
@@ -169,4 +190,56 @@ pub fn satellite(row: &mut [i32], system: u8, number: i32, bytes: &[u8], at: usi
     } else {
         wide(row, key, bytes, at, s);
     }
+}
+
+// The first column of a row by its first key: an IODE is as wide as that system has it.
+fn first_column(s: Shape, system: i32) -> Column
+    ensures { λ r. ⌜ r ≡ cond (s .iode) (columnFor (plain (iodeWidth (mag system)))) (s .v1) ⌝ }
+{
+    if !s.iode {
+        return s.v1;
+    }
+    if magnitude(system) == shapes::GALILEO as u64 {
+        return shape::plain(shapes::iode(shapes::GALILEO));
+    }
+    shape::plain(shapes::iode(0))
+}
+
+// The value of a column that a row may have or not, wherever the string ends.
+fn tested(bytes: &[u8], at: usize, c: Column) -> i32
+    requires { ⌜ Formed c ⌝ }
+    ensures { λ r. ⌜ r ≡ valueOf (columnOf c) (field (now (bytes .entry)) at (c .width)) ⌝ }
+{
+    if c.width == 0 {
+        return ABSENT;
+    }
+    shape::value(read_field(bytes, at, c.width), c)
+}
+
+// The values of a row whose keys stand there, wherever the string ends; and the place behind them.
+pub fn values(row: &mut [i32], bytes: &[u8], at: usize, s: Shape) -> usize
+    requires { ⌜ (length (now row) ≡ 8) × (at < 2 ^ 33) × FormedShape s ⌝ }
+    ensures { λ r. ⌜ r ≡ at + shapeWidth (columnsOn s (now (row .entry))) ⌝ }
+    ensures { λ _. ⌜ now (row .exit) ≡ valuedAt s (now (bytes .entry)) at (now (row .entry)) ⌝ }
+{
+    let key = Key {
+        system: row[0],
+        satellite: row[1],
+        signal: row[2],
+    };
+    let c = first_column(s, key.system);
+    let second = s.v3.width + s.v4.width;
+    let first = s.v2.width + second;
+    let front = c.width + first;
+    let four = read_field(bytes, at, front);
+    let last = at + front;
+    let v = Values {
+        v1: shape::value(four >> first, c),
+        v2: shape::value(four >> second, s.v2),
+        v3: shape::value(four >> s.v4.width, s.v3),
+        v4: shape::value(four, s.v4),
+        v5: tested(bytes, last, s.v5),
+    };
+    store(row, key, v);
+    last + s.v5.width
 }

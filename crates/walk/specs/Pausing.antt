@@ -1,15 +1,12 @@
--- Reading under one mask: message after message, up to the next mask, the stop, or a message whose rows are left; or once.
-use mathlib.Core.Path.{_≡_}
+-- Reading under one mask: message after message, up to the next mask or the stop; or once.
 use mathlib.Core.Bool.{Bool, cond}
 use mathlib.Core.List.{List}
 use Prim.Native.Nat.{ℕ, zero, suc, _+_, _-_}
 use lib.IntN.{ℤ}
-use lib.ListN.{take}
 use Rattle.format.specs.declared.Answer.the-variants as Answers
 use Rattle.format.specs.Reading.{rowsAfter}
 use Rattle.reader.specs.declared.message.Found.{Found}
 use Rattle.reader.specs.declared.message.Found.the-variants.{Mask, Answered}
-use Rattle.reader.specs.Findings.{nearIn, Finds}
 use Rattle.reader.specs.Readings.{readAt, foundAt}
 use Rattle.walk.specs.declared.under.Pause.{Pause}
 use Rattle.walk.specs.Standing.{Stand, standAt}
@@ -26,17 +23,17 @@ abbrev pub behind : List ℕ → ℕ → Stand → ℕ → ℕ → Stand
 behind bytes end s next n =
     standAt (s .holding) (record { place = next; messages = s .tally .messages + 1; rows = s .tally .rows + n }) (rowsIn bytes end s)
 
--- goes on behind a message only, unless its rows are left
-unfoldable pub goUnder : Bool → Found → Stand → (ℕ → ℕ → Stand) → Stand
-goUnder near Mask s more = s
-goUnder near (Answered (Answers.Message head next n)) s more = cond near s (more next n)
-goUnder near (Answered Answers.Idle) s more = s
-goUnder near (Answered (Answers.Refused r missing)) s more = s
+-- goes on behind a message only
+unfoldable pub goUnder : Found → Stand → (ℕ → ℕ → Stand) → Stand
+goUnder Mask s more = s
+goUnder (Answered (Answers.Message head next n)) s more = more next n
+goUnder (Answered Answers.Idle) s more = s
+goUnder (Answered (Answers.Refused r missing)) s more = s
 
 -- by fuel, of which one more than the bits left suffices, as for the walk
 unfoldable pub underFrom : ℕ → List ℕ → ℕ → Stand → Stand
 underFrom zero bytes end s = s
-underFrom (suc fuel) bytes end s = goUnder (nearIn bytes (foundIn bytes end s)) (foundIn bytes end s) s (λ next n. underFrom fuel bytes end (behind bytes end s next n))
+underFrom (suc fuel) bytes end s = goUnder (foundIn bytes end s) s (λ next n. underFrom fuel bytes end (behind bytes end s next n))
 
 unfoldable pub underOn : List ℕ → ℕ → Stand → Stand
 underOn bytes end s = underFrom (suc (end - s .tally .place)) bytes end s
@@ -45,7 +42,5 @@ underOn bytes end s = underFrom (suc (end - s .tally .place)) bytes end s
 unfoldable pub pausesIn : Bool → List ℕ → ℕ → Stand → Stand
 pausesIn once bytes end s = cond once s (underOn bytes end s)
 
--- what is said there, with what is in the row buffer then
-pub record Paused (once : Bool) (bytes : List ℕ) (end : ℕ) (s : Stand) (after : List ℤ) (p : Pause) : Type 0 where
-  pub tally : p .tally ≡ pausesIn once bytes end s .tally
-  pub told : Finds (s .holding) (take (s .holding .count) (s .holding .ids)) bytes end (pausesIn once bytes end s .tally .place) (pausesIn once bytes end s .rows) after (p .found)
+abbrev pub pauseIn : List ℕ → ℕ → Stand → Pause
+pauseIn bytes end s = record { found = foundIn bytes end s; tally = s .tally }

@@ -14,7 +14,7 @@ use heads::OPENING;
 use holding::Holding;
 use holding::Outline;
 use reader::Verdict;
-use reader::message::Finding;
+use reader::message::Found;
 
 // A place, and how many messages and rows were handed out before it.
 pub struct Tally {
@@ -44,8 +44,7 @@ pub struct Stopped {
     pub outline: Outline,
 }
 
-// From mask to mask, all that is lent being good. A body near the end is filled here, and not where it was found, so that
-// the loop over messages and the copy of the body's end do not lie on the stack together.
+// From mask to mask, all that is lent being good.
 fn on(
     first: Outline,
     satellites: &mut [u64; Holding::SYSTEMS],
@@ -64,30 +63,12 @@ fn on(
         let pause = under(outline, satellites, strips, bytes, end, tally, false, rows);
         let found = pause.found;
         let here = pause.tally;
-        if let Finding::Answered(stop) = found {
+        if let Found::Answered(stop) = found {
             return Stopped {
                 stop,
                 tally: here,
                 outline,
             };
-        }
-        if let Finding::Near(answer, placed) = found {
-            let Answer::Message(_, next, n) = answer else {
-                return Stopped {
-                    stop: answer,
-                    tally: here,
-                    outline,
-                };
-            };
-            let ids = outline.ids;
-            let count = outline.count;
-            body::ending::fill(&ids[..count], satellites, strips, placed, bytes, rows);
-            tally = Tally {
-                place: next,
-                messages: here.messages + 1,
-                rows: here.rows + n,
-            };
-            continue;
         }
         let adoption = adoption::adopt(bytes, end, here.place + OPENING, satellites, strips);
         let answer = adoption.answer;

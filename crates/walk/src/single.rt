@@ -14,7 +14,6 @@ use holding::Holding;
 use holding::Outline;
 use reader::Reading;
 use reader::Verdict;
-use reader::message::Finding;
 use reader::message::Found;
 use reader::message::adopted;
 
@@ -58,17 +57,7 @@ pub fn seek_under(
         rows: 0,
     };
     let pause = under(outline, satellites, strips, bytes, end, from, true, rows);
-    let found = pause.found;
-    match found {
-        Finding::Mask => Found::Mask,
-        Finding::Answered(answer) => Found::Answered(answer),
-        Finding::Near(answer, placed) => {
-            let ids = outline.ids;
-            let count = outline.count;
-            body::ending::fill(&ids[..count], satellites, strips, placed, bytes, rows);
-            Found::Answered(answer)
-        }
-    }
+    pause.found
 }
 
 // Reads the message at a place, a mask too.
