@@ -66,7 +66,7 @@ pub fn values(placed: Placed, bytes: &[u8], rows: &mut [i32])
     let mut place = placed.at;
     while i < n {
         let e = k + 8;
-        place = row::values(&mut rows[k..e], bytes, place, s);
+        place = row::fill_in(&mut rows[k..e], bytes, place, s);
         k = e;
         i += 1;
     }

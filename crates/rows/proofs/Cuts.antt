@@ -1,12 +1,12 @@
 -- The values of a row, cut out of a window that was halved: one alone, those of a row of two columns, and those of a row of five with the last from
--- elsewhere; and those of a row of gaps but for one column.
+-- elsewhere, or out of their own field; and those of a row of gaps but for one column.
 -- Assumes nothing.
 use Rattle.bits.proofs.Words.{_≡_, refl, sym, ap, ap₂, _∙_, List, [], _∷_, ℕ, _+_, _-_, _*_, _/_, _%_, _^_, _≤_, _<_, arith, ℤ}
 use mathlib.Core.Logic.{_⊎_, ⊎-elim}
-use native.Mathlib.Nat.{mod-lt}
-use lib.Pow.{shr-le, shr-shr, shl-shr, shl-exact, mod-pow-add, low, pow-pos}
+use native.Mathlib.Nat.{mod-lt, div-one}
+use lib.Pow.{pow-mono, shr-le, shr-shr, shl-shr, shl-exact, mod-pow-add, low, pow-pos}
 use Rattle.bits.proofs.Fields.{field-lt}
-use Rattle.bits.proofs.Windows.{in-window, shifted}
+use Rattle.bits.proofs.Windows.{in-field, in-window, shifted}
 use Rattle.bits.specs.Places.{field}
 use Rattle.format.specs.Rows.{Column, absent, valueOf}
 use Rattle.rows.specs.declared.shape.Column.{Column as CodeColumn}
@@ -32,6 +32,21 @@ values-cons c cs bs at here rest = rw (width-of c) (ap₂ _∷_ here rest)
 
 mod-mod : (n u v : ℕ) → n % 2 ^ (u + v) % 2 ^ v ≡ n % 2 ^ v
 mod-mod n u v = rw (mod-pow-add n u v) (low (n / 2 ^ v % 2 ^ u) v (mod-lt n (pow-pos v)))
+
+-- the column at a place, with t bits below it, out of a field
+field-cut : (bs : List ℕ) (at n : ℕ) {front : ℕ} → front ≡ field bs at n → (c : CodeColumn) (place t : ℕ) → at ≤ place → place + c .width + t ≡ at + n
+    → cutBy c (front / 2 ^ t) ≡ columnAt c bs place
+field-cut bs at n there c place t after whole =
+    let back : at + (place - at) ≡ place = omega arith in
+    ap (λ (x : ℕ). cutBy c (x / 2 ^ t)) there ∙ ap (valueOf (columnOf c)) (in-field bs at n (place - at) (c .width) t (omega arith)) ∙ ap (columnAt c bs) back
+
+-- such a field and what is left of it below a column are small
+module _ (bs : List ℕ) (at n : ℕ) {front : ℕ} (there : front ≡ field bs at n) (narrow : n ≤ 56) where
+  pub front-lt : front < 2 ^ 63
+  front-lt = omega (arith, there, field-lt bs at n, pow-mono narrow)
+
+  pub rest-lt : (t : ℕ) → front / 2 ^ t < 2 ^ 63
+  rest-lt t = omega (arith, front-lt, shr-le front t)
 
 -- the window at the byte of a place
 module _ (bs : List ℕ) (at : ℕ) {window : ℕ} (there : window ≡ field bs (8 * (at / 8)) 64) where
@@ -131,6 +146,35 @@ module _ (bs : List ℕ) (at : ℕ) (h : Shape) where
       values-five one (rw (gap-of (h .v2) (omega arith))) (rw (gap-of (h .v3) (omega arith))) (rw (gap-of (h .v4) fourth))
       (five ∙ ⊎-elim (λ gone. rw (gap-of (h .v5) gone)) (λ gone. ap (columnAt (h .v5) bs) (omega arith)) others)
 
+  abbrev front : ℕ
+  front = w1 + (w2 + (w3 + w4))
+
+  -- four out of a number in whose low bits they stand, and one more
+  values-four : (four : ℕ) → ((c : CodeColumn) (place t : ℕ) → at ≤ place → place + c .width + t ≡ at + front → cutBy c (four / 2 ^ t) ≡ columnAt c bs place) → {a b c d e : ℤ}
+      → a ≡ cutBy (h .v1) (four / 2 ^ (w2 + (w3 + w4)))
+      → b ≡ cutBy (h .v2) (four / 2 ^ (w3 + w4))
+      → c ≡ cutBy (h .v3) (four / 2 ^ w4)
+      → d ≡ cutBy (h .v4) four
+      → e ≡ columnAt (h .v5) bs (at + front)
+      → a ∷ b ∷ c ∷ d ∷ e ∷ [] ≡ valuesAt (columnsOf h) bs at
+  values-four four cut one two three last five =
+      let behind : at + front ≡ at + w1 + w2 + w3 + w4 = omega arith in
+      values-five (one ∙ cut (h .v1) at (w2 + (w3 + w4)) (omega arith) (omega arith))
+      (two ∙ cut (h .v2) (at + w1) (w3 + w4) (omega arith) (omega arith))
+      (three ∙ cut (h .v3) (at + w1 + w2) w4 (omega arith) (omega arith))
+      (last ∙ ap (cutBy (h .v4)) (sym (div-one four)) ∙ cut (h .v4) (at + w1 + w2 + w3) 0 (omega arith) (omega arith))
+      (five ∙ ap (columnAt (h .v5) bs) behind)
+
+  -- out of their own field
+  pub values-front : {four : ℕ} → four ≡ field bs at front → {a b c d e : ℤ}
+      → a ≡ cutBy (h .v1) (four / 2 ^ (w2 + (w3 + w4)))
+      → b ≡ cutBy (h .v2) (four / 2 ^ (w3 + w4))
+      → c ≡ cutBy (h .v3) (four / 2 ^ w4)
+      → d ≡ cutBy (h .v4) four
+      → e ≡ columnAt (h .v5) bs (at + front)
+      → a ∷ b ∷ c ∷ d ∷ e ∷ [] ≡ valuesAt (columnsOf h) bs at
+  values-front there = values-four _ (field-cut bs at front there)
+
   module _ {window : ℕ} (there : window ≡ field bs (8 * (at / 8)) 64) (formed : FormedShape h) where
     -- two from the window moved up
     pub values-pair : Narrow h → w3 ≡ 0 → {a b : ℤ}
@@ -147,18 +191,13 @@ module _ (bs : List ℕ) (at : ℕ) (h : Shape) where
         (rw (gap-of (h .v5) (narrow .fifth)))
 
     -- four from the half window, moved down so that s bits are left behind, and one more
-    pub values-wide : (s : ℕ) → s ≡ 63 - at % 8 - (w1 + (w2 + (w3 + w4))) → {a b c d e : ℤ}
+    pub values-wide : (s : ℕ) → s ≡ 63 - at % 8 - front → {a b c d e : ℤ}
         → a ≡ cutBy (h .v1) (window / 2 / 2 ^ s / 2 ^ (w2 + (w3 + w4)))
         → b ≡ cutBy (h .v2) (window / 2 / 2 ^ s / 2 ^ (w3 + w4))
         → c ≡ cutBy (h .v3) (window / 2 / 2 ^ s / 2 ^ w4)
         → d ≡ cutBy (h .v4) (window / 2 / 2 ^ s)
-        → e ≡ columnAt (h .v5) bs (at + (w1 + (w2 + (w3 + w4))))
+        → e ≡ columnAt (h .v5) bs (at + front)
         → a ∷ b ∷ c ∷ d ∷ e ∷ [] ≡ valuesAt (columnsOf h) bs at
-    values-wide s below one two three four five =
+    values-wide s below =
         let room = formed .window in
-        let behind : at + (w1 + (w2 + (w3 + w4))) ≡ at + w1 + w2 + w3 + w4 = omega arith in
-        values-five (one ∙ moved-cut bs at there (h .v1) at s (w2 + (w3 + w4)) (omega arith) (omega arith))
-        (two ∙ moved-cut bs at there (h .v2) (at + w1) s (w3 + w4) (omega arith) (omega arith))
-        (three ∙ moved-cut bs at there (h .v3) (at + w1 + w2) s w4 (omega arith) (omega arith))
-        (four ∙ column-cut bs at there (h .v4) (at + w1 + w2 + w3) s (omega arith) (omega arith))
-        (five ∙ ap (columnAt (h .v5) bs) behind)
+        values-four (window / 2 / 2 ^ s) (λ c place t after whole. moved-cut bs at there c place s t after (omega arith))

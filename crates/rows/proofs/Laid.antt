@@ -7,7 +7,7 @@ use Rattle.format.specs.Messages.{iodeWidth}
 use Rattle.format.specs.Rows.{Column, plain, counts, widthOf, shapeWidth}
 use Rattle.rows.specs.declared.shape.Column.{Column as CodeColumn}
 use Rattle.rows.specs.declared.shape.Shape.{Shape}
-use Rattle.rows.specs.Shapes.{columnOf, columnFor, columnsOf, columnsIn, orbitOf, Formed, FormedShape, Laid}
+use Rattle.rows.specs.Shapes.{columnOf, columnFor, columnsOf, columnsIn, shapeOn, orbitOf, Formed, FormedShape, Laid}
 use Rattle.rows.proofs.Columns.{fine-plain, fine-counts, column-back, width-of, formed-for}
 
 -- an IODE has 1 to 10 bits
@@ -60,6 +60,34 @@ module _ (s : Shape) (laid : Laid s) (system : ℕ) where
   pub bare-columns : s .iode ≡ false → columnsOf s ≡ columnsIn s system
   unfolding columnsOf columnsIn
   bare-columns e = rw e
+
+-- the shape that has the columns of a system's rows
+module _ (s : Shape) (system : ℕ) where
+  pub on-columns : columnsOf (shapeOn s system) ≡ columnsIn s system
+  unfolding columnsOf columnsIn shapeOn
+  on-columns = ap (λ (c : Column). c ∷ columnOf (s .v2) ∷ columnOf (s .v3) ∷ columnOf (s .v4) ∷ columnOf (s .v5) ∷ []) (go (s .iode))
+    where
+      go : (b : Bool) → columnOf (cond b (columnFor (plain (iodeWidth system))) (s .v1)) ≡ cond b (plain (iodeWidth system)) (columnOf (s .v1))
+      go true = let some = iode-some system refl in column-back (fine-plain (iodeWidth system) (some .0) (omega arith))
+      go false = refl
+
+  pub on-formed : FormedShape s → FormedShape (shapeOn s system)
+  unfolding shapeOn columnFor
+  on-formed formed = go (s .iode)
+    where
+      go : (b : Bool) → FormedShape (record { iode = s .iode; v1 = cond b (columnFor (plain (iodeWidth system))) (s .v1); v2 = s .v2; v3 = s .v3; v4 = s .v4; v5 = s .v5 })
+      go true =
+          let some = iode-some system refl in
+          record {
+            first = formed-for (fine-plain (iodeWidth system) (some .0) (omega arith));
+            second = formed .second;
+            third = formed .third;
+            fourth = formed .fourth;
+            fifth = formed .fifth;
+            window = omega (arith, formed .longest);
+            longest = formed .longest;
+          }
+      go false = formed
 
 -- ---- how wide
 

@@ -1,11 +1,11 @@
 -- The rows of a body by places of a byte string: what crate format's rowsOf makes of the bits there.
 use mathlib.Core.List.{List, [], _∷_, _++_}
 use Prim.Native.Nat.{ℕ, _+_}
-use lib.IntN.{ℤ}
+use lib.IntN.{ℤ, pos}
 use lib.ListN.{getD, take}
 use lib.Signed.{mag}
 use Rattle.bits.specs.Places.{field}
-use Rattle.format.specs.Rows.{Column, Line, absent, widthOf, valueOf, shapeWidth}
+use Rattle.format.specs.Rows.{Column, Line, widthOf, valueOf, shapeWidth}
 use Rattle.rows.specs.declared.shape.Shape.{Shape}
 use Rattle.rows.specs.Shapes.{columnsIn}
 
@@ -19,7 +19,7 @@ rowsAt (n ∷ ns) bs at = (n .keys ++ valuesAt (n .shape) bs at) ∷ rowsAt ns b
 
 -- the columns of a row whose keys stand there, by the system that is the first of them
 abbrev pub columnsOn : Shape → List ℤ → List Column
-columnsOn s row = columnsIn s (mag (getD row 0 absent))
+columnsOn s row = columnsIn s (mag (getD row 0 (pos 0)))
 
 -- such a row with its values
 unfoldable pub valuedAt : Shape → List ℕ → ℕ → List ℤ → List ℤ

@@ -40,6 +40,18 @@ unfoldable pub columnsIn : Shape → ℕ → List Column
 columnsIn s system =
     cond (s .iode) (plain (iodeWidth system)) (columnOf (s .v1)) ∷ columnOf (s .v2) ∷ columnOf (s .v3) ∷ columnOf (s .v4) ∷ columnOf (s .v5) ∷ []
 
+-- and the shape that has them
+unfoldable pub shapeOn : Shape → ℕ → Shape
+shapeOn s system =
+    record {
+      iode = s .iode;
+      v1 = cond (s .iode) (columnFor (plain (iodeWidth system))) (s .v1);
+      v2 = s .v2;
+      v3 = s .v3;
+      v4 = s .v4;
+      v5 = s .v5;
+    }
+
 -- the shape of five columns
 unfoldable pub shapeWith : Bool → List Column → Shape
 shapeWith iode cs =

@@ -1,7 +1,7 @@
 // One row, written: its three keys, and the values that its columns have at a place. Windows are read without a
-// test, so eight bytes have to be there from the byte of the row's last bit on; `values` alone tests each.
+// test, so eight bytes have to be there from the byte of the row's last bit on; `fill_in` alone tests each.
 ghost use mathlib.Core.Path.{_≡_};
-ghost use mathlib.Core.Bool.{_&&_, cond, false};
+ghost use mathlib.Core.Bool.{_&&_, false};
 ghost use mathlib.Core.List.{[], _∷_};
 ghost use Prim.Native.Nat.{_+_, _*_, _^_, _≤_, _<_};
 ghost use lib.Dec.{eqb, ltb};
@@ -10,9 +10,9 @@ ghost use lib.ListN.{length};
 ghost use lib.Signed.{mag};
 ghost use Rattle.bits.specs.Places.{field};
 ghost use Rattle.format.specs.Messages.{iodeWidth};
-ghost use Rattle.format.specs.Rows.{plain, absent, valueOf, shapeWidth};
+ghost use Rattle.format.specs.Rows.{absent, valueOf, shapeWidth};
 ghost use Rattle.rows.specs.At.{valuesAt, columnsOn, valuedAt};
-ghost use Rattle.rows.specs.Shapes.{columnFor, columnOf, columnsOf, columnsIn, Formed, FormedShape, Laid, Narrow};
+ghost use Rattle.rows.specs.Shapes.{columnOf, columnsOf, columnsIn, Formed, shapeOn, FormedShape, Laid, Narrow};
 use crate::shape;
 use crate::shape::Column;
 use crate::shape::Shape;
@@ -192,19 +192,6 @@ pub fn satellite(row: &mut [i32], system: u8, number: i32, bytes: &[u8], at: usi
     }
 }
 
-// The first column of a row by its first key: an IODE is as wide as that system has it.
-fn first_column(s: Shape, system: i32) -> Column
-    ensures { λ r. ⌜ r ≡ cond (s .iode) (columnFor (plain (iodeWidth (mag system)))) (s .v1) ⌝ }
-{
-    if !s.iode {
-        return s.v1;
-    }
-    if magnitude(system) == shapes::GALILEO as u64 {
-        return shape::plain(shapes::iode(shapes::GALILEO));
-    }
-    shape::plain(shapes::iode(0))
-}
-
 // The value of a column that a row may have or not, wherever the string ends.
 fn tested(bytes: &[u8], at: usize, c: Column) -> i32
     requires { ⌜ Formed c ⌝ }
@@ -216,8 +203,50 @@ fn tested(bytes: &[u8], at: usize, c: Column) -> i32
     shape::value(read_field(bytes, at, c.width), c)
 }
 
+// A row as `wide` writes it, wherever the string ends.
+fn anywhere(row: &mut [i32], key: Key, bytes: &[u8], at: usize, s: Shape)
+    requires { ⌜ (length (now row) ≡ 8) × (at < 2 ^ 33) × FormedShape s ⌝ }
+    ensures { λ _. ⌜ now (row .exit) ≡ key .system ∷ key .satellite ∷ key .signal ∷ valuesAt (columnsOf s) (now (bytes .entry)) at ⌝ }
+{
+    let second = s.v3.width + s.v4.width;
+    let first = s.v2.width + second;
+    let front = s.v1.width + first;
+    let four = read_field(bytes, at, front);
+    let v = Values {
+        v1: shape::value(four >> first, s.v1),
+        v2: shape::value(four >> second, s.v2),
+        v3: shape::value(four >> s.v4.width, s.v3),
+        v4: shape::value(four, s.v4),
+        v5: tested(bytes, at + front, s.v5),
+    };
+    store(row, key, v);
+}
+
+// How many bits an IODE has, by a row's first key.
+fn iode_by(system: i32) -> usize
+    ensures { λ r. ⌜ r ≡ iodeWidth (mag system) ⌝ }
+{
+    if magnitude(system) == shapes::GALILEO as u64 {
+        return shapes::iode(shapes::GALILEO);
+    }
+    shapes::iode(0)
+}
+
+// A shape as the rows of a system have it.
+fn shape_in(s: Shape, system: i32) -> Shape
+    ensures { λ r. ⌜ r ≡ shapeOn s (mag system) ⌝ }
+{
+    if !s.iode {
+        return s;
+    }
+    let mut own = s;
+    let iode = shape::plain(iode_by(system));
+    own.v1 = iode;
+    own
+}
+
 // The values of a row whose keys stand there, wherever the string ends; and the place behind them.
-pub fn values(row: &mut [i32], bytes: &[u8], at: usize, s: Shape) -> usize
+pub fn fill_in(row: &mut [i32], bytes: &[u8], at: usize, s: Shape) -> usize
     requires { ⌜ (length (now row) ≡ 8) × (at < 2 ^ 33) × FormedShape s ⌝ }
     ensures { λ r. ⌜ r ≡ at + shapeWidth (columnsOn s (now (row .entry))) ⌝ }
     ensures { λ _. ⌜ now (row .exit) ≡ valuedAt s (now (bytes .entry)) at (now (row .entry)) ⌝ }
@@ -227,19 +256,7 @@ pub fn values(row: &mut [i32], bytes: &[u8], at: usize, s: Shape) -> usize
         satellite: row[1],
         signal: row[2],
     };
-    let c = first_column(s, key.system);
-    let second = s.v3.width + s.v4.width;
-    let first = s.v2.width + second;
-    let front = c.width + first;
-    let four = read_field(bytes, at, front);
-    let last = at + front;
-    let v = Values {
-        v1: shape::value(four >> first, c),
-        v2: shape::value(four >> second, s.v2),
-        v3: shape::value(four >> s.v4.width, s.v3),
-        v4: shape::value(four, s.v4),
-        v5: tested(bytes, last, s.v5),
-    };
-    store(row, key, v);
-    last + s.v5.width
+    let own = shape_in(s, key.system);
+    anywhere(row, key, bytes, at, own);
+    at + shape::width(own)
 }

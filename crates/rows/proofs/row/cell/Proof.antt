@@ -1,10 +1,13 @@
 -- `rows::row::cell` meets its contract. Assumes nothing.
 use Rattle.bits.proofs.Words.{_≡_, sym, ap, _∙_, List, _∷_, _≤_, arith, needs, eqb, ltb, ℤ}
 use mathlib.Core.Bool.{and-eq-true-iff}
+use mathlib.Core.Logic.{inl}
 use borrow.Author.Tests.{eqb-true, ltb-true}
 use mir.Facts.{toZ-ofZ}
 use mir.Syntax.{w32}
-use Rattle.rows.proofs.Cuts.{up-lt, values-pair}
+use Rattle.format.specs.Rows.{valueOf}
+use Rattle.rows.proofs.Columns.{gap-of}
+use Rattle.rows.proofs.Cuts.{up-lt, values-ends, values-pair}
 use Rattle.rows.proofs.row.cell.Statement.{statement}
 use Rattle.rows.proofs.row.cell.Tie as tie
 
@@ -30,6 +33,18 @@ returns c =
     (ap (λ (l : List ℤ). x .key .system ∷ x .key .satellite ∷ x .key .signal ∷ l)
     (values-pair (x .bytes .now) (x .at) (x .s) (w .eight .ensures) (s .pre .2) (s .pre .3) (two w .1) (v1 .value .ensures) (v2 .value2 .ensures)))
 
+-- of none
+returns-2 : tie.Need-returns-2
+unfolding valueOf
+returns-2 c =
+    let t = c .before .before .before in
+    let s = t .before .before .before .before .before .before in
+    let x = s .args in
+    let none = t .if2 .taken in
+    c .before .gaps .ensures
+    ∙ ap (λ (l : List ℤ). x .key .system ∷ x .key .satellite ∷ x .key .signal ∷ l)
+    (values-ends (x .bytes .now) (x .at) (x .s) (omega (arith, none)) (s .pre .3 .fourth) (inl (s .pre .3 .fifth)) (rw (gap-of (x .s .v1) (omega (arith, none)))) (rw (gap-of (x .s .v5) (s .pre .3 .fifth))))
+
 pub cell-spec : {M : Type 1} → statement M
 cell-spec =
     tie.close
@@ -38,4 +53,5 @@ cell-spec =
     (λ c κs. let w = c .before .before in let s = start w in (up-lt (s .args .bytes .now) (s .args .at) (w .eight .ensures) _ (omega (arith, s .pre .2 .first .narrow)), s .pre .2 .first))
     (λ c. omega (arith, two (c .before .before .before) .0))
     (λ c κs. let w = c .before .before .before in let s = start w in (up-lt (s .args .bytes .now) (s .args .at) (w .eight .ensures) _ (omega (arith, s .pre .2 .window)), s .pre .2 .second))
-    (λ c κs. search needs) (λ c κs. search needs) (λ c. search needs) returns (λ c. search needs) (λ c. search needs))
+    (λ c κs. search needs) (λ c. search needs) (λ c. search needs) (λ c κs. search needs) (λ c κs. search needs) (λ c. search needs) returns (λ c. search needs) returns-2 (λ c. search needs)
+    (λ c. search needs))
