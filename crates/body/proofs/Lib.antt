@@ -7,4 +7,4 @@ pub mod Slots
 pub mod Groups
 pub mod Sizes
 pub mod Bodies
-pub mod Near
+pub mod Valued

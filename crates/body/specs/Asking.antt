@@ -40,6 +40,6 @@ pub record Fills (ids masks strips : List ℕ) (placed : Placed) (rows : List �
   pub lent : Lent ids masks strips
   pub fits : Fits (placed .body)
   pub bits : placed .bits ≡ bodyWidth (linesIn (viewBy ids masks strips) (placed .body))
-  pub rows : placed .rows ≡ length (linesIn (viewBy ids masks strips) (placed .body))
+  pub count : placed .rows ≡ length (linesIn (viewBy ids masks strips) (placed .body))
   pub near : placed .at + placed .bits < 2 ^ 32
   pub room : 8 * length (linesIn (viewBy ids masks strips) (placed .body)) ≤ length rows

@@ -1,5 +1,5 @@
 -- `body::cells_chosen` meets its contract. Assumes nothing.
-use Rattle.bits.proofs.Words.{sym, arith, needs}
+use Rattle.bits.proofs.Words.{sym, arith}
 use lib.Seq.{length-take-le}
 use Rattle.body.proofs.cells_chosen.Statement.{statement}
 use Rattle.body.proofs.cells_chosen.Tie as tie

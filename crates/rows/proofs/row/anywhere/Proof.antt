@@ -1,5 +1,5 @@
 -- `rows::row::anywhere` meets its contract. Assumes nothing.
-use Rattle.bits.proofs.Words.{ap, _∙_, List, _∷_, ℕ, _+_, _^_, _/_, _<_, _≤_, arith, needs, ℤ}
+use Rattle.bits.proofs.Words.{ap, _∙_, List, _∷_, ℕ, _^_, _/_, _<_, arith, needs, ℤ}
 use mir.Facts.{toZ-ofZ}
 use mir.Syntax.{w32}
 use Rattle.rows.proofs.Cuts.{front-lt, rest-lt, values-front}

@@ -1,5 +1,5 @@
 -- `rows::row::fill_in` meets its contract. Assumes nothing.
-use Rattle.bits.proofs.Words.{_≡_, sym, ap, _∙_, List, [], _∷_, _++_, _+_, ℕ, arith, needs, length, getD, take, ℤ, pos}
+use Rattle.bits.proofs.Words.{_≡_, sym, ap, _∙_, List, [], _∷_, _++_, _+_, ℕ, arith, needs, getD, take, ℤ, pos}
 use lib.Signed.{mag}
 use mir.Facts.{toZ-ofZ}
 use mir.Syntax.{w32}

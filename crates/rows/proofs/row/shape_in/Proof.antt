@@ -1,5 +1,5 @@
 -- `rows::row::shape_in` meets its contract. Assumes nothing.
-use Rattle.bits.proofs.Words.{_∙_, ap, sym, arith, needs}
+use Rattle.bits.proofs.Words.{arith, needs}
 use borrow.Author.Tests.{not-true, not-false}
 use mir.Facts.{toZ-ofZ}
 use Rattle.rows.specs.Shapes.{shapeOn}
