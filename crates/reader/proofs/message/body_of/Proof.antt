@@ -1,12 +1,11 @@
 -- `reader::message::body_of` meets its contract. Assumes nothing.
-use Rattle.bits.proofs.Words.{_≡_, refl, sym, ap, _∙_, subst, Bool, true, false, cond, List, ℕ, _+_, _-_, _*_, _≤_, arith, needs, length, ℤ}
+use Rattle.bits.proofs.Words.{_≡_, refl, sym, ap, _∙_, subst, List, ℕ, _+_, _-_, _≤_, arith, needs, length}
 use mathlib.Core.List.{flatten}
-use borrow.Author.Tests.{ne-eqb, not-true, not-false}
 use Rattle.body.proofs.Bodies.{few-in, lent-view, lent-well, lent-sizes}
 use Rattle.body.specs.declared.Placed.{Placed}
 use Rattle.body.specs.Asking.{Fills}
 use Rattle.body.specs.Lent.{viewBy}
-use Rattle.body.specs.Written.{windowed, numbersAt, Counts}
+use Rattle.body.specs.Written.{numbersAt, Counts}
 use Rattle.format.specs.declared.Answer.{Answer}
 use Rattle.format.specs.declared.Answer.the-variants as Answers
 use Rattle.format.specs.Masks.{Held}
@@ -19,13 +18,10 @@ use Rattle.holding.specs.declared.Holding.{Holding}
 use Rattle.holding.specs.Held.{View, viewOf}
 use Rattle.holding.specs.Outlines.{wholeOf}
 use Rattle.holding.specs.Pictures.{maskOf}
-use Rattle.reader.specs.declared.message.Found.the-variants.{Answered}
-use Rattle.reader.specs.Findings.{settled, settledRows, isNear, nearIn, Fillable}
 use Rattle.reader.specs.Readings.{Begins}
 use Rattle.reader.proofs.Bodied.{bodyOf, headed-there, body-said, headed-short, none-at}
 use Rattle.reader.proofs.message.body_of.Statement.{statement}
 use Rattle.reader.proofs.message.body_of.Tie as tie
-use Rattle.rows.specs.At.{rowsAt}
 use Rattle.table.specs.declared.Body.{Body}
 use Rattle.table.specs.Bodies.{linesIn, Fits}
 
@@ -71,7 +67,7 @@ module _ (z : tie.After-size) where
   counts = subst (λ (v : View). Counts (linesIn v (body t)) (z .size .result)) (lent-view (s t .pre .1)) (z .size .ensures)
 
 returns : tie.Need-returns
-unfolding saidBy answerOf rowsAfter settled settledRows isNear nearIn Fillable
+unfolding saidBy answerOf rowsAfter
 returns c =
     let z = c .before .before .before in
     let t = t z in
@@ -80,7 +76,7 @@ returns c =
       t .heading2 .given .1,
       headed-short (held t) (s t .args .bytes .now) (s t .args .end) (t .heading2 .given .0 .0) (lines t) (at t) (omega (arith, bits, c .before .if1 .taken)),
     )
-    (record { found = ap (λ (n : ℕ). Answered (Answers.Refused _ (n - (s t .args .end - at t)))) bits; rows = refl; near = refl; left = tt })
+    (ap (λ (n : ℕ). Answers.Refused _ (n - (s t .args .end - at t))) bits, refl)
 
 -- the body is there
 module _ (c : tie.Else1) where
@@ -106,7 +102,7 @@ module _ (c : tie.Else1) where
   said rows e = body-said (held h) (start .args .bytes .now) (start .args .end) _ (lines h) (at h) _ rows (counts z .bits) e ∙ ap answerOf (sym there)
 
   abbrev placed : Placed
-  placed = record { body = body h; bits = z .size .result .bits; at = at h }
+  placed = record { body = body h; bits = z .size .result .bits; rows = z .size .result .rows; at = at h }
 
   -- its rows can be filled
   fills : Fills (start .args .ids .now) (start .args .masks .now) (start .args .strips .now) placed (start .args .rows .now)
@@ -117,12 +113,10 @@ module _ (c : tie.Else1) where
         lent = lent;
         fits = fits h;
         bits = z .size .ensures .bits;
+        count = z .size .ensures .rows;
         near = omega (arith, begins h, p .0 .limit, c .if1 .left);
         room = omega (arith, p .0 .room, few-in lent (body h) (fits h) .rows);
       }
-
-  inside : at h + z .size .result .bits ≤ 8 * length (start .args .bytes .now)
-  inside = omega (arith, begins h, start .pre .0 .lent, c .if1 .left)
 
   -- the row buffer with them
   filled : over (numbersAt (linesIn (viewBy (start .args .ids .now) (start .args .masks .now) (start .args .strips .now)) (body h)) (start .args .bytes .now) (at h)) (start .args .rows .now)
@@ -130,65 +124,25 @@ module _ (c : tie.Else1) where
   unfolding rowsAfter
   filled = rw there (ap (λ (v : View). over (numbersAt (linesIn v (body h)) (start .args .bytes .now) (at h)) (start .args .rows .now)) (lent-view (start .pre .1)))
 
-  -- whether they are left
-  abbrev far : Bool
-  far = windowed (start .args .bytes .now) (at h + z .size .result .bits)
-
-  nears : (z .size .result .rows ≡ 0 → ⊥) → cond far false true ≡ nearIn (start .args .bytes .now) (Answered (answerOf (whole h)))
-  unfolding nearIn
-  nears some =
-      sym (rw (ne-eqb (z .size .result .rows) 0 some)) ∙ ap (λ (a : Answer). nearIn (start .args .bytes .now) (Answered a)) (said _ (counts z .rows))
-
 returns-2 : tie.Need-returns-2
-unfolding rowsAfter over flatten settled settledRows isNear nearIn Fillable
+unfolding rowsAfter over flatten
 returns-2 c =
     let e = c .before .before .before in
     let none = sym (c .before .if2 .taken) ∙ counts (z e) .rows in
-    record {
-      found = ap Answered (said e 0 none);
-      rows = rw (there e, none-at (lines (h e)) (start e .args .bytes .now) (at (h e)) (sym none)) refl;
-      near = ap (λ (a : Answer). nearIn (start e .args .bytes .now) (Answered a)) (said e 0 none);
-      left = tt;
-    }
+    (said e 0 none, rw (there e, none-at (lines (h e)) (start e .args .bytes .now) (at (h e)) (sym none)) refl)
 
--- they are left
-returns-3 : tie.Need-returns-3
-unfolding settled settledRows isNear Fillable
-returns-3 c =
-    let f = c .before .before .before in
-    let m = f .before .before in
-    let e = m .before .before in
-    let off = sym (f .fill .ensures .0) ∙ not-true _ (c .before .if3 .taken) in
-    let same : f .fill .last .1 .1 .1 .1 .1 .0 ≡ start e .args .rows .now = rw off at (f .fill .ensures .1) in
-    record {
-      found = ap Answered (said e _ (counts (z e) .rows));
-      rows = rw same (filled e);
-      near = rw off at (nears e (m .if2 .left));
-      left = (rw same (fills e), inside e);
-    }
-
--- they are there
-returns-5 : tie.Need-returns-5
-unfolding settled settledRows isNear Fillable
-returns-5 c =
-    let f = c .before .before .before in
-    let m = f .before .before in
-    let e = m .before .before in
-    let on = sym (f .fill .ensures .0) ∙ not-false _ (c .before .if3 .left) in
-    record {
-      found = ap Answered (said e _ (counts (z e) .rows));
-      rows = f .fill .ensures .1 ∙ rw on (filled e);
-      near = rw on at (nears e (m .if2 .left));
-      left = tt;
-    }
+returns-4 : tie.Need-returns-4
+returns-4 c =
+    let f = c .before .before in
+    let e = f .before .before .before .before in
+    (said e _ (counts (z e) .rows), f .fill .ensures ∙ filled e)
 
 pub body-of-spec : {M : Type 1} → statement M
-unfolding saidBy answerOf rowsAfter headedAt settled settledRows isNear nearIn Fillable
+unfolding saidBy answerOf rowsAfter headedAt
 body-of-spec =
     tie.close
     (tie.spec (λ c. search needs) (λ c. search needs) (λ c κs. let p = s (c .before) .pre in (lent-sizes (p .1) (p .0 .held), fits (c .before))) (λ c. begins (c .before .before))
     (λ c. search needs) returns (λ c. let e = c .before .before .before in omega (arith, begins (h e), start e .pre .0 .limit, e .if1 .left)) returns-2
     (λ c κs. fills (c .before .before .before))
-    (λ c. let e = c .before .before .before .before .before .before .before in omega (arith, begins (h e), start e .pre .0 .limit, e .if1 .left)) (λ c. search needs) returns-3
-    (λ c. let e = c .before .before .before .before .before .before .before in omega (arith, begins (h e), start e .pre .0 .limit, e .if1 .left))
-    (λ c. rw (c .before .heading .given .1) (record { found = refl; rows = refl; near = refl; left = tt })) (λ c. search needs) returns-5)
+    (λ c. let e = c .before .before .before .before .before .before in omega (arith, begins (h e), start e .pre .0 .limit, e .if1 .left))
+    (λ c. rw (c .before .heading .given .1) (refl, refl)) (λ c. search needs) returns-4)

@@ -24,7 +24,6 @@ use Rattle.holding.specs.Pictures.{maskOf}
 use Rattle.holding.proofs.Sounds.{sounds}
 use Rattle.reader.specs.declared.message.Found.{Found}
 use Rattle.reader.specs.declared.message.Found.the-variants.{Mask, Answered}
-use Rattle.reader.specs.Findings.{settled, settledRows, isNear, nearIn, Fillable, Told}
 use Rattle.reader.specs.Readings.{readAt, unopenedAt, foundAs, foundBy, foundAt}
 use Rattle.reader.proofs.Findings.{opened-well, opened-badly, begins, shows, sorted-headed, sorted-adopted, adopted-rows, read-sorted, read-stopped}
 use Rattle.reader.proofs.message.find.Statement.{statement}
@@ -99,20 +98,14 @@ module _ (c : tie.After-kind-of) where
 
 -- a mask is left to be read
 returns : tie.Need-returns
-unfolding openingBy foundBy foundAs settled settledRows isNear nearIn Fillable
+unfolding openingBy foundBy foundAs
 returns c =
     let k = c .before .before in
     let s = s (t k) in
     let x = s .args in
     let masked : kindFor (n k) ≡ Kinds.Mask = sym (of-table k) ∙ c .enum-told .given .1 in
     let same = read-sorted (hold s) (s .pre .0 .held) (within s) (ran k .1) ∙ sorted-adopted (maskOf (hold s)) (x .bytes .now) (x .end) (x .start + 16) (n k) masked in
-    let found : Mask ≡ foundAt (hold s) (x .bytes .now) (x .end) (x .start) = rw (ran k .1, masked) in
-    record {
-      found = found;
-      rows = adopted-rows (maskOf (hold s)) (x .start + 16) _ (x .rows .now) ∙ ap (λ (w : Outcome). rowsAfter w (x .rows .now)) (sym same);
-      near = ap (nearIn (x .bytes .now)) found;
-      left = tt;
-    }
+    (rw (ran k .1, masked), adopted-rows (maskOf (hold s)) (x .start + 16) _ (x .rows .now) ∙ ap (λ (w : Outcome). rowsAfter w (x .rows .now)) (sym same))
 
 -- any other message has a heading
 of-requires : tie.Need-of-requires
@@ -146,16 +139,8 @@ module _ (c : tie.After-of) where
       ∙ sym (read-sorted h (start .pre .0 .held) (within start) (ran k .1) ∙ sorted-headed h (start .pre .0 .held) (told k .after) (n k) other)
 
 -- refused before that: a stop
-no-rows : (bytes : List ℕ) (end start : ℕ) (r : Refusal) (missing : ℕ) → false ≡ nearIn bytes (Answered (unopenedAt bytes end start r missing))
-unfolding nearIn unopenedAt
-no-rows bytes end start r missing = go (eqb (field bytes start (end - start)) 0)
-  where
-    go : (b : Bool) → false ≡ nearIn bytes (Answered (cond b Answers.Idle (Answers.Refused r missing)))
-    go true = refl
-    go false = refl
-
 returns-2 : tie.Need-returns-2
-unfolding openingBy foundBy settled settledRows isNear Fillable
+unfolding openingBy foundBy
 returns-2 c =
     let r = c .before .before in
     let t = r .before .before .before in
@@ -163,20 +148,17 @@ returns-2 c =
     let e = opened-badly _ _ _ (sym (opened (r .before .before)) ∙ r .opening .given .1) in
     let stop = read-stopped (hold (s t)) (s t .pre .0 .held) (within (s t)) e in
     let said = c .unopened .ensures ∙ ap (λ (f : Front). unopenedAt (bs t) (f .end) (f .start) (r .opening .given .0 .0) (r .opening .given .0 .1 .0)) (is t) in
-    let found : Answered (unopenedAt (bs t) (x .end) (x .start) (r .opening .given .0 .0) (r .opening .given .0 .1 .0)) ≡ foundAt (hold (s t)) (x .bytes .now) (x .end) (x .start) =
-    ap Answered (stop .0) ∙ rw e in
-    record { found = ap Answered said ∙ found; rows = stop .2 (x .rows .now); near = no-rows (bs t) (x .end) (x .start) _ _ ∙ ap (nearIn (bs t)) found; left = tt }
+    (ap Answered (said ∙ stop .0) ∙ rw e, stop .2 (x .rows .now))
 
 returns-3 : tie.Need-returns-3
 unfolding openingBy foundBy
 returns-3 c =
     let b = c .before in
     let q = b .before .before in
-    let x = start q .args in
-    let left = b .body-of .last .1 .1 .1 .1 .1 .1 .1 .0 in
-    let same : Answered (answerOf (readAt (h q) (x .bytes .now) (x .end) (x .start))) ≡ foundAt (h q) (x .bytes .now) (x .end) (x .start) = other-found (kindFor (n (k q))) _ (other q) ∙ rw (ran (k q) .1) in
-    subst (λ (f : Found). Told (h q) (x .ids .now) (x .bytes .now) f (readAt (h q) (x .bytes .now) (x .end) (x .start)) (x .rows .now) left (b .body-of .result)) same
-    (subst (λ (o : Outcome). Told (h q) (x .ids .now) (x .bytes .now) (Answered (answerOf o)) o (x .rows .now) left (b .body-of .result)) (reads q) (b .body-of .ensures))
+    let x = start q .args in (
+      ap Answered (b .body-of .ensures .0 ∙ ap answerOf (reads q)) ∙ other-found (kindFor (n (k q))) _ (other q) ∙ rw (ran (k q) .1),
+      b .body-of .ensures .1 ∙ ap (λ (w : Outcome). rowsAfter w (x .rows .now)) (reads q),
+    )
 
 pub find-spec : {M : Type 1} → statement M
 find-spec =
