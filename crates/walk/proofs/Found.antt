@@ -62,6 +62,11 @@ no-message (Answers.Message head next n) (inr e) = absurd (omega arith)
 no-message Answers.Idle e = tt
 no-message (Answers.Refused r missing) e = tt
 
+-- the tag of a mask
+pub mask-tag : (f : Found) → tagOf the-type f ≡ 0 → Mask ≡ f
+mask-tag Mask e = refl
+mask-tag (Answered a) e = absurd (omega arith)
+
 -- one that is no message: the outcome is a stop
 pub stop-of : (o : Outcome) (a : Answer) → a ≡ answerOf o → Halts (Answered a) → Stopped o
 unfolding answerOf Halts

@@ -2,27 +2,23 @@
 use mathlib.Core.Path.{_≡_, refl, sym, ap, subst, _∙_}
 use mathlib.Core.Bool.{true, false}
 use mathlib.Core.List.{List}
-use Prim.Native.Nat.{ℕ, _+_, _-_}
+use Prim.Native.Nat.{_+_, _-_}
 use native.Mathlib.Omega.{arith}
 use lib.IntN.{ℤ}
-use lib.ListN.{length, take}
+use lib.ListN.{length}
 use borrow.Author.Needs.{needs}
 use Rattle.body.proofs.Bodies.{counted, prefix}
-use Rattle.body.specs.Lent.{viewBy}
 use Rattle.format.specs.declared.Answer.the-variants.{Message}
 use Rattle.holding.specs.declared.Holding.{Holding}
-use Rattle.holding.specs.Held.{View}
 use Rattle.holding.specs.Outlines.{wholeOf}
 use Rattle.holding.specs.Pictures.{sound}
-use Rattle.reader.specs.declared.message.Finding.{Finding}
-use Rattle.reader.specs.declared.message.Finding.the-variants as Findings
+use Rattle.reader.specs.declared.message.Found.{Found}
 use Rattle.reader.specs.declared.message.Found.the-variants.{Answered}
-use Rattle.reader.specs.Findings.{settled, settledRows, isNear, nearIn, Finds}
 use Rattle.walk.specs.Standing.{Stand, standAt, Stands}
-use Rattle.walk.specs.Pausing.{foundIn, rowsIn, pausesIn, Paused}
-use Rattle.walk.proofs.Found.{Halts, no-message, under-goes}
+use Rattle.walk.specs.Pausing.{foundIn, rowsIn, pausesIn, pauseIn}
+use Rattle.walk.proofs.Found.{Halts, no-message, mask-tag, under-goes}
 use Rattle.walk.proofs.Going.{Goes}
-use Rattle.walk.proofs.Pausing.{Rests, rests-tag, rests-halts, pauses-once, pauses-behind, pauses-here}
+use Rattle.walk.proofs.Pausing.{pauses-once, pauses-behind, pauses-here}
 use Rattle.walk.proofs.under.under.Statement.{statement}
 use Rattle.walk.proofs.under.under.Tie as tie
 
@@ -53,16 +49,10 @@ module _ (c : tie.At-loop Inv-loop μ-loop) where
   abbrev start : Stand
   start = standAt hold (s .args .from) (s .args .rows .now)
 
-  -- the IDs of its slots are lent, and what those show
-  abbrev ids : List ℕ
-  ids = take (hold .count) (hold .ids)
-
-  abbrev view : View
-  view = viewBy ids (hold .satellites) (hold .strips)
-
   firm : sound hold ≡ true
   firm = c .loop .inv .0 .held
 
+-- the holding's slots, masks and strips are lent
 find-requires : tie.Need-find-requires Inv-loop μ-loop
 find-requires c κs =
     let stands = c .before .before .before .before .loop .inv .0 in (
@@ -71,90 +61,73 @@ find-requires c κs =
       stands .there,
     )
 
-module _ (f : tie.After-find Inv-loop μ-loop) where
-  abbrev l : tie.At-loop Inv-loop μ-loop
-  l = f .before .before .before .before .before
+abbrev at : tie.After-find Inv-loop μ-loop → tie.At-loop Inv-loop μ-loop
+at f = f .before .before .before .before .before
 
-  abbrev bytes : List ℕ
-  bytes = s l .args .bytes .now
+-- the pause is where the loop stands
+paused : (f : tie.After-find Inv-loop μ-loop) (g : Found) → g ≡ f .find .result
+    → let l = at f in let t = pausesIn (s l .args .once) (s l .args .bytes .now) (s l .args .end) (start l) in
+    t ≡ here l
+    → (record { found = g; tally = l .loop .tally } ≡ pauseIn (s l .args .bytes .now) (s l .args .end) t) × (f .find .last .1 .1 .1 .1 .1 .1 .1 .0 ≡ rowsIn (s l .args .bytes .now) (s l .args .end) t)
+paused f g e there = rw there ((λ i. record { found = (e ∙ f .find .ensures .0) i; tally = at f .loop .tally }), f .find .ensures .1)
 
-  abbrev end : ℕ
-  end = s l .args .end
+-- a mask, or a stop
+halted : (f : tie.After-find Inv-loop μ-loop) (g : Found) → g ≡ f .find .result → Halts g
+    → let l = at f in pausesIn (s l .args .once) (s l .args .bytes .now) (s l .args .end) (start l) ≡ here l
+halted f g e halts =
+    let l = at f in
+    l .loop .inv .1 ∙ pauses-here (s l .args .bytes .now) (s l .args .end) (here l) (l .loop .inv .0) (s l .args .once) (subst Halts (e ∙ f .find .ensures .0) halts)
 
-  -- the row buffer that reading left
-  abbrev left : List ℤ
-  left = f .find .last .1 .1 .1 .1 .1 .1 .1 .0
-
-  -- the pause is where the loop stands
-  paused : (g : Finding) → g ≡ f .find .result → pausesIn (s l .args .once) bytes end (start l) ≡ here l
-      → Paused (s l .args .once) bytes end (start l) left (record { found = g; tally = l .loop .tally })
-  paused g e there =
-      record {
-        tally = sym (ap (λ (t : Stand). t .tally) there);
-        told = subst (λ (t : Stand). Finds (hold l) (ids l) bytes end (t .tally .place) (t .rows) left g) (sym there)
-            (subst (λ (x : Finding). Finds (hold l) (ids l) bytes end (l .loop .tally .place) (l .loop .rows) left x) (sym e) (f .find .ensures));
-      }
-
-  rested : Rests (nearIn bytes (foundIn bytes end (here l))) (foundIn bytes end (here l)) → pausesIn (s l .args .once) bytes end (start l) ≡ here l
-  rested rests = l .loop .inv .1 ∙ pauses-here bytes end (here l) (l .loop .inv .0) (s l .args .once) rests
-
--- a mask, or rows are left
 returns : tie.Need-returns Inv-loop μ-loop
+unfolding Halts
 returns c =
-    let f = c .before .before in
-    paused f _ refl (rested f (rests-tag (f .find .result) _ _ (c .match .keys2) (f .find .ensures .found) (f .find .ensures .near)))
+    let f = c .before .before .before in
+    let mask = mask-tag (f .find .result) (c .before .match .keys2) in
+    paused f _ refl (halted f _ refl (subst Halts mask tt))
 
--- a stop
 returns-2 : tie.Need-returns-2 Inv-loop μ-loop
-unfolding settled
 returns-2 c =
     let a = c .before .before .found .given in
     let f = c .before .before .before .before .before in
-    let found : Answered (a .0 .0) ≡ foundIn (bytes f) (end f) (here (l f)) = sym (ap settled (a .1)) ∙ f .find .ensures .found in
-    paused f (Findings.Answered (a .0 .0)) (sym (a .1)) (rested f (rests-halts _ _ (subst Halts found (no-message (a .0 .0) (c .match2 .keys2)))))
+    paused f (Answered (a .0 .0)) (sym (a .1)) (halted f (Answered (a .0 .0)) (sym (a .1)) (no-message (a .0 .0) (c .match2 .keys2)))
 
 -- a message
 module _ (c : tie.After-known-told2 Inv-loop μ-loop) where
   abbrev f : tie.After-find Inv-loop μ-loop
   f = c .before .before .before .before .before .before .before
 
+  abbrev l : tie.At-loop Inv-loop μ-loop
+  l = at f
+
   -- the stand behind it, with the row buffer that reading it left
   abbrev next : List ℤ → Stand
   next rows =
-      standAt (hold (l f))
-      (record { place = c .before .answer .given .0 .1 .0; messages = l f .loop .tally .messages + 1; rows = l f .loop .tally .rows + c .before .answer .given .0 .1 .1 .0 }) rows
+      standAt (hold l)
+      (record { place = c .before .answer .given .0 .1 .0; messages = l .loop .tally .messages + 1; rows = l .loop .tally .rows + c .before .answer .given .0 .1 .1 .0 }) rows
 
-  message :
-      foundIn (bytes f) (end f) (here (l f)) ≡ Answered (Message (c .before .answer .given .0 .0) (c .before .answer .given .0 .1 .0) (c .before .answer .given .0 .1 .1 .0))
-  unfolding settled
-  message = sym (f .find .ensures .found) ∙ ap settled (c .before .before .before .before .found .given .1) ∙ ap Answered (c .before .answer .given .1)
+  abbrev left : List ℤ
+  left = f .find .last .1 .1 .1 .1 .1 .1 .1 .0
 
-  -- its rows are there
-  far : nearIn (bytes f) (Answered (Message (c .before .answer .given .0 .0) (c .before .answer .given .0 .1 .0) (c .before .answer .given .0 .1 .1 .0))) ≡ false
-  unfolding isNear
-  far = ap (nearIn (bytes f)) (sym message) ∙ sym (f .find .ensures .near) ∙ ap isNear (c .before .before .before .before .found .given .1)
+  message : foundIn (s l .args .bytes .now) (s l .args .end) (here l) ≡ Answered (Message (c .before .answer .given .0 .0) (c .before .answer .given .0 .1 .0) (c .before .answer .given .0 .1 .1 .0))
+  message = sym (f .find .ensures .0) ∙ c .before .before .before .before .found .given .1 ∙ ap Answered (c .before .answer .given .1)
 
-  filled : rowsIn (bytes f) (end f) (here (l f)) ≡ left f
-  unfolding settledRows
-  filled = sym (sym (ap (λ (x : Finding). settledRows x (view (l f)) (bytes f) (left f)) (c .before .before .before .before .found .given .1)) ∙ f .find .ensures .rows)
-
-  goes : Goes (bytes f) (end f) (here (l f)) (next (left f))
+  goes : Goes (s l .args .bytes .now) (s l .args .end) (here l) (next left)
   goes =
-      subst (λ (rows : List ℤ). Goes (bytes f) (end f) (here (l f)) (next rows)) filled
-      (under-goes (bytes f) (end f) (here (l f)) (l f .loop .inv .0) _ _ _ message)
+      subst (λ (rows : List ℤ). Goes (s l .args .bytes .now) (s l .args .end) (here l) (next rows)) (sym (f .find .ensures .1))
+      (under-goes (s l .args .bytes .now) (s l .args .end) (here l) (l .loop .inv .0) _ _ _ message)
 
-  same : s (l f) .args .once ≡ false → pausesIn (s (l f) .args .once) (bytes f) (end f) (here (l f)) ≡ pausesIn (s (l f) .args .once) (bytes f) (end f) (next (left f))
+  same : s l .args .once ≡ false → pausesIn (s l .args .once) (s l .args .bytes .now) (s l .args .end) (here l) ≡ pausesIn (s l .args .once) (s l .args .bytes .now) (s l .args .end) (next left)
   same on =
-      pauses-behind (bytes f) (end f) (here (l f)) (l f .loop .inv .0) (s (l f) .args .once) on _ _ _ message far
-      ∙ ap (λ (rows : List ℤ). pausesIn (s (l f) .args .once) (bytes f) (end f) (next rows)) filled
+      pauses-behind (s l .args .bytes .now) (s l .args .end) (here l) (l .loop .inv .0) (s l .args .once) on _ _ _ message
+      ∙ ap (λ (rows : List ℤ). pausesIn (s l .args .once) (s l .args .bytes .now) (s l .args .end) (next rows)) (sym (f .find .ensures .1))
 
 -- one reading
 returns-3 : tie.Need-returns-3 Inv-loop μ-loop
 returns-3 c =
     let m = c .before in
-    let l = l (f m) in
+    let x = s (l m) .args in
     let a = m .before .before .before .before .found .given in
-    paused (f m) (Findings.Answered (a .0 .0)) (sym (a .1)) (l .loop .inv .1 ∙ pauses-once (bytes (f m)) (end (f m)) (here l) (l .loop .inv .0) (s l .args .once) (c .if1 .taken))
+    paused (f m) (Answered (a .0 .0)) (sym (a .1)) (l m .loop .inv .1 ∙ pauses-once (x .bytes .now) (x .end) (here (l m)) (l m .loop .inv .0) (x .once) (c .if1 .taken))
 
 add-messages : tie.Need-add-t26 Inv-loop μ-loop
 add-messages c =
@@ -174,10 +147,10 @@ loop-less c =
 loop-again : tie.Need-loop-again Inv-loop μ-loop
 loop-again c =
     let m = c .before .before .before in
-    (goes m .stands, l (f m) .loop .inv .1 ∙ same m (c .before .before .if1 .left), f m .find .kept .1 .1 .1 .1 .1 .1 .1 .0 ∙ l (f m) .loop .inv .2)
+    (goes m .stands, l m .loop .inv .1 ∙ same m (c .before .before .if1 .left), f m .find .kept .1 .1 .1 .1 .1 .1 .1 .0 ∙ l m .loop .inv .2)
 
 pub under-spec : {M : Type 1} → statement M
 under-spec =
     tie.close
     (tie.spec Inv-loop μ-loop loop-holds (λ c. counted (hold c) (firm c)) (λ c. let l = c .before in prefix (hold l) (firm l))
-    find-requires (λ c. search needs) (λ c. search needs) returns (λ c. search needs) (λ c. search needs) returns-2 (λ c. search needs) returns-3 add-messages add-rows loop-less loop-again)
+    find-requires (λ c. search needs) (λ c. search needs) (λ c. search needs) returns (λ c. search needs) (λ c. search needs) returns-2 (λ c. search needs) returns-3 add-messages add-rows loop-less loop-again)
