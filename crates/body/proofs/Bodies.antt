@@ -16,7 +16,7 @@ use Rattle.format.proofs.Spells.{packet-count}
 use Rattle.format.specs.Lengths.{total}
 use Rattle.format.specs.Masks.{Satellite, Cell, pick}
 use Rattle.format.specs.Messages.{satelliteLines, cellLines, packetLines, packetShape}
-use Rattle.format.specs.Rows.{Column, Line, absent, widthOf, shapeWidth, bodyWidth}
+use Rattle.format.specs.Rows.{Column, Line, absent, widthOf, shapeWidth}
 use Rattle.holding.proofs.Sounds.{Sounds, sounds}
 use Rattle.holding.specs.Bounds.{narrow, every}
 use Rattle.holding.specs.declared.Holding.{Holding}
@@ -33,7 +33,7 @@ use Rattle.table.specs.declared.Keys.the-variants.{Satellites, Cells, Parts}
 use Rattle.table.specs.Bodies.{linesOver, linesIn, FitsKeys, Fits}
 use Rattle.body.specs.Chosen.{alone, cellsIn, striped, chosenLines}
 use Rattle.body.specs.Lent.{viewBy, Lent, Sized, Lends}
-use Rattle.body.specs.Written.{Room, Counts}
+use Rattle.body.specs.Written.{Counts}
 use Rattle.body.proofs.Groups.{no-cells, alone-chosen, striped-chosen}
 use Rattle.body.proofs.Sizes.{Few, few-satellites, total-most, satellites-alike}
 use Rattle.body.proofs.Slots.{count-of}
@@ -87,14 +87,14 @@ unfolding packetLines packetShape
 packet-eights k zero = none
 packet-eights k (suc n) = more (refl, refl) (packet-eights (suc k) n)
 
-eights : (v : View) (keys : Keys) (shape : ℕ) → FitsKeys keys shape → Eights (linesOver v keys shape)
-unfolding linesOver FitsKeys satelliteLines cellLines
-eights v (Satellites chosen) shape fits =
+eights : (v : View) (keys : Keys) (shape : ℕ) → Eights (linesOver v keys shape)
+unfolding linesOver satelliteLines cellLines
+eights v (Satellites chosen) shape =
     lines-eights {A = Satellite} (λ s. pos (s .system) ∷ pos (s .number) ∷ absent ∷ []) (λ s. shapeAt shape (s .system)) (pick (spell 64 chosen) (v .satellites)) (λ _. refl) (λ s. five-at (s .system) shape)
-eights v (Cells chosen) shape fits =
+eights v (Cells chosen) shape =
     lines-eights {A = Cell} (λ c. pos (c .satellite .system) ∷ pos (c .satellite .number) ∷ pos (c .signal) ∷ []) (λ c. shapeAt shape (c .satellite .system))
     (stripCells (pick (spell 64 chosen) (v .satellites)) (pick (spell 64 chosen) (v .strips))) (λ _. refl) (λ c. five-at (c .satellite .system) shape)
-eights v (Parts n) shape fits = packet-eights 1 n
+eights v (Parts n) shape = packet-eights 1 n
 
 -- how many they are and how wide, under so few satellites and cells
 pub few-lines : (v : View) (keys : Keys) (shape : ℕ) → length (v .satellites) ≤ 64 → length (stripCells (v .satellites) (v .strips)) ≤ 256 → FitsKeys keys shape → Few (linesOver v keys shape)
@@ -163,6 +163,11 @@ module _ (v : View) (chosen shape : ℕ) where
   by-cells =
       ap (λ (f : ℕ → List Column). chosenLines chosen (striped f (v .satellites) (v .strips))) (made-columns shape) ∙ striped-chosen (shapeAt shape) chosen (v .satellites) (v .strips)
 
+-- each has eight numbers
+pub numbers-long : (v : View) (body : Body) (bytes : List ℕ) (at : ℕ) → length (flatten (rowsAt (linesIn v body) bytes at)) ≡ 8 * length (linesIn v body)
+unfolding linesIn
+numbers-long v body bytes at = rows-length (linesIn v body) bytes at (eights v (body .keys) (body .shape))
+
 -- ---- under what is lent
 
 module _ {ids masks strips : List ℕ} (lent : Lent ids masks strips) (body : Body) (fits : Fits body) where
@@ -172,19 +177,6 @@ module _ {ids masks strips : List ℕ} (lent : Lent ids masks strips) (body : Bo
   pub few-in : Few lines
   unfolding linesIn
   few-in = few-lines (viewBy ids masks strips) (body .keys) (body .shape) (lent .satellites) (lent .cells) fits
-
-  pub numbers-long : (bytes : List ℕ) (at : ℕ) → length (flatten (rowsAt lines bytes at)) ≡ 8 * length lines
-  unfolding linesIn
-  numbers-long bytes at = rows-length lines bytes at (eights (viewBy ids masks strips) (body .keys) (body .shape) fits)
-
-  -- eight numbers for each line are room for a body
-  pub roomy : {keys : Keys} (bytes : List ℕ) (at bits : ℕ) (rows : List ℤ) → body .keys ≡ keys → bits ≡ bodyWidth lines → at + bits < 2 ^ 32 → 8 * length lines ≤ length rows
-      → at + bits + 120 ≤ 8 * length bytes → Room (linesOver (viewBy ids masks strips) keys (body .shape)) bytes at rows
-  unfolding linesIn
-  roomy bytes at bits rows known wide near room whole =
-      let long = numbers-long bytes at in
-      let short = few-in .rows in
-      rw (lines-known (viewBy ids masks strips) body known) (record { room = omega (arith, long, short); few = omega (arith, long, short); near = omega arith; whole = omega arith })
 
 -- ---- under a sound holding
 

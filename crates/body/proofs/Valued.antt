@@ -11,20 +11,20 @@ use Rattle.format.specs.Rows.{Column, Line, absent, widthOf, shapeWidth, bodyWi
 use Rattle.bits.specs.BitLists.{spell}
 use Rattle.holding.specs.Held.{View, stripCells}
 use Rattle.rows.proofs.RowsAt.{values-length}
-use Rattle.rows.proofs.Table.{columns-in, five-at, laid}
+use Rattle.rows.proofs.Table.{columns-in, five-at, laid, narrows}
 use Rattle.rows.specs.At.{valuesAt, rowsAt, columnsOn, valuedAt}
 use Rattle.rows.specs.declared.shape.Shape.{Shape}
-use Rattle.rows.specs.Shapes.{columnFor, columnsIn, shapeWith, Narrow}
-use Rattle.rows.specs.Table.{shapes, listed, shapeAt, shapeIn, shapeFor}
-use Rattle.table.specs.Bodies.{linesOver, linesIn, FitsKeys, Fits}
+use Rattle.rows.specs.Shapes.{columnsIn}
+use Rattle.rows.specs.Table.{shapes, listed, shapeAt, shapeFor}
+use Rattle.table.specs.Bodies.{linesOver, linesIn, FitsKeys}
 use Rattle.table.specs.declared.Keys.{Keys}
 use Rattle.table.specs.declared.Keys.the-variants.{Satellites, Cells, Parts}
 use Rattle.body.specs.declared.Placed.{Placed}
-use Rattle.body.specs.Asking.{Fills}
+use Rattle.body.specs.Asking.{Fills, Kinded, Writes}
 use Rattle.body.specs.Lent.{viewBy}
-use Rattle.body.specs.Near.{withKeys, named, valued}
+use Rattle.body.specs.Near.{named, valued}
 use Rattle.body.specs.Written.{numbersAt}
-use Rattle.body.proofs.Bodies.{numbers-long}
+use Rattle.body.proofs.Bodies.{few-in, numbers-long}
 
 -- ---- lines with the same keys, those of the first as wide as a shape has them
 
@@ -99,46 +99,34 @@ unfolding bodyWidth shapeWidth widthOf shapes listed shapeAt combinedShape
 no-bits keys system [] = refl
 no-bits keys system (a ∷ l) = omega (arith, no-bits keys system l)
 
--- the body for the keys alone: it can be written over a short string of zeros
-record Named (v : View) (s : ℕ) (keys : Keys) (p : Placed) : Type 0 where
-  fits : Fits (p .body)
-  bits : p .bits ≡ bodyWidth (linesIn v (p .body))
-  few : p .bits ≤ 160
-  first : p .at ≡ 0
-  keyed : Keyed (shapeFor s) (linesOver v keys s) (linesIn v (p .body))
+-- the body for its keys alone: it can be written over a short string of zeros
+record Named (v : View) (keys : Keys) (shape : ℕ) : Type 0 where
+  fitted : Kinded keys shape
+  kind : Kinded keys 0
+  few : bodyWidth (linesOver v keys 0) ≤ 160
+  keyed : Keyed (shapeFor shape) (linesOver v keys shape) (linesOver v keys 0)
 
-gaps-narrow : Narrow (shapeFor 0)
-unfolding shapes listed shapeAt shapeIn shapeWith columnFor combinedShape
-gaps-narrow = record { iode = refl; fourth = refl; fifth = refl }
-
-no-width : shapeWidth (shapeAt 0 0) ≡ 0
-unfolding shapes listed shapeAt shapeWidth widthOf combinedShape
-no-width = refl
-
-by-keys : (v : View) (keys : Keys) (shape bits rows : ℕ) → FitsKeys keys shape → bits ≡ bodyWidth (linesOver v keys shape) → Named v shape keys (withKeys keys shape bits rows)
-unfolding withKeys FitsKeys linesOver linesIn satelliteLines cellLines
-by-keys v (Satellites chosen) shape bits rows fits wide =
+by-keys : (v : View) (keys : Keys) (shape : ℕ) → FitsKeys keys shape → Named v keys shape
+unfolding FitsKeys Kinded linesOver satelliteLines cellLines
+by-keys v (Satellites chosen) shape fits =
     let sats : List Satellite = pick (spell 64 chosen) (v .satellites) in
     record {
-      fits = laid 0 (omega arith);
-      bits = sym (no-bits (λ (a : Satellite). pos (a .system) ∷ pos (a .number) ∷ absent ∷ []) (λ a. a .system) sats);
-      few = omega arith;
-      first = refl;
+      fitted = fits;
+      kind = laid 0 (omega arith);
+      few = omega (arith, no-bits (λ (a : Satellite). pos (a .system) ∷ pos (a .number) ∷ absent ∷ []) (λ a. a .system) sats);
       keyed = keyed-map (shapeFor shape) (λ (a : Satellite). pos (a .system)) (λ a. pos (a .number)) (λ _. absent) (λ a. shapeAt shape (a .system)) (λ a. shapeAt 0 (a .system)) sats
           (λ a. columns-in (a .system) shape) (λ a. five-at (a .system) 0);
     }
-by-keys v (Cells chosen) shape bits rows fits wide =
+by-keys v (Cells chosen) shape fits =
     let cells : List Cell = stripCells (pick (spell 64 chosen) (v .satellites)) (pick (spell 64 chosen) (v .strips)) in
     record {
-      fits = (gaps-narrow, omega (arith, no-width));
-      bits = sym (no-bits (λ (a : Cell). pos (a .satellite .system) ∷ pos (a .satellite .number) ∷ pos (a .signal) ∷ []) (λ a. a .satellite .system) cells);
-      few = omega arith;
-      first = refl;
+      fitted = fits .0;
+      kind = narrows .0;
+      few = omega (arith, no-bits (λ (a : Cell). pos (a .satellite .system) ∷ pos (a .satellite .number) ∷ pos (a .signal) ∷ []) (λ a. a .satellite .system) cells);
       keyed = keyed-map (shapeFor shape) (λ (a : Cell). pos (a .satellite .system)) (λ a. pos (a .satellite .number)) (λ a. pos (a .signal)) (λ a. shapeAt shape (a .satellite .system))
           (λ a. shapeAt 0 (a .satellite .system)) cells (λ a. columns-in (a .satellite .system) shape) (λ a. five-at (a .satellite .system) 0);
     }
-by-keys v (Parts n) shape bits rows fits wide =
-    record { fits = fits; bits = wide; few = omega (arith, fits .0, wide, packet-width 1 n); first = refl; keyed = rw (fits .1) (keyed-packet 1 n) }
+by-keys v (Parts n) shape fits = record { fitted = tt; kind = tt; few = omega (arith, fits .0, packet-width 1 n); keyed = rw (fits .1) (keyed-packet 1 n) }
 
 -- ---- what is written over the zeros, and then
 
@@ -149,53 +137,40 @@ module _ {ids masks strips : List ℕ} {placed : Placed} {rows : List ℤ} (f : 
   abbrev lines : List Line
   lines = linesIn view (placed .body)
 
-  it : Named view (placed .body .shape) (placed .body .keys) (named placed)
-  unfolding linesIn
-  it = by-keys view (placed .body .keys) (placed .body .shape) (placed .bits) (placed .rows) (f .fits) (f .bits)
+  abbrev gaps : List Line
+  gaps = linesIn view (named placed .body)
 
-  keyed : Keyed (shapeFor (placed .body .shape)) lines (linesIn view (named placed .body))
-  unfolding linesIn
+  it : Named view (placed .body .keys) (placed .body .shape)
+  it = by-keys view (placed .body .keys) (placed .body .shape) (f .fits)
+
+  keyed : Keyed (shapeFor (placed .body .shape)) lines gaps
+  unfolding linesIn named
   keyed = it .keyed
 
-  count : named placed .rows ≡ placed .rows
-  unfolding withKeys
-  count = go (placed .body .keys)
-    where
-      go : (keys : Keys) → withKeys keys (placed .body .shape) (placed .bits) (placed .rows) .rows ≡ placed .rows
-      go (Satellites chosen) = refl
-      go (Cells chosen) = refl
-      go (Parts n) = refl
-
-  named-fills : Fills ids masks strips (named placed) rows
-  named-fills =
-      record {
-        lent = f .lent;
-        fits = it .fits;
-        bits = it .bits;
-        count = count ∙ f .count ∙ keyed-count keyed;
-        near = omega (arith, it .first, it .few);
-        room = omega (arith, keyed-count keyed, f .room);
-      }
-
-  -- as it is where windows are there, else for its keys alone
-  pub first-fills : (near : Bool) → Fills ids masks strips (cond near (named placed) placed) rows
-  first-fills true = named-fills
-  first-fills false = f
-
-  pub first-windows : (near : Bool) (bytes zeros : List ℕ) → length zeros ≡ 35 → (near ≡ false → placed .at + placed .bits + 120 ≤ 8 * length bytes)
-      → let p = cond near (named placed) placed in p .at + p .bits + 120 ≤ 8 * length (cond near zeros bytes)
-  first-windows true bytes zeros long far = omega (arith, it .first, it .few)
-  first-windows false bytes zeros long far = far refl
+  -- the body where windows are there, else for its keys alone
+  pub first-writes : (near : Bool) (bytes zeros : List ℕ) → length zeros ≡ 35 → (near ≡ false → placed .at + placed .bits + 120 ≤ 8 * length bytes)
+      → Writes ids masks strips (cond near (named placed) placed) (cond near zeros bytes) rows
+  unfolding linesIn named
+  first-writes true bytes zeros thirty-five far =
+      let long = numbers-long view (named placed .body) zeros 0 in
+      let few = few-in (f .lent) (placed .body) (f .fits) .rows in
+      let same = keyed-count keyed in
+      record { lent = f .lent; kind = it .kind; room = record { room = omega (arith, long, same, f .room); few = omega (arith, long, same, few); near = omega (arith, it .few); whole = omega (arith, it .few) } }
+  first-writes false bytes zeros thirty-five far =
+      let long = numbers-long view (placed .body) bytes (placed .at) in
+      let few = few-in (f .lent) (placed .body) (f .fits) .rows in
+      let whole = far refl in
+      record { lent = f .lent; kind = it .fitted; room = record { room = omega (arith, long, f .room); few = omega (arith, long, few); near = omega (arith, f .near, f .bits); whole = omega (arith, f .bits) } }
 
   -- with the values the rows are the body's
-  pub filled-in : (bytes zeros : List ℕ) {new : List ℤ} → new ≡ over (numbersAt (linesIn view (named placed .body)) zeros (named placed .at)) rows
+  pub filled-in : (bytes zeros : List ℕ) {new : List ℤ} → new ≡ over (numbersAt gaps zeros (named placed .at)) rows
       → valued (shapeFor (placed .body .shape)) bytes (placed .rows) (placed .at) new ≡ over (numbersAt lines bytes (placed .at)) rows
   unfolding over
   filled-in bytes zeros {new} written =
       let s = shapeFor (placed .body .shape) in
-      let old : List ℤ = numbersAt (linesIn view (named placed .body)) zeros (named placed .at) in
+      let old : List ℤ = numbersAt gaps zeros (named placed .at) in
       let same : length old ≡ length (numbersAt lines bytes (placed .at)) =
-      numbers-long (f .lent) (named placed .body) (it .fits) zeros _ ∙ ap (λ (n : ℕ). 8 * n) (sym (keyed-count keyed)) ∙ sym (numbers-long (f .lent) (placed .body) (f .fits) bytes _) in
+      numbers-long view (named placed .body) zeros _ ∙ ap (λ (n : ℕ). 8 * n) (sym (keyed-count keyed)) ∙ sym (numbers-long view (placed .body) bytes _) in
       (λ i. valued s bytes (f .count i) (placed .at) (written i))
       ∙ valued-keyed s bytes zeros keyed (placed .at) (named placed .at) (drop (length old) rows)
       ∙ ap (λ (n : ℕ). numbersAt lines bytes (placed .at) ++ drop n rows) same

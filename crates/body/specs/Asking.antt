@@ -8,8 +8,11 @@ use Rattle.format.specs.Masks.{Satellite}
 use Rattle.format.specs.Rows.{Line, bodyWidth}
 use Rattle.rows.specs.declared.shape.Shape.{Shape}
 use Rattle.holding.specs.Held.{slotSatellites}
-use Rattle.rows.specs.Shapes.{columnsIn, FormedShape, Narrow}
+use Rattle.rows.specs.Shapes.{columnsIn, FormedShape, Laid, Narrow}
+use Rattle.rows.specs.Table.{shapeFor}
 use Rattle.table.specs.Bodies.{linesIn, Fits}
+use Rattle.table.specs.declared.Keys.{Keys}
+use Rattle.table.specs.declared.Keys.the-variants.{Satellites, Cells, Parts}
 use Rattle.body.specs.declared.Placed.{Placed}
 use Rattle.body.specs.declared.Wanted.{Wanted}
 use Rattle.body.specs.Chosen.{alone, striped, chosenLines}
@@ -43,3 +46,15 @@ pub record Fills (ids masks strips : List ℕ) (placed : Placed) (rows : List �
   pub count : placed .rows ≡ length (linesIn (viewBy ids masks strips) (placed .body))
   pub near : placed .at + placed .bits < 2 ^ 32
   pub room : 8 * length (linesIn (viewBy ids masks strips) (placed .body)) ≤ length rows
+
+-- a body's shape is of the kind that the rows of its keys have; a packet's part has one shape alone
+unfoldable pub Kinded : Keys → ℕ → Type 0
+Kinded (Satellites chosen) shape = Laid (shapeFor shape)
+Kinded (Cells chosen) shape = Narrow (shapeFor shape)
+Kinded (Parts n) shape = Unit {0}
+
+-- and there is room for its rows, with windows up to the last one
+pub record Writes (ids masks strips : List ℕ) (placed : Placed) (bytes : List ℕ) (rows : List ℤ) : Type 0 where
+  pub lent : Lent ids masks strips
+  pub kind : Kinded (placed .body .keys) (placed .body .shape)
+  pub room : Room (linesIn (viewBy ids masks strips) (placed .body)) bytes (placed .at) rows

@@ -6,18 +6,11 @@ use lib.ListN.{take, drop}
 use Rattle.format.specs.Rows.{shapeWidth}
 use Rattle.rows.specs.At.{columnsOn, valuedAt}
 use Rattle.rows.specs.declared.shape.Shape.{Shape}
-use Rattle.table.specs.declared.Keys.{Keys}
-use Rattle.table.specs.declared.Keys.the-variants.{Satellites, Cells, Parts}
 use Rattle.body.specs.declared.Placed.{Placed}
 
--- for the keys alone a row has gaps, and no bits; but a packet's part has one shape alone
-unfoldable pub withKeys : Keys → ℕ → ℕ → ℕ → Placed
-withKeys (Satellites chosen) shape bits rows = record { body = record { keys = Satellites chosen; shape = 0 }; bits = 0; rows = rows; at = 0 }
-withKeys (Cells chosen) shape bits rows = record { body = record { keys = Cells chosen; shape = 0 }; bits = 0; rows = rows; at = 0 }
-withKeys (Parts n) shape bits rows = record { body = record { keys = Parts n; shape = shape }; bits = bits; rows = rows; at = 0 }
-
-abbrev pub named : Placed → Placed
-named p = withKeys (p .body .keys) (p .body .shape) (p .bits) (p .rows)
+-- for its keys alone a body has rows of gaps
+unfoldable pub named : Placed → Placed
+named p = record { body = record { keys = p .body .keys; shape = 0 }; bits = p .bits; rows = p .rows; at = 0 }
 
 -- n rows whose keys stand there, with their values from a place on
 unfoldable pub valued : Shape → List ℕ → ℕ → ℕ → List ℤ → List ℤ

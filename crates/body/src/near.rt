@@ -10,7 +10,6 @@ use crate::Placed;
 use rows::row;
 use rows::shapes;
 use table::Body;
-use table::Keys;
 
 // How many zeros there are: enough for a packet's four parts and the windows behind them.
 pub const ZEROS: usize = 35;
@@ -22,8 +21,7 @@ pub fn string<'a>(near: bool, bytes: &'a [u8], zeros: &'a [u8]) -> &'a [u8]
     if near { zeros } else { bytes }
 }
 
-// The body that is written over it: for its keys alone rows of gaps, which have no bits. A packet's part has one shape
-// alone.
+// The body that is written over it: for its keys alone one of gaps.
 pub fn body(near: bool, placed: Placed) -> Placed
     ensures { λ r. ⌜ r ≡ cond near (named placed) placed ⌝ }
 {
@@ -32,23 +30,14 @@ pub fn body(near: bool, placed: Placed) -> Placed
     }
     let body = placed.body;
     let keys = body.keys;
-    let rows = placed.rows;
-    if let Keys::Parts(_) = keys {
-        return Placed {
-            body,
-            bits: placed.bits,
-            rows,
-            at: 0,
-        };
-    }
     let gaps = Body {
         keys,
         shape: shapes::NONE,
     };
     Placed {
         body: gaps,
-        bits: 0,
-        rows,
+        bits: placed.bits,
+        rows: placed.rows,
         at: 0,
     }
 }

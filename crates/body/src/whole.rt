@@ -1,8 +1,6 @@
 // The rows of a body behind which the string goes on far enough for windows.
 ghost use mathlib.Core.Path.{_≡_};
-ghost use Prim.Native.Nat.{_+_, _*_, _≤_};
-ghost use lib.ListN.{length};
-ghost use Rattle.body.specs.Asking.{Fills};
+ghost use Rattle.body.specs.Asking.{Writes};
 ghost use Rattle.body.specs.Lent.{viewBy};
 ghost use Rattle.body.specs.Written.{numbersAt};
 ghost use Rattle.format.specs.Reading.{over};
@@ -35,7 +33,7 @@ pub fn fill(
     bytes: &[u8],
     rows: &mut [i32],
 )
-    requires { ⌜ Fills (now ids) (now masks) (now strips) placed (now rows) × (placed .at + placed .bits + 120 ≤ 8 * length (now bytes)) ⌝ }
+    requires { ⌜ Writes (now ids) (now masks) (now strips) placed (now bytes) (now rows) ⌝ }
     ensures { λ _. ⌜ now (rows .exit) ≡ over (numbersAt (linesIn (viewBy (now (ids .entry)) (now (masks .entry)) (now (strips .entry))) (placed .body)) (now (bytes .entry)) (placed .at)) (now (rows .entry)) ⌝ }
 {
     let body = placed.body;

@@ -52,17 +52,25 @@ module _ (P : Outcome → Type 0) where
         (record { holds = leb rowRoom (length rows); else = Room } ∷ record { holds = placed bytes end start; else = Place } ∷ [])
         stop (stop Value)
 
-    -- what holds of stops that keep what is lent, and of whatever message is read, holds of a reading
+    -- what holds of stops that keep what is held, and of whatever message is read, holds of reading the bits from a place on
+    pub read-ends :
+        (held : Held) → ((r : Refusal) (missing : ℕ) → P (refused r missing (lent held))) → P (idle (lent held))
+        → ((m : Message) (taken : ℕ) → run (messageBy t held) (bitsFrom bytes end start) ≡ well m taken → P (accepted m (start + taken)))
+        → P (readFrom t held start (bitsFrom bytes end start))
+    unfolding readFrom
+    read-ends held stop none said =
+        let l : List Bool = bitsFrom bytes end start in
+        branch (blank l) _ _ none (ended held stop start (run (messageBy t held) l) said)
+
+    -- and of a reading, where what is lent is kept
     pub reading-ends :
         (holding : Lent) → ((r : Refusal) (missing : ℕ) → P (refused r missing holding)) → P (idle holding)
         → ((m : Message) (taken : ℕ) → run (messageBy t (heldIn holding)) (bitsFrom bytes end start) ≡ well m taken → P (accepted m (start + taken)))
         → P (readingBy t holding bytes end start rows)
-    unfolding readingBy readFrom heldIn isHolding
+    unfolding readingBy heldIn isHolding
     reading-ends stray stop none said = stray-refused (λ r. stop r 0)
     reading-ends (lent held) stop none said =
-        let l : List Bool = bitsFrom bytes end start in
-        judged P (λ r. refused r 0 (lent held)) _ (lentTests (good held) bytes end start (length rows)) (λ r. stop r 0)
-        (branch (blank l) _ _ none (ended held stop start (run (messageBy t held) l) said))
+        judged P (λ r. refused r 0 (lent held)) _ (lentTests (good held) bytes end start (length rows)) (λ r. stop r 0) (read-ends held stop none said)
 
 -- ---- stops
 

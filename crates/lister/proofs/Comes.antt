@@ -22,8 +22,7 @@ use Rattle.lister.specs.declared.Work.the-variants.{Walking}
 use Rattle.lister.specs.Steps.{Done, nextLine, stopText, stopsAs, listsAs, listedAt, answered}
 use Rattle.reader.specs.declared.Reading.{Reading}
 use Rattle.reader.specs.Readings.{structOf, holdingAfter, readingOf, outcomeAt, readAt}
-use Rattle.reader.proofs.EightNumbers.{accepted-eight, rows-left}
-use Rattle.reader.proofs.FewRows.{few-rows}
+use Rattle.reader.proofs.RowsRead.{few-rows, accepted-eight, rows-left}
 use Rattle.walk.specs.declared.Tally.{Tally}
 use Rattle.walk.specs.Standing.{standAt, Stands}
 use Rattle.walk.proofs.Found.{Accepted, message-of}
@@ -116,7 +115,7 @@ module _ (s : State) (bits : ℕ) (tally : Tally) (line : List ℕ) (rows : List
       message-listed = record {
         stands-behind = subst (Stands line bits) same-stand (goes .stands);
         past = goes .past;
-        few = omega (arith, it .count, few-rows (s .holding) (stands .held) (within line bits (standAt (s .holding) tally rows) stands) m next (sym there ∙ it .outcome));
+        few = omega (arith, it .count, few-rows (s .holding) (stands .held) line bits (tally .place) m next (sym there ∙ it .outcome));
         text = same-text ∙ sym (ap (λ (x : Done). x .text) listed);
         result =
             (λ i. record {

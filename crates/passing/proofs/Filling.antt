@@ -1,5 +1,5 @@
 -- An array that is filled from its front, number by number. Assumes nothing.
-use Rattle.bits.proofs.Words.{_≡_, refl, sym, ap, _∙_, List, [], _∷_, _++_, ℕ, zero, suc, _+_, _*_, _≤_, _<_, add-one, arith, length, getD, take, drop}
+use Rattle.bits.proofs.Words.{_≡_, refl, sym, ap, _∙_, List, ℕ, zero, suc, _+_, _*_, _≤_, _<_, add-one, arith, length, getD, take, drop}
 use lib.ListN.{set, length-set}
 use lib.Seq.{take-suc, take-suc-set, take-all, drop-drop}
 use Rattle.passing.specs.Bytes.{little, littles}

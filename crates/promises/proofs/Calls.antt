@@ -21,7 +21,7 @@ use Rattle.format.proofs.WrittenRead.{took}
 use Rattle.host.specs.Handing.{numberSaid, walkedTo}
 use Rattle.promises.specs.Calls.{Got, answered, gets, Calls, stops, goes, gotBy}
 use Rattle.promises.proofs.Determined.{alike}
-use Rattle.reader.proofs.EightNumbers.{Eight, rows-left, message-eight}
+use Rattle.reader.proofs.RowsRead.{Eight, rows-left, message-eight}
 
 -- what is equal in equal answers
 stop-parts : {m n p q : ℕ} → stop m p ≡ stop n q → (m ≡ n) × (p ≡ q)

@@ -28,7 +28,7 @@ use Rattle.lines.proofs.RowTexts.{length-rows}
 use Rattle.promises.specs.RoundTrips.{TheRecords, TheVeryBits, ReadingGivesBack, WritingGivesBack, WritingInPlace, OneAnswer, RefusalLeaves}
 use Rattle.promises.proofs.Calls.{Passes, Read, message-parts, never-both}
 use Rattle.promises.proofs.Determined.{alike}
-use Rattle.reader.proofs.EightNumbers.{Eight, accepted-eight, rows-left}
+use Rattle.reader.proofs.RowsRead.{Eight, accepted-eight, rows-left}
 
 -- ---- rows as numbers
 

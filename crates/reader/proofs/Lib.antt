@@ -5,5 +5,4 @@ pub mod Bodied
 pub mod Adopted
 pub mod Findings
 pub mod Sought
-pub mod FewRows
-pub mod EightNumbers
+pub mod RowsRead

@@ -149,15 +149,18 @@ module _ (bs : List ℕ) (at : ℕ) (h : Shape) where
   abbrev front : ℕ
   front = w1 + (w2 + (w3 + w4))
 
-  -- four out of a number in whose low bits they stand, and one more
-  values-four : (four : ℕ) → ((c : CodeColumn) (place t : ℕ) → at ≤ place → place + c .width + t ≡ at + front → cutBy c (four / 2 ^ t) ≡ columnAt c bs place) → {a b c d e : ℤ}
+  -- four cut out of a number in whose low bits they stand, and one more, are the row's values
+  abbrev Four : ℕ → Type 0
+  Four four = (a b c d e : ℤ)
       → a ≡ cutBy (h .v1) (four / 2 ^ (w2 + (w3 + w4)))
       → b ≡ cutBy (h .v2) (four / 2 ^ (w3 + w4))
       → c ≡ cutBy (h .v3) (four / 2 ^ w4)
       → d ≡ cutBy (h .v4) four
       → e ≡ columnAt (h .v5) bs (at + front)
       → a ∷ b ∷ c ∷ d ∷ e ∷ [] ≡ valuesAt (columnsOf h) bs at
-  values-four four cut one two three last five =
+
+  values-four : (four : ℕ) → ((c : CodeColumn) (place t : ℕ) → at ≤ place → place + c .width + t ≡ at + front → cutBy c (four / 2 ^ t) ≡ columnAt c bs place) → Four four
+  values-four four cut _ _ _ _ _ one two three last five =
       let behind : at + front ≡ at + w1 + w2 + w3 + w4 = omega arith in
       values-five (one ∙ cut (h .v1) at (w2 + (w3 + w4)) (omega arith) (omega arith))
       (two ∙ cut (h .v2) (at + w1) (w3 + w4) (omega arith) (omega arith))
@@ -166,13 +169,7 @@ module _ (bs : List ℕ) (at : ℕ) (h : Shape) where
       (five ∙ ap (columnAt (h .v5) bs) behind)
 
   -- out of their own field
-  pub values-front : {four : ℕ} → four ≡ field bs at front → {a b c d e : ℤ}
-      → a ≡ cutBy (h .v1) (four / 2 ^ (w2 + (w3 + w4)))
-      → b ≡ cutBy (h .v2) (four / 2 ^ (w3 + w4))
-      → c ≡ cutBy (h .v3) (four / 2 ^ w4)
-      → d ≡ cutBy (h .v4) four
-      → e ≡ columnAt (h .v5) bs (at + front)
-      → a ∷ b ∷ c ∷ d ∷ e ∷ [] ≡ valuesAt (columnsOf h) bs at
+  pub values-front : {four : ℕ} → four ≡ field bs at front → Four four
   values-front there = values-four _ (field-cut bs at front there)
 
   module _ {window : ℕ} (there : window ≡ field bs (8 * (at / 8)) 64) (formed : FormedShape h) where
@@ -190,14 +187,8 @@ module _ (bs : List ℕ) (at : ℕ) (h : Shape) where
         (rw (gap-of (h .v4) (narrow .fourth)))
         (rw (gap-of (h .v5) (narrow .fifth)))
 
-    -- four from the half window, moved down so that s bits are left behind, and one more
-    pub values-wide : (s : ℕ) → s ≡ 63 - at % 8 - front → {a b c d e : ℤ}
-        → a ≡ cutBy (h .v1) (window / 2 / 2 ^ s / 2 ^ (w2 + (w3 + w4)))
-        → b ≡ cutBy (h .v2) (window / 2 / 2 ^ s / 2 ^ (w3 + w4))
-        → c ≡ cutBy (h .v3) (window / 2 / 2 ^ s / 2 ^ w4)
-        → d ≡ cutBy (h .v4) (window / 2 / 2 ^ s)
-        → e ≡ columnAt (h .v5) bs (at + front)
-        → a ∷ b ∷ c ∷ d ∷ e ∷ [] ≡ valuesAt (columnsOf h) bs at
+    -- four from the half window, moved down so that s bits are left behind
+    pub values-wide : (s : ℕ) → s ≡ 63 - at % 8 - front → Four (window / 2 / 2 ^ s)
     values-wide s below =
         let room = formed .window in
         values-four (window / 2 / 2 ^ s) (λ c place t after whole. moved-cut bs at there c place s t after (omega arith))

@@ -186,14 +186,9 @@ laid (suc (suc (suc (suc i)))) few = absurd (omega arith)
 pub narrow-laid : {s : Shape} → Narrow s → Laid s
 narrow-laid {s} n = laid-bare s (n .iode) (n .fourth) (inl (n .fifth))
 
-pub clock-narrow : Narrow (shapeFor 4)
-unfolding shapes listed shapeAt shapeIn shapeWith columnFor clockShape
-clock-narrow = record { iode = refl; fourth = refl; fifth = refl }
-
-pub code-narrow : Narrow (shapeFor 5)
-unfolding shapes listed shapeAt shapeIn shapeWith columnFor codeShape
-code-narrow = record { iode = refl; fourth = refl; fifth = refl }
-
-pub phase-narrow : Narrow (shapeFor 6)
-unfolding shapes listed shapeAt shapeIn shapeWith columnFor phaseShape
-phase-narrow = record { iode = refl; fourth = refl; fifth = refl }
+-- gaps, the clock's own message, and those of cells
+pub narrows : Narrow (shapeFor 0) × Narrow (shapeFor 4) × Narrow (shapeFor 5) × Narrow (shapeFor 6)
+unfolding shapes listed shapeAt shapeIn shapeWith columnFor combinedShape clockShape codeShape phaseShape
+narrows =
+    let gaps : Narrow (shapeFor 0) = record { iode = refl; fourth = refl; fifth = refl } in
+    (gaps, record { iode = refl; fourth = refl; fifth = refl }, record { iode = refl; fourth = refl; fifth = refl }, record { iode = refl; fourth = refl; fifth = refl })

@@ -9,7 +9,7 @@ use Rattle.table.specs.declared.Kind.{Kind}
 use Rattle.table.specs.declared.Kind.the-variants.{Other}
 use Rattle.table.specs.Bodies.{FitsKeys}
 use Rattle.table.specs.Kinds.{keysFor, codeKinds, kindFor, LaidOut, OfTable, overBy, programBy, maskedBy, kindBy}
-use Rattle.rows.proofs.Table.{laid, narrow-laid, clock-narrow, code-narrow, phase-narrow}
+use Rattle.rows.proofs.Table.{laid, narrow-laid, narrows}
 use Rattle.rows.specs.Shapes.{Laid, Narrow}
 use Rattle.rows.specs.Table.{shapes, listed, shapeAt, shapeFor}
 use Rattle.table.specs.Shapes.{shapesFrom}
@@ -85,7 +85,7 @@ flagged = record { with-flags = λ _. (refl, refl); fits = λ _. laid 0 (omega a
 layouts : Each (λ n k. OfTable k) 0 codeKinds
 unfolding codeKinds OfTable shapes listed shapeAt codeShape phaseShape shapeWidth widthOf
 layouts =
-    then tt (then tt (then (of-satellites 2 (laid 2 (omega arith))) (then (of-satellites 4 (narrow-laid clock-narrow)) (then (of-cells 5 code-narrow (omega arith)) (then (of-cells 6 phase-narrow (omega arith))
+    then tt (then tt (then (of-satellites 2 (laid 2 (omega arith))) (then (of-satellites 4 (narrow-laid (narrows .1))) (then (of-cells 5 (narrows .2) (omega arith)) (then (of-cells 6 (narrows .3) (omega arith))
     (then tt (then tt (then tt (then tt (then tt (then flagged end)))))))))))
 
 pub tabled : (n : ℕ) → OfTable (kindFor n)

@@ -19,7 +19,6 @@ use Rattle.format.specs.Table.{Message}
 use Rattle.format.proofs.Answer as Answer
 use Rattle.format.proofs.Stops.{Stopped, stop-leaves}
 use Rattle.heads.specs.Sorting.{adoptedBy}
-use Rattle.holding.specs.declared.Holding.{Holding}
 use Rattle.holding.specs.Pictures.{pictureOf, maskOf}
 use Rattle.reader.specs.declared.message.Found.{Found}
 use Rattle.reader.specs.declared.message.Found.the-variants.{Mask, Answered}

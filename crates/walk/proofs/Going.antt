@@ -23,7 +23,7 @@ use Rattle.holding.specs.Pictures.{pictureOf, maskOf}
 use Rattle.holding.proofs.Pictured.{mask-picture, sound-picture}
 use Rattle.holding.proofs.Sounds.{sounds}
 use Rattle.reader.specs.Readings.{outcomeAt, readAt}
-use Rattle.reader.proofs.FewRows.{few-rows}
+use Rattle.reader.proofs.RowsRead.{few-rows}
 use Rattle.reader.proofs.Lents.{sound-lent}
 use Rattle.walk.specs.Standing.{Stand, Stands, restOf, walkedWith, walkedFrom, rowsFrom}
 
@@ -123,7 +123,7 @@ module _ (bytes : List ℕ) (end : ℕ) (s : Stand) (stands : Stands bytes end s
     next-stands : (s .tally .place < next) → (next ≤ end) → Stands bytes end t
     unfolding rowsAfter
     next-stands past inside =
-        let few = few-rows (s .holding) (stands .held) within m next said in
+        let few = few-rows (s .holding) (stands .held) bytes end (s .tally .place) m next said in
         record {
           held = sound-picture (m .after) good-after;
           lent = stands .lent;

@@ -7,14 +7,13 @@ use native.Mathlib.Omega.{arith}
 use lib.IntN.{ℤ}
 use Rattle.format.specs.declared.Answer.the-variants as Answers
 use Rattle.format.specs.declared.Head.{Head}
-use Rattle.holding.specs.declared.Holding.{Holding}
 use Rattle.reader.specs.declared.message.Found.{Found}
 use Rattle.reader.specs.declared.message.Found.the-variants.{Mask, Answered}
 use Rattle.walk.specs.declared.under.Pause.{Pause}
 use Rattle.walk.specs.Standing.{Stand, standAt, Stands}
 use Rattle.walk.specs.Pausing.{foundIn, rowsIn, behind, goUnder, underFrom, underOn, pausesIn, pauseIn}
 use Rattle.walk.proofs.Found.{Halts, under-goes, halt-leaves}
-use Rattle.walk.proofs.Going.{Gone, gone-nowhere, gone-on, Goes}
+use Rattle.walk.proofs.Going.{Gone, gone-nowhere, gone-on}
 
 -- a mask or a stop ends it where it is found
 stays : (f : Found) → Halts f → (s : Stand) (more : ℕ → ℕ → Stand) → goUnder f s more ≡ s

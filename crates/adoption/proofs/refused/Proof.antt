@@ -2,9 +2,7 @@
 use mathlib.Core.Path.{ap, _∙_}
 use borrow.Author.Needs.{needs}
 use Rattle.adoption.specs.Adoptions.{adoptionBy}
-use Rattle.adoption.specs.declared.Adoption.{Adoption}
 use Rattle.format.specs.declared.Answer.the-variants.{Refused}
-use Rattle.holding.specs.declared.Holding.{Holding}
 use Rattle.holding.specs.declared.Outline.{Outline}
 use Rattle.holding.specs.Outlines.{outlineOf}
 use Rattle.adoption.proofs.refused.Statement.{statement}

@@ -6,12 +6,12 @@ use lib.ListN.{replicate}
 use Rattle.format.specs.Reading.{over}
 use Rattle.table.specs.Bodies.{linesIn}
 use Rattle.body.specs.declared.Placed.{Placed}
-use Rattle.body.specs.Asking.{Fills}
+use Rattle.body.specs.Asking.{Writes}
 use Rattle.body.specs.Lent.{viewBy}
 use Rattle.body.specs.Near.{named}
 use Rattle.body.specs.Written.{numbersAt}
 use Rattle.body.proofs.Bodies.{few-in}
-use Rattle.body.proofs.Valued.{first-fills, first-windows, filled-in}
+use Rattle.body.proofs.Valued.{first-writes, filled-in}
 use Rattle.body.proofs.fill.Statement.{statement}
 use Rattle.body.proofs.fill.Tie as tie
 
@@ -43,13 +43,11 @@ module _ (c : tie.After-string) where
 fill-requires : tie.Need-fill-requires
 fill-requires c κs =
     let g = c .before in
-    let f = s g .pre in
     let x = s g .args in
     let past : ℕ = (x .placed .at + x .placed .bits + 127) / 8 in
-    let windows = first-windows f (near g) (x .bytes .now) (zeros g) refl (λ e. omega (arith, ltb-false (length (x .bytes .now)) past e)) in (
-      subst (λ (p : Placed). Fills (x .ids .now) (x .masks .now) (x .strips .now) p (x .rows .now)) (sym (first g)) (first-fills f (near g)),
-      omega (arith, windows, ap (λ (p : Placed). p .at) (first g), ap (λ (p : Placed). p .bits) (first g), ap length (string g)),
-    )
+    subst (λ (l : List ℕ). Writes (x .ids .now) (x .masks .now) (x .strips .now) (c .before .before .before .body .result) l (x .rows .now)) (sym (string g))
+    (subst (λ (p : Placed). Writes (x .ids .now) (x .masks .now) (x .strips .now) p (cond (near g) (zeros g) (x .bytes .now)) (x .rows .now)) (sym (first g))
+    (first-writes (s g .pre) (near g) (x .bytes .now) (zeros g) refl (λ e. omega (arith, ltb-false (length (x .bytes .now)) past e))))
 
 values-requires : tie.Need-values-requires
 values-requires c κs =

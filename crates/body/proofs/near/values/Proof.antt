@@ -30,35 +30,34 @@ module _ (c : tie.In-loop Inv-loop μ-loop) where
   formed : FormedShape (l .before .shape-of .result)
   formed = made-formed 0 _ (l .before .shape-of .ensures)
 
-  room : l .loop .k + 8 ≤ length (l .loop .rows)
+  abbrev k : ℕ
+  k = l .loop .k
+
+  abbrev rows : List ℤ
+  rows = l .loop .rows
+
+  -- the next row
+  abbrev part : List ℤ
+  part = take (k + 8 - k) (drop k rows)
+
+  room : k + 8 ≤ length rows
   room = omega (arith, c .loop-test .taken, l .loop .inv .1, l .loop .inv .2, s .pre .2)
 
+  eight : length part ≡ 8
+  eight = simp length-take (omega (arith, room, length-drop k rows))
+
 fill-in-requires : tie.Need-fill-in-requires Inv-loop μ-loop
-fill-in-requires c κs =
-    let d = c .before in
-    (simp length-take (omega (arith, room d, length-drop (l d .loop .k) (l d .loop .rows))), omega (arith, l d .loop .inv .3, l d .loop .inv .0, s d .pre .0, s d .pre .1), formed d)
+fill-in-requires c κs = let d = c .before in (eight d, omega (arith, l d .loop .inv .3, l d .loop .inv .0, s d .pre .0, s d .pre .1), formed d)
 
 module _ (c : tie.After-rows Inv-loop μ-loop) where
   abbrev d : tie.In-loop Inv-loop μ-loop
   d = c .before .before .before
 
-  abbrev k : ℕ
-  k = l d .loop .k
-
-  abbrev rows : List ℤ
-  rows = l d .loop .rows
-
-  abbrev part : List ℤ
-  part = take (k + 8 - k) (drop k rows)
-
   abbrev new : List ℤ
   new = c .before .fill-in .last .0
 
-  eight : length part ≡ 8
-  eight = simp length-take (omega (arith, room d, length-drop k rows))
-
   long : length new ≡ 8
-  long = c .before .fill-in .kept .0 ∙ eight
+  long = c .before .fill-in .kept .0 ∙ eight d
 
 loop-again : tie.Need-loop-again Inv-loop μ-loop
 unfolding valued
@@ -70,14 +69,14 @@ loop-again c =
     let shape = l d .before .shape-of .result in
     let bytes = s d .args .bytes .now in
     let more : n - it .i ≡ suc (n - (it .i + 1)) = omega (arith, d .loop-test .taken) in
-    let step = valued-step shape bytes bytes (k c) (n - (it .i + 1)) (it .place) (k c + 8 - k c) (f .result) (rows c) (new c) (omega arith) (room d) (long c) (f .ensures .1) (f .ensures .0) in
-    let before = subst (λ (m : ℕ). take (k c) (rows c) ++ valued shape bytes m (it .place) (drop (k c) (rows c)) ≡ valued shape bytes n (s d .args .placed .at) (s d .args .rows .now)) more (it .inv .4) in
-    let same : length (take (k c) (rows c) ++ (new c ++ drop (k c + 8 - k c) (drop (k c) (rows c)))) ≡ length (rows c) =
+    let step = valued-step shape bytes bytes (k d) (n - (it .i + 1)) (it .place) (k d + 8 - k d) (f .result) (rows d) (new c) (omega arith) (room d) (long c) (f .ensures .1) (f .ensures .0) in
+    let before = subst (λ (m : ℕ). take (k d) (rows d) ++ valued shape bytes m (it .place) (drop (k d) (rows d)) ≡ valued shape bytes n (s d .args .placed .at) (s d .args .rows .now)) more (it .inv .4) in
+    let same : length (take (k d) (rows d) ++ (new c ++ drop (k d + 8 - k d) (drop (k d) (rows d)))) ≡ length (rows d) =
     simp (length-append, length-take, length-drop) (omega (arith, room d, long c)) in (
       omega (arith, d .loop-test .taken),
       omega (arith, it .inv .1),
       same ∙ it .inv .2,
-      omega (arith, it .inv .3, f .ensures .0, columns-width shape (mag (getD (part c) 0 (pos 0))) (formed d)),
+      omega (arith, it .inv .3, f .ensures .0, columns-width shape (mag (getD (part d) 0 (pos 0))) (formed d)),
       step ∙ before,
     )
 

@@ -1,5 +1,5 @@
 -- `body::whole::fill` meets its contract. Assumes nothing.
-use Rattle.bits.proofs.Words.{_≡_, refl, ap, _∙_, List, needs, ℤ}
+use Rattle.bits.proofs.Words.{_≡_, refl, ap, _∙_, subst, List, needs, ℤ}
 use Rattle.format.specs.Reading.{over}
 use Rattle.format.specs.Rows.{Line}
 use Rattle.holding.specs.Held.{View}
@@ -7,9 +7,10 @@ use Rattle.rows.proofs.Table.{made-formed}
 use Rattle.table.specs.declared.Body.{Body}
 use Rattle.table.specs.declared.Keys.{Keys}
 use Rattle.table.specs.Bodies.{linesIn, linesOver}
+use Rattle.body.specs.Asking.{Kinded}
 use Rattle.body.specs.Lent.{viewBy}
 use Rattle.body.specs.Written.{numbersAt, Room}
-use Rattle.body.proofs.Bodies.{satellites-fit, cells-fit, lines-known, by-satellites, by-cells, roomy}
+use Rattle.body.proofs.Bodies.{lines-known, by-satellites, by-cells}
 use Rattle.body.proofs.whole.fill.Statement.{statement}
 use Rattle.body.proofs.whole.fill.Tie as tie
 
@@ -21,7 +22,10 @@ module _ (s : tie.Start) where
   body = s .args .placed .body
 
   room : {keys : Keys} → body .keys ≡ keys → Room (linesOver view keys (body .shape)) (s .args .bytes .now) (s .args .placed .at) (s .args .rows .now)
-  room known = roomy (s .pre .0 .lent) body (s .pre .0 .fits) _ _ _ _ known (s .pre .0 .bits) (s .pre .0 .near) (s .pre .0 .room) (s .pre .1)
+  room known = rw (lines-known view body known) (s .pre .room)
+
+  kind : {keys : Keys} → body .keys ≡ keys → Kinded keys (body .shape)
+  kind known = subst (λ (k : Keys). Kinded k (body .shape)) known (s .pre .kind)
 
   -- the rows of the lines of known keys are the body's
   abbrev Rows : List Line → List ℤ
@@ -31,26 +35,28 @@ module _ (s : tie.Start) where
   whole known = ap Rows (lines-known view body known)
 
 fill-requires : tie.Need-fill-requires
+unfolding Kinded
 fill-requires c κs =
     let k = c .before .before .before in
     let s = k .before .before .before .before .before .before .before in
     let known = k .keys .given in
-    let lent = s .pre .0 .lent in
+    let lent = s .pre .lent in
     rw (c .before .wanted .ensures) (
       lent .slots,
-      record { formed = made-formed 0 _ refl; kind = satellites-fit (body s) (s .pre .0 .fits) (known .1); room = rw (by-satellites (view s) (known .0 .0) (body s .shape)) (room s (known .1)) },
+      record { formed = made-formed 0 _ refl; kind = kind s (known .1); room = rw (by-satellites (view s) (known .0 .0) (body s .shape)) (room s (known .1)) },
     )
 
 fill-requires-2 : tie.Need-fill-requires-2
+unfolding Kinded
 fill-requires-2 c κs =
     let k = c .before .before .before in
     let s = k .before .before .before .before .before .before .before in
     let known = k .keys2 .given in
-    let lent = s .pre .0 .lent in
+    let lent = s .pre .lent in
     rw (c .before .wanted2 .ensures) (
       lent .slots,
       lent .covered,
-      record { formed = made-formed 0 _ refl; kind = cells-fit (body s) (s .pre .0 .fits) (known .1) .0; room = rw (by-cells (view s) (known .0 .0) (body s .shape)) (room s (known .1)) },
+      record { formed = made-formed 0 _ refl; kind = kind s (known .1); room = rw (by-cells (view s) (known .0 .0) (body s .shape)) (room s (known .1)) },
     )
 
 returns : tie.Need-returns

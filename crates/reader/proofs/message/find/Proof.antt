@@ -1,11 +1,8 @@
 -- `reader::message::find` meets its contract. Assumes nothing.
-use Rattle.bits.proofs.Words.{_≡_, refl, sym, ap, _∙_, subst, Bool, true, false, cond, List, ℕ, _+_, _-_, arith, needs}
+use Rattle.bits.proofs.Words.{_≡_, refl, sym, ap, _∙_, subst, List, ℕ, _+_, arith, needs}
 use mathlib.Core.Logic.{_⊎_, inl, inr}
-use lib.Dec.{eqb}
-use Rattle.bits.specs.Places.{field}
 use denote.Enum.Declared.{tagOf}
 use Rattle.format.specs.declared.Answer.the-variants as Answers
-use Rattle.format.specs.declared.Refusal.{Refusal}
 use Rattle.format.specs.Ends.{Within, endFrom}
 use Rattle.format.specs.Messages as Messages
 use Rattle.format.specs.Programs.{Ended, well}
@@ -22,9 +19,8 @@ use Rattle.holding.specs.Held.{skyIn, viewOf}
 use Rattle.holding.specs.Outlines.{wholeOf}
 use Rattle.holding.specs.Pictures.{maskOf}
 use Rattle.holding.proofs.Sounds.{sounds}
-use Rattle.reader.specs.declared.message.Found.{Found}
 use Rattle.reader.specs.declared.message.Found.the-variants.{Mask, Answered}
-use Rattle.reader.specs.Readings.{readAt, unopenedAt, foundAs, foundBy, foundAt}
+use Rattle.reader.specs.Readings.{readAt, unopenedAt, foundAs, foundBy}
 use Rattle.reader.proofs.Findings.{opened-well, opened-badly, begins, shows, sorted-headed, sorted-adopted, adopted-rows, read-sorted, read-stopped}
 use Rattle.reader.proofs.message.find.Statement.{statement}
 use Rattle.reader.proofs.message.find.Tie as tie

@@ -26,7 +26,7 @@ returns c =
     c .before .store .ensures
     ∙ rw (toZ-ofZ {w = w32} (record { sfits = v1 .value .ok }), toZ-ofZ {w = w32} (record { sfits = v2 .value2 .ok }), toZ-ofZ {w = w32} (record { sfits = v3 .value3 .ok }), toZ-ofZ {w = w32} (record { sfits = v4 .value4 .ok }), toZ-ofZ {w = w32} (record { sfits = v5 .tested .ok }))
     (ap (λ (l : List ℤ). x .key .system ∷ x .key .satellite ∷ x .key .signal ∷ l)
-    (values-front (x .bytes .now) (x .at) (x .s) (r .read-field .ensures) (v1 .value .ensures) (v2 .value2 .ensures) (v3 .value3 .ensures) (v4 .value4 .ensures) (v5 .tested .ensures)))
+    (values-front (x .bytes .now) (x .at) (x .s) (r .read-field .ensures) _ _ _ _ _ (v1 .value .ensures) (v2 .value2 .ensures) (v3 .value3 .ensures) (v4 .value4 .ensures) (v5 .tested .ensures)))
 
 pub anywhere-spec : {M : Type 1} → statement M
 anywhere-spec =

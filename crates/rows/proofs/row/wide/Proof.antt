@@ -26,7 +26,7 @@ returns c =
     c .before .store .ensures
     ∙ rw (toZ-ofZ {w = w32} (record { sfits = v1 .value .ok }), toZ-ofZ {w = w32} (record { sfits = v2 .value2 .ok }), toZ-ofZ {w = w32} (record { sfits = v3 .value3 .ok }), toZ-ofZ {w = w32} (record { sfits = v4 .value4 .ok }), toZ-ofZ {w = w32} (record { sfits = v5 .alone .ok }))
     (ap (λ (l : List ℤ). x .key .system ∷ x .key .satellite ∷ x .key .signal ∷ l)
-    (values-wide (x .bytes .now) (x .at) (x .s) (w .eight .ensures) (s .pre .2) (below s) refl (v1 .value .ensures) (v2 .value2 .ensures) (v3 .value3 .ensures) (v4 .value4 .ensures) (v5 .alone .ensures)))
+    (values-wide (x .bytes .now) (x .at) (x .s) (w .eight .ensures) (s .pre .2) (below s) refl _ _ _ _ _ (v1 .value .ensures) (v2 .value2 .ensures) (v3 .value3 .ensures) (v4 .value4 .ensures) (v5 .alone .ensures)))
 
 pub wide-spec : {M : Type 1} → statement M
 wide-spec =
