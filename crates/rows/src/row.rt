@@ -197,10 +197,10 @@ fn tested(bytes: &[u8], at: usize, c: Column) -> i32
     requires { ⌜ Formed c ⌝ }
     ensures { λ r. ⌜ r ≡ valueOf (columnOf c) (field (now (bytes .entry)) at (c .width)) ⌝ }
 {
-    if c.width == 0 {
-        return ABSENT;
+    if c.width > 0 {
+        return shape::value(read_field(bytes, at, c.width), c);
     }
-    shape::value(read_field(bytes, at, c.width), c)
+    ABSENT
 }
 
 // A row as `wide` writes it, wherever the string ends.

@@ -10,22 +10,22 @@ use Rattle.rows.specs.Shapes.{columnOf}
 use Rattle.rows.proofs.row.tested.Statement.{statement}
 use Rattle.rows.proofs.row.tested.Tie as tie
 
--- a column of no bits is a gap
-returns : tie.Need-returns
-unfolding valueOf
-returns c = rw (gap-of (c .before .before .before .args .c) (c .if1 .taken))
-
 value-requires : tie.Need-value-requires
 value-requires c κs =
     let s = c .before .before .before .before in
     (front-lt (s .args .bytes .now) (s .args .at) (s .args .c .width) (c .read-field .ensures) (omega (arith, s .pre .narrow)), s .pre)
 
-returns-2 : tie.Need-returns-2
-returns-2 c =
+returns : tie.Need-returns
+returns c =
     let r = c .before in
     let s = r .before .before .before .before in
     toZ-ofZ (record { sfits = c .value .ok }) ∙ c .value .ensures ∙ ap (cutBy (s .args .c)) (r .read-field .ensures)
     ∙ ap (valueOf (columnOf (s .args .c))) (mod-eq-of-lt (field-lt (s .args .bytes .now) (s .args .at) (s .args .c .width)))
 
+-- a column of no bits is a gap
+returns-2 : tie.Need-returns-2
+unfolding valueOf
+returns-2 c = rw (gap-of (c .before .before .before .args .c) (omega (arith, c .if1 .left)))
+
 pub tested-spec : {M : Type 1} → statement M
-tested-spec = tie.close (tie.spec returns (λ c κs. search needs) value-requires returns-2)
+tested-spec = tie.close (tie.spec (λ c κs. search needs) value-requires returns returns-2)
