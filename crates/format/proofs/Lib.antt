@@ -2,6 +2,8 @@ pub mod Runs
 pub mod Tables
 pub mod Cases
 pub mod Stops
+pub mod Missing
+pub mod Reasons
 pub mod Openings
 pub mod Sames
 pub mod Texts
