@@ -10,7 +10,7 @@ use native.Mathlib.Decide.{decLt}
 use native.Mathlib.Omega.{arith}
 use lib.ListN.{length, take, drop}
 use Rattle.format.specs.declared.Refusal.{Refusal}
-use Rattle.format.specs.declared.Refusal.the-variants.{Short}
+use Rattle.format.specs.declared.Refusal.the-variants.{Short, SubType, NoMask}
 use Rattle.format.specs.Answers.{numberOf}
 use Rattle.format.specs.Masks as Masks
 use Rattle.format.specs.Masks.{Held, nothing, mask, Sky, Satellite}
@@ -122,18 +122,18 @@ kinds-reasoned =
 
 gate-reasoned : (held : Held) (iod : ℕ) → Reasoned (gate held iod)
 unfolding gate numberOf
-gate-reasoned nothing iod = refused (λ e. omega arith)
+gate-reasoned nothing iod = refused {r = NoMask} (λ e. omega arith)
 gate-reasoned (mask m) iod = test _ _ _ (λ e. omega arith) made
 
 kind-reasoned : (n : ℕ) (k : Kind) → KindReasoned n k → (held : Held) → Reasoned (byKind k held)
 unfolding byKind KindReasoned keeping underMask numberOf
-kind-reasoned n other it held = refused (λ e. omega arith)
+kind-reasoned n other it held = refused {r = SubType} (λ e. omega arith)
 kind-reasoned n (free k) it held = bind _ (bodied-reasoned it) λ c. made
 kind-reasoned n (masked k) it held = bind _ (bodied-reasoned (bind _ (common-reasoned 12) λ h. bind _ (gate-reasoned held _) λ m. it _ h)) λ c. made
 kind-reasoned n (adopts k) it held = bind _ it λ d. made
 
 pub message-reasoned : (held : Held) → Reasoned (message held)
-unfolding messageBy opening numberOf
+unfolding messageBy opening numberOf KindReasoned
 message-reasoned held =
     bind _ (number _ _ λ _. test _ _ _ (λ e. omega arith) (number _ _ λ _. made)) λ n. kind-reasoned n (table n) (in-table kinds-reasoned (λ k. tt) n) held
 
@@ -143,21 +143,21 @@ message-reasoned held =
 abbrev pub Reason : Refusal → ℕ → Type 0
 Reason r missing = ((r ≡ Short) × (0 < missing)) ⊎ ((numberOf r ≡ 3 → ⊥) × (missing ≡ 0))
 
-pub ends-so : {A : Type 0} {p : Program A} (l : List Bool) (r : Refusal) (missing : ℕ) → Reasoned p → run p l ≡ badly r missing → Reason r missing
+pub ends-so : {A : Type 0} {p : Program A} (l : List Bool) (why : Refusal) (missing : ℕ) → Reasoned p → run p l ≡ badly why missing → Reason why missing
 unfolding run
-ends-so l r missing (made {a}) e = absurd (not-well r missing a 0 (sym e))
-ends-so l r missing (refused {q} other) e =
-    let same : q ≡ r = cc in
+ends-so l why missing (made {a}) e = absurd (not-well why missing a 0 (sym e))
+ends-so l why missing (refused {r} reason) e =
+    let same : r ≡ why = cc in
     let none : 0 ≡ missing = cc in
-    inr ((λ three. other (ap numberOf same ∙ three)), sym none)
-ends-so {A} l r missing (asks {w} {next} it) e = go (decLt (length l) w) (ends-so (drop w l) r missing (it (take w l)))
+    inr ((λ three. reason (ap numberOf same ∙ three)), sym none)
+ends-so {A} l why missing (asks {w} {next} it) e = go (decLt (length l) w) (ends-so (drop w l) why missing (it (take w l)))
   where
-    go : Dec (length l < w) → (run (next (take w l)) (drop w l) ≡ badly r missing → Reason r missing) → Reason r missing
+    go : Dec (length l < w) → (run (next (take w l)) (drop w l) ≡ badly why missing → Reason why missing) → Reason why missing
     go (yes over) rest =
-        let same : _≡_ {A = Ended A} (badly Short (w - length l)) (badly r missing) = sym (run-short w next l over) ∙ e in
-        let short : r ≡ Short = cc in
+        let same : _≡_ {A = Ended A} (badly Short (w - length l)) (badly why missing) = sym (run-short w next l over) ∙ e in
+        let short : why ≡ Short = cc in
         let by : w - length l ≡ missing = cc in
         inl (short, omega arith)
     go (no not) rest =
         let there : w ≤ length l = omega arith in
-        rest (later-badly w (run (next (take w l)) (drop w l)) r missing (sym (run-field w next l there) ∙ e))
+        rest (later-badly w (run (next (take w l)) (drop w l)) why missing (sym (run-field w next l there) ∙ e))
