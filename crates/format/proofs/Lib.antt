@@ -29,6 +29,7 @@ pub mod Ends
 pub mod Walks
 pub mod Verdicts
 pub mod CutWalks
+pub mod ShortReadings
 pub mod AlikeWalks
 pub mod Numbered
 pub mod Gates

@@ -1,5 +1,5 @@
 -- How many bits were missing (document 02, Ask 7): a program that is short by some bits is short at a field, which with fewer bits more, whatever they are, is
--- short still and with that many is not; and a message is short for want of bits alone, and for want of bits only short.
+-- short still and with that many is not.
 -- Assumes nothing.
 use mathlib.Core.Path.{_≡_, refl, sym, ap, _∙_}
 use mathlib.Core.Bool.{Bool, true, false, cond, false≢true}
@@ -13,7 +13,7 @@ use lib.ListN.{length, take, drop, length-append}
 use lib.Seq.{take-append-le, drop-append-le}
 use Rattle.format.specs.declared.Refusal.{Refusal}
 use Rattle.format.specs.declared.Refusal.the-variants.{Short}
-use Rattle.format.specs.Missing.{wholeFields}
+use Rattle.format.specs.Missing.{wholeFields, Lacks}
 use Rattle.format.specs.Programs.{Program, done, refuse, field, Ended, badly, later, run}
 use Rattle.format.proofs.Runs.{run-field, run-short, later-badly, not-well}
 
@@ -50,12 +50,12 @@ module _ {A : Type 0} (w : ℕ) (next : List Bool → Program A) (l more : List 
   longer-whole = whole-there w next (l ++ more) room ∙ rw (take-append-le w l more there, drop-append-le w l more there)
 
 -- it is short at this field still, by so many
-pub record StillShort {A : Type 0} (p : Program A) (l more : List Bool) (missing : ℕ) : Type 0 where
-  pub run : run p (l ++ more) ≡ badly Short (missing - length more)
-  pub field : wholeFields p (l ++ more) ≡ wholeFields p l
+record StillShort {A : Type 0} (p : Program A) (l more : List Bool) (missing : ℕ) : Type 0 where
+  run : run p (l ++ more) ≡ badly Short (missing - length more)
+  field : wholeFields p (l ++ more) ≡ wholeFields p l
 
 -- with fewer bits more
-pub fewer-bits : {A : Type 0} (p : Program A) (l more : List Bool) (missing : ℕ) → run p l ≡ badly Short missing → length more < missing → StillShort p l more missing
+fewer-bits : {A : Type 0} (p : Program A) (l more : List Bool) (missing : ℕ) → run p l ≡ badly Short missing → length more < missing → StillShort p l more missing
 unfolding run later
 fewer-bits (done a) l more missing e less = absurd (not-well Short missing a 0 (sym e))
 fewer-bits (refuse r) l more missing e less = absurd (let none : 0 ≡ missing = cc in omega arith)
@@ -78,7 +78,7 @@ fewer-bits (field w next) l more missing e less = go (decLt (length l) w) (fewer
         }
 
 -- with that many it is whole
-pub enough-bits : {A : Type 0} (p : Program A) (l more : List Bool) (missing : ℕ) → run p l ≡ badly Short missing → 0 < missing → missing ≤ length more
+enough-bits : {A : Type 0} (p : Program A) (l more : List Bool) (missing : ℕ) → run p l ≡ badly Short missing → 0 < missing → missing ≤ length more
     → wholeFields p l < wholeFields p (l ++ more)
 unfolding run
 enough-bits (done a) l more missing e some all = absurd (not-well Short missing a 0 (sym e))
@@ -95,3 +95,12 @@ enough-bits (field w next) l more missing e some all = go (decLt (length l) w) (
     go (no not) rest =
         let there : w ≤ length l = omega arith in
         omega (arith, rest (short-later w next l missing e there) some all, longer-whole w next l more there, whole-there w next l there)
+
+-- so that is what the number says
+pub lacks : {A : Type 0} (p : Program A) (l : List Bool) (missing : ℕ) → run p l ≡ badly Short missing → 0 < missing → Lacks p l missing
+lacks p l missing e some = record {
+  some = some;
+  fewer = λ more less. fewer-bits p l more missing e less .run;
+  still = λ more less. fewer-bits p l more missing e less .field;
+  enough = λ more all. enough-bits p l more missing e some all;
+}

@@ -15,6 +15,7 @@ use Rattle.format.specs.Answers.{numberOf}
 use Rattle.format.specs.Masks as Masks
 use Rattle.format.specs.Masks.{Held, nothing, mask, Sky, Satellite}
 use Rattle.format.specs.Messages.{BothMasks, Common, Heading, body, bodied, common, selection, flagged, packet, rowsAlone, systemId, systemSignals, systemMasks, fewCells, flaggedCells, systemCells, system, systems, maskMessage}
+use Rattle.format.specs.Missing.{Reason}
 use Rattle.format.specs.Programs.{Program, done, refuse, field, _>>=_, _>>_, taking, numbered, require, Ended, well, badly, later, run}
 use Rattle.format.specs.Rows.{Column, Line}
 use Rattle.format.specs.Table.{Kind, other, free, masked, adopts, alone, kinds, table, gate, underMask, keeping, byKind, opening, message, messageBy}
@@ -139,17 +140,13 @@ message-reasoned held =
 
 -- ---- how such a program ends badly
 
--- short, by some bits; or for another reason, by none
-abbrev pub Reason : Refusal → ℕ → Type 0
-Reason r missing = ((r ≡ Short) × (0 < missing)) ⊎ ((numberOf r ≡ 3 → ⊥) × (missing ≡ 0))
-
 pub ends-so : {A : Type 0} {p : Program A} (l : List Bool) (why : Refusal) (missing : ℕ) → Reasoned p → run p l ≡ badly why missing → Reason why missing
-unfolding run
+unfolding run numberOf
 ends-so l why missing (made {a}) e = absurd (not-well why missing a 0 (sym e))
 ends-so l why missing (refused {r} reason) e =
     let same : r ≡ why = cc in
     let none : 0 ≡ missing = cc in
-    inr ((λ three. reason (ap numberOf same ∙ three)), sym none)
+    inr ((λ short. reason (ap numberOf (same ∙ short))), sym none)
 ends-so {A} l why missing (asks {w} {next} it) e = go (decLt (length l) w) (ends-so (drop w l) why missing (it (take w l)))
   where
     go : Dec (length l < w) → (run (next (take w l)) (drop w l) ≡ badly why missing → Reason why missing) → Reason why missing
