@@ -21,12 +21,13 @@ use Rattle.promises.specs.Determination.{Allows}
 use Rattle.reader.specs.declared.Reading.{Reading}
 use Rattle.walk.proofs as walk
 
--- The messages, each with its place, the place after it, its head and its rows; why and where the caller stopped; the holding, as it is passed, and the
--- row buffer that were left.
+-- The messages, each with its place, the place after it, its head and its rows; why and where the caller stopped, and how many bits were missing; the holding,
+-- as it is passed, and the row buffer that were left.
 pub record Got (H : Type 0) : Type 0 where
   pub handed : List HandedOut
   pub number : ℕ
   pub place : ℕ
+  pub missing : ℕ
   pub holding : H
   pub rows : List ℤ
 
@@ -35,18 +36,18 @@ unfoldable pub answered : ℕ → Head → ℕ → ℕ → List ℤ → HandedOu
 answered place h next count rows = record { place = place; next = next; content = record { head = h; rows = rowsIn count rows } }
 
 unfoldable pub gets : {H : Type 0} → HandedOut → Got H → Got H
-gets d g = record { handed = d ∷ g .handed; number = g .number; place = g .place; holding = g .holding; rows = g .rows }
+gets d g = record { handed = d ∷ g .handed; number = g .number; place = g .place; missing = g .missing; holding = g .holding; rows = g .rows }
 
 -- Calls of a function that reads: `Call` says what it may answer and leave for a holding, a place and a row buffer.
 pub data Calls {H : Type 0} (Call : H → ℕ → List ℤ → Said → H → List ℤ → Type 0) : H → ℕ → List ℤ → Got H → Type 0 where
-  stops : {holding left : H} {place number at : ℕ} {rows after : List ℤ} → Call holding place rows (stop number at) left after
-      → Calls Call holding place rows (record { handed = []; number = number; place = at; holding = left; rows = after })
+  stops : {holding left : H} {place number at missing : ℕ} {rows after : List ℤ} → Call holding place rows (stop number at missing) left after
+      → Calls Call holding place rows (record { handed = []; number = number; place = at; missing = missing; holding = left; rows = after })
   goes : {holding left : H} {place next count : ℕ} {h : Head} {rows after : List ℤ} {got : Got H} → Call holding place rows (message h next count) left after
       → Calls Call left next after got → Calls Call holding place rows (gets (answered place h next count after) got)
 
 -- what a walk has of all this, and what it leaves of the holding
 unfoldable pub gotBy : {H : Type 0} → Walk → H → Got H
-gotBy w left = record { handed = w .handed; number = walkedTo w .answer; place = walkedTo w .place; holding = left; rows = w .rows }
+gotBy w left = record { handed = w .handed; number = walkedTo w .answer; place = walkedTo w .place; missing = walkedTo w .missing; holding = left; rows = w .rows }
 
 -- ---- a call as the contract of its function allows it, for slices of these contents, wherever they lie
 
@@ -64,7 +65,7 @@ pub record CodeCall (bytes : List ℕ) (end : ℕ) (holding : Holding) (place : 
 
 -- what the numbers that C is handed say: 255 a message, every other a stop
 unfoldable pub saidBy : Handed → Said
-saidBy r = cond (eqb (r .answer) messageNumber) (message (r .head) (r .place) (r .rows)) (stop (r .answer) (r .place))
+saidBy r = cond (eqb (r .answer) messageNumber) (message (r .head) (r .place) (r .rows)) (stop (r .answer) (r .place) (r .missing))
 
 -- `hundurzek_read`
 pub record HostCall (bytes : List ℕ) (end : ℕ) (holding : List ℕ) (place : ℕ) (rows : List ℤ) (said : Said) (left : List ℕ) (after : List ℤ) : Type 0 where
