@@ -146,7 +146,7 @@ ends-so l why missing (made {a}) e = absurd (not-well why missing a 0 (sym e))
 ends-so l why missing (refused {r} reason) e =
     let same : r ≡ why = cc in
     let none : 0 ≡ missing = cc in
-    inr ((λ short. reason (ap numberOf (same ∙ short))), sym none)
+    inr ((λ three. reason (ap numberOf same ∙ three)), sym none)
 ends-so {A} l why missing (asks {w} {next} it) e = go (decLt (length l) w) (ends-so (drop w l) why missing (it (take w l)))
   where
     go : Dec (length l < w) → (run (next (take w l)) (drop w l) ≡ badly why missing → Reason why missing) → Reason why missing

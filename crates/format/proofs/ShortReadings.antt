@@ -45,7 +45,7 @@ pub record ByBits (holding : Lent) (bytes : List ℕ) (end start : ℕ) (rows : 
 
 -- or by a test of what is lent: not with 3, and none are missing
 abbrev ByTest : Refusal → ℕ → Type 0
-ByTest r missing = ¬ (r ≡ Short) × (missing ≡ 0)
+ByTest r missing = ¬ (numberOf r ≡ numberOf Short) × (missing ≡ 0)
 
 -- one of these tests
 by-test : (q : Refusal) → ¬ (numberOf q ≡ 3) → (holding left : Lent) (r : Refusal) (missing : ℕ) → refused q 0 holding ≡ refused r missing left → ByTest r missing
@@ -53,7 +53,7 @@ unfolding numberOf
 by-test q other holding left r missing e =
     let same : q ≡ r = cc in
     let none : 0 ≡ missing = cc in
-    ((λ short. other (ap numberOf (same ∙ short))), sym none)
+    ((λ three. other (ap numberOf same ∙ three)), sym none)
 
 -- what the bits say
 from-bits : (held : Held) (start : ℕ) (l : List Bool) (r : Refusal) (missing : ℕ) (left : Lent) → readFrom table held start l ≡ refused r missing left
@@ -204,15 +204,15 @@ module _ (more : List Bool) (bytes : List ℕ) (end : ℕ) (others : List ℕ) (
 -- ---- no writing is
 
 -- one of its tests
-not-short : (q : Refusal) → ¬ (numberOf q ≡ 3) → (r : Refusal) → Writing.refused q ≡ Writing.refused r → ¬ (r ≡ Short)
+not-short : (q : Refusal) → ¬ (numberOf q ≡ 3) → (r : Refusal) → Writing.refused q ≡ Writing.refused r → ¬ (numberOf r ≡ numberOf Short)
 unfolding numberOf
-not-short q other r e short =
+not-short q other r e three =
     let same : q ≡ r = cc in
-    other (ap numberOf (same ∙ short))
+    other (ap numberOf same ∙ three)
 
 -- a refused writing says another number than 3
 pub writing-not-short : (holding : Lent) (h : Head) (rows : List ℤ) (count : ℕ) (bytes : List ℕ) (start : ℕ) (r : Refusal)
-    → writing holding h rows count bytes start ≡ Writing.refused r → ¬ (r ≡ Short)
+    → writing holding h rows count bytes start ≡ Writing.refused r → ¬ (numberOf r ≡ numberOf Short)
 unfolding writing EachElse numberOf
 writing-not-short holding h rows count bytes start r e =
     go (judged-why Writing.refused _ (Writing.refused r) _ (
@@ -229,6 +229,6 @@ writing-not-short holding h rows count bytes start r e =
       ),
     ) e)
   where
-    go : {l : List Bool} {A : Type 0} → ((Writing.wrote l ≡ Writing.refused r) × A) ⊎ ¬ (r ≡ Short) → ¬ (r ≡ Short)
+    go : {l : List Bool} {A : Type 0} → ((Writing.wrote l ≡ Writing.refused r) × A) ⊎ ¬ (numberOf r ≡ numberOf Short) → ¬ (numberOf r ≡ numberOf Short)
     go (inl it) = let never = it .0 in absurd (false≢true cc)
     go (inr it) = it

@@ -9,6 +9,7 @@ use lib.ListN.{length, take, drop}
 use Rattle.bits.specs.BitLists.{bits}
 use Rattle.format.specs.declared.Refusal.{Refusal}
 use Rattle.format.specs.declared.Refusal.the-variants.{Short}
+use Rattle.format.specs.Answers.{numberOf}
 use Rattle.format.specs.Programs.{Program, done, refuse, field, badly, run}
 use Rattle.format.specs.Reading.{placed}
 
@@ -29,7 +30,7 @@ pub record Lacks {A : Type 0} (p : Program A) (l : List Bool) (missing : ℕ) : 
 
 -- a refusal says 3 and some bits, or another number and none
 abbrev pub Reason : Refusal → ℕ → Type 0
-Reason r missing = ((r ≡ Short) × (0 < missing)) ⊎ (¬ (r ≡ Short) × (missing ≡ 0))
+Reason r missing = ((r ≡ Short) × (0 < missing)) ⊎ (¬ (numberOf r ≡ numberOf Short) × (missing ≡ 0))
 
 -- the same stretch with more bits behind its end
 pub record LongerBy (more : List Bool) (bytes : List ℕ) (end : ℕ) (others : List ℕ) (far : ℕ) : Type 0 where
