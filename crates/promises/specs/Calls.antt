@@ -20,6 +20,7 @@ use Rattle.host.proofs as host
 use Rattle.promises.specs.Determination.{Allows}
 use Rattle.reader.specs.declared.Reading.{Reading}
 use Rattle.walk.proofs as walk
+use Rattle.walk.specs.declared.Halt.{Halt}
 
 -- The messages, each with its place, the place after it, its head and its rows; why and where the caller stopped, and how many bits were missing; the holding,
 -- as it is passed, and the row buffer that were left.
@@ -63,6 +64,15 @@ pub record CodeCall (bytes : List ℕ) (end : ℕ) (holding : Holding) (place : 
       Allows walk.single.read.Kinds.ps walk.single.read.Kinds.r walk.single.read.Reads.Learnt κs
       (holding, (at-last stretch bytes, (end, (place, (at-last buffer rows, tt))))) result (tt, (tt, (tt, (tt, (after, tt)))))
 
+-- `walk` in Rattle, one call for all of the stretch
+pub record CodeWalk (bytes : List ℕ) (end : ℕ) (holding : Holding) (rows : List ℤ) (result : Halt) (after : List ℤ) : Type 0 where
+  pub κs : Lfts 2
+  pub stretch : RefT (List ℕ)
+  pub buffer : RefT (List ℤ)
+  pub allowed :
+      Allows walk.walk.Kinds.ps walk.walk.Kinds.r walk.walk.Reads.Learnt κs
+      (holding, (at-last stretch bytes, (end, (at-last buffer rows, tt)))) result (tt, (tt, (tt, (after, tt))))
+
 -- what the numbers that C is handed say: 255 a message, every other a stop
 unfoldable pub saidBy : Handed → Said
 saidBy r = cond (eqb (r .answer) messageNumber) (message (r .head) (r .place) (r .rows)) (stop (r .answer) (r .place) (r .missing))
@@ -79,7 +89,7 @@ pub record HostCall (bytes : List ℕ) (end : ℕ) (holding : List ℕ) (place :
       Allows host.hundurzek_read.Kinds.ps host.hundurzek_read.Kinds.r host.hundurzek_read.Reads.Learnt κs
       (at-last lent holding, (at-last stretch bytes, (end, (place, (at-last buffer rows, tt))))) result (left, (tt, (tt, (tt, (after, tt)))))
 
--- `hundurzek_walk`, one call for all of the stretch
+-- `hundurzek_walk`, one call for all of it, too
 pub record HostWalk (bytes : List ℕ) (end : ℕ) (holding : List ℕ) (rows : List ℤ) (result : Walked) (left : List ℕ) (after : List ℤ) : Type 0 where
   pub κs : Lfts 3
   pub lent : RefT (List ℕ)
