@@ -36,6 +36,7 @@ typedef struct {
 typedef struct {
   uint64_t answer;     /* 0 to 12, or HUNDURZEK_MESSAGE */
   uint64_t place;      /* after the message; else the start asked for */
+  uint64_t missing;    /* answer 3: how many bits of the field or the body are past the end, 1 or more; else 0 */
   uint64_t rows;       /* of the message; else 0 */
   uint64_t raw_offset; /* the message's raw bytes: where they begin in the stretch, */
   uint64_t raw_count;  /* and how many; else 0 and 0 */
@@ -45,6 +46,7 @@ typedef struct {
 typedef struct {
   uint64_t answer;   /* why the walk stopped: 0 to 12 */
   uint64_t place;    /* and where */
+  uint64_t missing;  /* answer 3: how many bits of the field or the body are past the end, 1 or more; else 0 */
   uint64_t messages; /* accepted before the stop, */
   uint64_t rows;     /* and the rows of all of them */
 } hundurzek_walked;

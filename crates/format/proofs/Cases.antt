@@ -60,7 +60,12 @@ pub record Report : Type 0 where
 
 infix 40 _at_after_and_says_
 unfoldable pub _at_after_and_says_ : ℕ → ℕ → ℕ → ℕ → List (List ℤ) → Report
-k at place after messages and rows says handed = record { stopped = stop k place; messages = messages; rows = rows; handed = handed }
+k at place after messages and rows says handed = record { stopped = stop k place 0; messages = messages; rows = rows; handed = handed }
+
+-- 3, where so many bits are missing
+infix 40 _missing_at_after_and_says_
+unfoldable pub _missing_at_after_and_says_ : ℕ → ℕ → ℕ → ℕ → ℕ → List (List ℤ) → Report
+k missing m at place after messages and rows says handed = record { stopped = stop k place m; messages = messages; rows = rows; handed = handed }
 
 -- a message's place and length, its head and its row count; then its rows
 unfoldable pub said : List HandedOut → List (List ℤ)
@@ -141,7 +146,7 @@ cases =
     (181 of "FE91000645188500000000040806FFA4C1908600160000" gives 0 at 181 after 2 and 2 says (saidMask 114 3 1 ∷ saidClock) keeps exampleLine)
     ∷ ((exampleMask ++ clock 3) gives 0 at 181 after 2 and 2 says (saidMask 114 3 1 ∷ saidClock) keeps exampleLine)
     -- 2: its first 180 bits
-    ∷ ((exampleMask ++ (head 3 3 ++ (15 ∶ 5 ∷ 14 ∶ 8192 ∷ []))) gives 3 at 114 after 1 and 0 says (saidMask 114 3 1 ∷ []) keeps exampleLine)
+    ∷ ((exampleMask ++ (head 3 3 ++ (15 ∶ 5 ∷ 14 ∶ 8192 ∷ []))) gives 3 missing 1 at 114 after 1 and 0 says (saidMask 114 3 1 ∷ []) keeps exampleLine)
     -- 3: its last 67 bits alone
     ∷ (clock 3 gives 6 at 0 after 0 and 0 says [] keeps unsaid)
     -- 4: its clock with IOD 4, whole, and its head alone: the issue comes before the body
@@ -165,7 +170,7 @@ cases =
     ∷ ((maskHead 3 1 ++ system 0 0xFFFFFFFF00 0xFF80) gives 10 at 0 after 0 and 0 says [] keeps unsaid)
     -- 10: 11 zero bits idle; 11 bits with a one: 3; 12 bits of 4072: 4
     ∷ ((11 ∶ 0 ∷ []) gives 0 at 0 after 0 and 0 says [] keeps unsaid)
-    ∷ ((11 ∶ 1 ∷ []) gives 3 at 0 after 0 and 0 says [] keeps unsaid)
+    ∷ ((11 ∶ 1 ∷ []) gives 3 missing 1 at 0 after 0 and 0 says [] keeps unsaid)
     ∷ ((12 ∶ 4072 ∷ []) gives 4 at 0 after 0 and 0 says [] keeps unsaid)
     -- 11: network 0 gives 11, 31 is good: here with the second satellite alone, and no field of it
     ∷ ((exampleMask ++ (head 11 3 ++ (3 ∶ 1 ∷ 5 ∶ 0 ∷ 2 ∶ 1 ∷ []))) gives 11 at 114 after 1 and 0 says (saidMask 114 3 1 ∷ []) keeps exampleLine)
@@ -199,11 +204,19 @@ cases =
     ∷ ((maskHead 3 1 ++ (system 4 0x4000000000 0xC000 ++ (head 5 3 ++ (15 ∶ 7 ∷ 2 ∶ 3 ∷ 15 ∶ 8 ∷ 2 ∶ 1 ∷ [])))) gives 0 at 181 after 2 and 2 says
     (saidMask 110 3 1 ∷ saidHead 110 71 5 3 2 ∷ (n 4 ∷ n 2 ∷ n 0 ∷ n 7 ∷ n 3 ∷ ∅ ∷ ∅ ∷ ∅ ∷ []) ∷ (n 4 ∷ n 2 ∷ n 1 ∷ n 8 ∷ n 1 ∷ ∅ ∷ ∅ ∷ ∅ ∷ []) ∷ [])
     keeps "S\t3\t4\t4000000000\tC000\t0\t-\n")
+    -- how many bits of the field that is short are missing, or of the body (document 02, Ask 7): of the number; of a cell mask of four bits, which is one field;
+    -- of a clock's body of 30; of the last flag of three, each of which is a field; of a selection of two bits; of a packet's body of 160
+    ∷ ((1 ∶ 1 ∷ []) gives 3 missing 11 at 0 after 0 and 0 says [] keeps unsaid)
+    ∷ ((maskHead 3 1 ++ (4 ∶ 0 ∷ 40 ∶ 0xA000000000 ∷ 16 ∶ 0x8100 ∷ 1 ∶ 1 ∷ 1 ∶ 1 ∷ [])) gives 3 missing 3 at 0 after 0 and 0 says [] keeps unsaid)
+    ∷ ((exampleMask ++ head 3 3) gives 3 missing 30 at 114 after 1 and 0 says (saidMask 114 3 1 ∷ []) keeps exampleLine)
+    ∷ ((exampleMask ++ (head 11 3 ++ (2 ∶ 3 ∷ []))) gives 3 missing 1 at 114 after 1 and 0 says (saidMask 114 3 1 ∷ []) keeps exampleLine)
+    ∷ ((exampleMask ++ (head 11 3 ++ (3 ∶ 1 ∷ 5 ∶ 31 ∷ []))) gives 3 missing 2 at 114 after 1 and 0 says (saidMask 114 3 1 ∷ []) keeps exampleLine)
+    ∷ ((opening 10 ++ (1 ∶ 1 ∷ 3 ∶ 5 ∷ 2 ∶ 3 ∷ 40 ∶ 0x0102030405 ∷ [])) gives 3 missing 120 at 0 after 0 and 0 says [] keeps unsaid)
     ∷ []
 
 -- what a reading computes with
 unfoldable pub computing : Unit {0}
-unfolding _∶_ spellAll bytesOf _at_after_and_says_ said report n ∅ opening maskHead head system clock saidMask saidHead spell bits bytes number signed flatMap flatten saidAt numberOf Walking.messages Walking.rowCount Walking.walkOn Walking.walkFrom Walking.goOn Walking.hand Reading.readingBy Reading.lentTests Tests.verdict Reading.placed Reading.readFrom Reading.bitsFrom Reading.endedAt Reading.rowsAfter Reading.over Programs.run Programs._>>=_ Programs._>>_ Programs.later Programs.unlessShort Programs.numbered Programs.taking Programs.require Table.opening Table.messageBy Table.table Table.kinds Table.alone Table.byKind Table.keeping Table.underMask Table.gate Messages.bodied Messages.overSatellites Messages.overCells Messages.common Messages.headOf Messages.rowsAlone Messages.body Messages.satelliteLines Messages.cellLines Messages.iodeWidth Messages.orbitShape Messages.clockShape Messages.codeShape Messages.phaseShape Messages.combinedShape Messages.packetShape Messages.selection Messages.flagged Messages.packetLines Messages.packet Messages.packetHeading Messages.maskMessage Messages.systems Messages.system Messages.systemId Messages.systemMasks Messages.systemSignals Messages.systemWith Messages.systemCells Messages.flaggedCells Messages.fewCells Messages.named Assigned.known Assigned.blank Assigned.assigned Assigned.satellitePlaces Assigned.signalPlaces Masks.placesFrom Masks.pick Masks.satellitesOf Masks.pairsOf Masks.cellsOf Masks.satellites Masks.cells Masks.skyOf Masks.heldIn Rows.widthOf Rows.valueOf Rows.shapeWidth Rows.valuesOf Rows.bodyWidth Rows.rowsOf Good.isHolding Good.good Good.goodSystems Good.goodSystem Reading.lentAfter answerOf
+unfolding _∶_ spellAll bytesOf _at_after_and_says_ _missing_at_after_and_says_ said report n ∅ opening maskHead head system clock saidMask saidHead spell bits bytes number signed flatMap flatten saidAt numberOf Walking.messages Walking.rowCount Walking.walkOn Walking.walkFrom Walking.goOn Walking.hand Reading.readingBy Reading.lentTests Tests.verdict Reading.placed Reading.readFrom Reading.bitsFrom Reading.endedAt Reading.rowsAfter Reading.over Programs.run Programs._>>=_ Programs._>>_ Programs.later Programs.unlessShort Programs.numbered Programs.taking Programs.require Table.opening Table.messageBy Table.table Table.kinds Table.alone Table.byKind Table.keeping Table.underMask Table.gate Messages.bodied Messages.overSatellites Messages.overCells Messages.common Messages.headOf Messages.rowsAlone Messages.body Messages.satelliteLines Messages.cellLines Messages.iodeWidth Messages.orbitShape Messages.clockShape Messages.codeShape Messages.phaseShape Messages.combinedShape Messages.packetShape Messages.selection Messages.flagged Messages.packetLines Messages.packet Messages.packetHeading Messages.maskMessage Messages.systems Messages.system Messages.systemId Messages.systemMasks Messages.systemSignals Messages.systemWith Messages.systemCells Messages.flaggedCells Messages.fewCells Messages.named Assigned.known Assigned.blank Assigned.assigned Assigned.satellitePlaces Assigned.signalPlaces Masks.placesFrom Masks.pick Masks.satellitesOf Masks.pairsOf Masks.cellsOf Masks.satellites Masks.cells Masks.skyOf Masks.heldIn Rows.widthOf Rows.valueOf Rows.shapeWidth Rows.valuesOf Rows.bodyWidth Rows.rowsOf Good.isHolding Good.good Good.goodSystems Good.goodSystem Reading.lentAfter answerOf
 computing = tt
 
 -- and what a text and a saved line compute with
@@ -227,7 +240,7 @@ example : Listed
 example = listing nothing (text "181\tFE91000645188500000000040806FFA4C1908600160000\n")
 
 example-listed :
-    (example .text ≡ text "M\t0\t114\t1\t100\t5\t0\t3\t1\t-\t-\t0\nM\t114\t67\t3\t100\t2\t0\t3\t-\t-\t-\t2\nR\t0\t1\t-\t5\t-\t-\t-\t-\nR\t0\t3\t-\t-16384\t-\t-\t-\t-\nE\t0\t181\t2\t2\n")
+    (example .text ≡ text "M\t0\t114\t1\t100\t5\t0\t3\t1\t-\t-\t0\nM\t114\t67\t3\t100\t2\t0\t3\t-\t-\t-\t2\nR\t0\t1\t-\t5\t-\t-\t-\t-\nR\t0\t3\t-\t-16384\t-\t-\t-\t-\nE\t0\t181\t2\t2\t-\n")
     × (lineOf (example .held) ≡ text exampleLine)
-unfolding computing example exampleLine texts Listing.stretchLine Listing.bitsSaid Listing.lineSays Listing.bytesSaid Listing.valueText Listing.recordText Listing.headValues Listing.messageText Listing.stopValues Listing.walkText Listing.badText Listing.walkSaid Listing.listLine Listing.linesFrom Listing.listLines listing
+unfolding computing example exampleLine texts Listing.stretchLine Listing.bitsSaid Listing.lineSays Listing.bytesSaid Listing.valueText Listing.recordText Listing.headValues Listing.messageText Listing.missingValue Listing.stopValues Listing.walkText Listing.badText Listing.walkSaid Listing.listLine Listing.linesFrom Listing.listLines listing
 example-listed = (refl, refl)

@@ -29,7 +29,7 @@ use Rattle.format.proofs.Verdicts.{AllHold, all-hold}
 use Rattle.format.proofs.Walks.{ends-inside, walk-step, stop-ends, Law, every-walk, Within, all-within}
 
 -- the bits of a message are not blank: they begin with 4073, whose first bit is one
-message-bits : (t : ℕ → Kind) (held : Held) (l : List Bool) (m : Message) (taken : ℕ) → run (messageBy t held) l ≡ well m taken → blank l ≡ false
+pub message-bits : (t : ℕ → Kind) (held : Held) (l : List Bool) (m : Message) (taken : ℕ) → run (messageBy t held) l ≡ well m taken → blank l ≡ false
 unfolding blank spell
 message-bits t held l m taken e =
     let begun : Gives (messageBy t held) (λ m b. (more : List Bool) → blank (b ++ more) ≡ false) =

@@ -2,6 +2,8 @@ pub mod Runs
 pub mod Tables
 pub mod Cases
 pub mod Stops
+pub mod Missing
+pub mod Reasons
 pub mod Openings
 pub mod Sames
 pub mod Texts
@@ -27,6 +29,7 @@ pub mod Ends
 pub mod Walks
 pub mod Verdicts
 pub mod CutWalks
+pub mod ShortReadings
 pub mod AlikeWalks
 pub mod Numbered
 pub mod Gates

@@ -53,7 +53,7 @@ badly-later : {A : Type 0} (w : ℕ) (r : Refusal) (missing : ℕ) → later {A 
 unfolding later
 badly-later w r missing = refl
 
-later-badly : {A : Type 0} (w : ℕ) (e : Ended A) (r : Refusal) (missing : ℕ) → later w e ≡ badly r missing → e ≡ badly r missing
+pub later-badly : {A : Type 0} (w : ℕ) (e : Ended A) (r : Refusal) (missing : ℕ) → later w e ≡ badly r missing → e ≡ badly r missing
 unfolding later
 later-badly w (well b rest) r missing e = absurd (false≢true cc)
 later-badly w (badly q rest) r missing e = e

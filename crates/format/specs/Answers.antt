@@ -24,15 +24,15 @@ numberOf Value = 12
 abbrev pub idleNumber : ℕ
 idleNumber = 0
 
--- What an answer to reading at a start says on paper: each of 0 to 12 its number and the start asked for; a message, which has no number there,
--- its head, the place after it and its row count.
+-- What an answer to reading at a start says on paper: each of 0 to 12 its number, the start asked for, and how many bits were missing (document 02,
+-- Ask 7: none but with 3); a message, which has no number there, its head, the place after it and its row count.
 pub data Said : Type 0 where
-  stop : ℕ → ℕ → Said
+  stop : ℕ → ℕ → ℕ → Said
   message : Head → ℕ → ℕ → Said
 
 unfoldable pub saidAt : ℕ → Answer → Said
-saidAt start Idle = stop idleNumber start
-saidAt start (Refused r missing) = stop (numberOf r) start
+saidAt start Idle = stop idleNumber start 0
+saidAt start (Refused r missing) = stop (numberOf r) start missing
 saidAt start (Message h next rows) = message h next rows
 
 -- And the writer's, and the saved form's: what is done has no number there either, and says the place after the message, or how long the line is;

@@ -1,4 +1,5 @@
 pub mod Programs
+pub mod Missing
 pub mod Assigned
 pub mod Masks
 pub mod Rows

@@ -7,7 +7,8 @@ use lib.IntN.{ℤ, pos, negsuc}
 use lib.ListN.{length, getD, take, replicate}
 use Rattle.bits.specs.BitLists.{bytes}
 use Rattle.format.specs.declared.Head.{Head}
-use Rattle.format.specs.Answers.{Said, stop, message, saidAt}
+use Rattle.format.specs.declared.Refusal.the-variants.{Short}
+use Rattle.format.specs.Answers.{Said, stop, message, numberOf, saidAt}
 use Rattle.format.specs.Masks.{Held, lent, heldIn}
 use Rattle.format.specs.Reading.{stretchLimit, rowRoom, lentAfter, answerOf}
 use Rattle.format.specs.Rows.{absent}
@@ -72,9 +73,13 @@ messageText d =
     let rows = d .content .rows in
     recordText letterM (pos (d .place) ∷ pos (d .next - d .place) ∷ (headValues (d .content .head) ++ (pos (length rows) ∷ []))) ++ flatMap (recordText letterR) rows
 
--- E: stop number, place, messages, rows
+-- how many bits were missing where a stop is 3; `-` for every other
+unfoldable pub missingValue : ℕ → ℕ → ℤ
+missingValue number missing = cond (eqb number (numberOf Short)) (pos missing) absent
+
+-- E: stop number, place, messages, rows, missing bits
 unfoldable pub stopValues : Said → ℕ → ℕ → List ℤ
-stopValues (stop number place) messages rows = pos number ∷ pos place ∷ pos messages ∷ pos rows ∷ []
+stopValues (stop number place missing) messages rows = pos number ∷ pos place ∷ pos messages ∷ pos rows ∷ missingValue number missing ∷ []
 stopValues (message h next n) messages rows = []
 
 unfoldable pub walkText : Walk → List ℕ

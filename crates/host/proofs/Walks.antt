@@ -20,7 +20,7 @@ use Rattle.format.proofs.Answer.{the-type}
 use Rattle.format.proofs.Walks.{none-kept, walk-good, walk-stray}
 use Rattle.holding.specs.declared.Holding.{Holding}
 use Rattle.holding.specs.Pictures.{sound, lentBy}
-use Rattle.host.specs.Handing.{messageNumber, numberSaid, walkedTo, bytesAfter, leftBytes, walkBytes}
+use Rattle.host.specs.Handing.{messageNumber, numberSaid, missingSaid, walkedTo, bytesAfter, leftBytes, walkBytes}
 use Rattle.host.proofs.Outcomes.{bytes-pass, bytes-stay, after-sound, after-bytes}
 use Rattle.passing.specs.Passing.{size, holdingIn}
 use Rattle.reader.specs.Readings.{structOf}
@@ -34,6 +34,13 @@ unfolding numberSaid saidAt
 message-number (Answers.Message h next rows) e place = refl
 message-number Answers.Idle e place = absurd (omega arith)
 message-number (Answers.Refused r missing) e place = absurd (omega arith)
+
+-- no bits are missing of it, nor where a reading is idle
+pub message-missing : (a : Answer) → tagOf the-type a ≡ 0 → (place : ℕ) → 0 ≡ missingSaid (saidAt place a)
+unfolding missingSaid saidAt
+message-missing (Answers.Message h next rows) e place = refl
+message-missing Answers.Idle e place = absurd (omega arith)
+message-missing (Answers.Refused r missing) e place = absurd (omega arith)
 
 module _ (hb bs : List ℕ) (end : ℕ) (rows : List ℤ) where
   abbrev h : Holding
@@ -84,6 +91,23 @@ module _ (hb bs : List ℕ) (end : ℕ) (rows : List ℤ) where
     unfolding walkedOf
     left small = ap (λ (x : Halt). leftBytes (x .tally .messages) (x .holding) hb) said ∙ left-so small
 
-    pub walked-to : record { answer = numberSaid (saidAt (d .tally .place) (d .stop)); place = d .tally .place; messages = d .tally .messages; rows = d .tally .rows } ≡ walkedTo w
+    pub walked-to :
+        record {
+          answer = numberSaid (saidAt (d .tally .place) (d .stop));
+          place = d .tally .place;
+          missing = missingSaid (saidAt (d .tally .place) (d .stop));
+          messages = d .tally .messages;
+          rows = d .tally .rows;
+        }
+        ≡ walkedTo w
     unfolding walkedOf walkedTo
-    walked-to = ap (λ (x : Halt). record { answer = numberSaid (saidAt (x .tally .place) (x .stop)); place = x .tally .place; messages = x .tally .messages; rows = x .tally .rows }) said
+    walked-to =
+        ap
+        (λ (x : Halt). record {
+          answer = numberSaid (saidAt (x .tally .place) (x .stop));
+          place = x .tally .place;
+          missing = missingSaid (saidAt (x .tally .place) (x .stop));
+          messages = x .tally .messages;
+          rows = x .tally .rows;
+        })
+        said

@@ -29,17 +29,22 @@ messageNumber = 255
 
 -- what is handed of what an answer to reading at a start says: a stop has no rows, no raw part and no head
 unfoldable pub handedBy : ℕ → Said → Handed
-handedBy start (stop number place) = record { answer = number; place = place; rows = 0; offset = 0; count = 0; head = noHead }
+handedBy start (stop number place missing) = record { answer = number; place = place; missing = missing; rows = 0; offset = 0; count = 0; head = noHead }
 handedBy start (message h next rows) =
-    record { answer = messageNumber; place = next; rows = rows; offset = startOf start next; count = countOf start next; head = h }
+    record { answer = messageNumber; place = next; missing = 0; rows = rows; offset = startOf start next; count = countOf start next; head = h }
 
 abbrev pub handed : ℕ → Outcome → Handed
 handed start o = handedBy start (saidAt start (answerOf o))
 
 -- and the number alone
 unfoldable pub numberSaid : Said → ℕ
-numberSaid (stop number place) = number
+numberSaid (stop number place missing) = number
 numberSaid (message h next rows) = messageNumber
+
+-- and how many bits were missing
+unfoldable pub missingSaid : Said → ℕ
+missingSaid (stop number place missing) = missing
+missingSaid (message h next rows) = 0
 
 -- the bytes that say what is lent after it; those that say no holding stay as they were
 unfoldable pub bytesAfter : Lent → List ℕ → List ℕ
@@ -60,7 +65,9 @@ unfoldable pub hostWalk : List ℕ → List ℕ → ℕ → List ℤ → Walk
 hostWalk holding bytes end rows = walkAt (holdingIn holding) bytes end rows
 
 unfoldable pub walkedTo : Walk → Walked
-walkedTo w = record { answer = numberSaid (saidAt (w .place) (answerOf (w .stop))); place = w .place; messages = messages w; rows = rowCount (w .handed) }
+walkedTo w =
+    let said = saidAt (w .place) (answerOf (w .stop)) in
+    record { answer = numberSaid said; place = w .place; missing = missingSaid said; messages = messages w; rows = rowCount (w .handed) }
 
 -- what is written after so many messages: nothing where none was accepted
 unfoldable pub leftBytes : ℕ → Holding → List ℕ → List ℕ

@@ -16,7 +16,7 @@ ghost use Rattle.holding.specs.Outlines.{wholeOf};
 ghost use Rattle.holding.specs.Pictures.{maskOf, sound};
 ghost use Rattle.passing.specs.Passing.{size, bytesOf, holdingIn};
 ghost use Rattle.reader.specs.Readings.{soughtAt};
-ghost use Rattle.host.specs.Handing.{handedBy, handed, numberSaid, bytesAfter, holdingBytes, hostOutcome, hostWalk, walkedTo, leftBytes, walkBytes, emptied, emptiedNumber};
+ghost use Rattle.host.specs.Handing.{handedBy, handed, numberSaid, missingSaid, bytesAfter, holdingBytes, hostOutcome, hostWalk, walkedTo, leftBytes, walkBytes, emptied, emptiedNumber};
 use bits::part::begins;
 use bits::part::counts;
 use format::ABSENT;
@@ -28,23 +28,26 @@ use holding::Holding;
 use holding::Outline;
 use reader::message::Found;
 
-// What a reading hands out: the answer's number, the place after the message or the start asked for, the row
-// count, where the raw part begins and how many bytes it has, the head.
+// What a reading hands out: the answer's number, the place after the message or the start asked for, how many bits were
+// missing, the row count, where the raw part begins and how many bytes it has, the head.
 #[repr(C)]
 pub struct Handed {
     pub answer: u64,
     pub place: usize,
+    pub missing: usize,
     pub rows: usize,
     pub offset: usize,
     pub count: usize,
     pub head: Head,
 }
 
-// What a walk comes to: the stop's number and place, and how many messages and rows were handed out before it.
+// What a walk comes to: the stop's number and place, how many bits were missing, and how many messages and rows were
+// handed out before it.
 #[repr(C)]
 pub struct Walked {
     pub answer: u64,
     pub place: usize,
+    pub missing: usize,
     pub messages: usize,
     pub rows: usize,
 }
@@ -63,13 +66,25 @@ fn answer_number(answer: Answer) -> u64
     }
 }
 
+// How many bits were missing (document 02, Ask 7).
+fn answer_missing(answer: Answer) -> usize
+    ensures { λ n. ⌜ ((place : ℕ) → n ≡ missingSaid (saidAt place answer)) ⌝ }
+{
+    match answer {
+        Answer::Message(_, _, _) => 0,
+        Answer::Idle => 0,
+        Answer::Refused(_, missing) => missing,
+    }
+}
+
 // Idle or a refusal: nothing was read.
-fn stop(number: u64, start: usize) -> Handed
-    ensures { λ r. ⌜ r ≡ handedBy start (Said.stop number start) ⌝ }
+fn stop(number: u64, start: usize, missing: usize) -> Handed
+    ensures { λ r. ⌜ r ≡ handedBy start (Said.stop number start missing) ⌝ }
 {
     Handed {
         answer: number,
         place: start,
+        missing,
         rows: 0,
         offset: 0,
         count: 0,
@@ -93,6 +108,7 @@ fn message(head: Head, start: usize, next: usize, rows: usize) -> Handed
     Handed {
         answer: MESSAGE,
         place: next,
+        missing: 0,
         rows,
         offset: begins(start, next),
         count: counts(start, next),
@@ -105,8 +121,8 @@ fn hand(answer: Answer, start: usize) -> Handed
     ensures { λ r. ⌜ r ≡ handedBy start (saidAt start answer) ⌝ }
 {
     match answer {
-        Answer::Idle => stop(0, start),
-        Answer::Refused(r, _) => stop(number(r), start),
+        Answer::Idle => stop(0, start, 0),
+        Answer::Refused(r, missing) => stop(number(r), start, missing),
         Answer::Message(head, next, n) => message(head, start, next, n),
     }
 }
@@ -230,6 +246,7 @@ pub extern "C" fn hundurzek_walk(
     Walked {
         answer: answer_number(stop),
         place: tally.place,
+        missing: answer_missing(stop),
         messages: tally.messages,
         rows: tally.rows,
     }

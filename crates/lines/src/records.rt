@@ -1,15 +1,15 @@
 // The listing's lines of output (document 01, "Saved mask and listing"): a letter, then values, each after a tab.
 ghost use mathlib.Core.Path.{_≡_};
-ghost use mathlib.Core.List.{[], _∷_, flatMap};
+ghost use mathlib.Core.List.{_∷_, flatMap};
 ghost use Prim.Native.Nat.{_+_, _*_, _^_, _≤_, _<_};
-ghost use lib.IntN.{pos};
 ghost use lib.ListN.{length, take, drop};
 ghost use lib.Seq.{sets};
-ghost use Rattle.format.specs.Listing.{valueText, recordText, letterR, letterE, badText};
+ghost use Rattle.format.specs.Listing.{valueText, recordText, letterR, missingValue, badText};
 ghost use Rattle.format.specs.Text.{tab};
 ghost use Rattle.format.specs.Writing.{rowsIn};
-ghost use Rattle.lines.specs.Records.{openingIn, messageIn, recordLong, rowLong, messageRoom};
+ghost use Rattle.lines.specs.Records.{valuesText, openingIn, messageIn, stopIn, recordLong, rowLong, missingLong, messageRoom};
 use format::Head;
+use text::DASH;
 use text::LINE_FEED;
 use text::TAB;
 use text::number::value;
@@ -25,11 +25,11 @@ fn field(out: &mut [u8], at: usize, v: i32) -> usize
     value(out, from, v)
 }
 
-// A line of some values, from a place on; the place behind it.
-pub fn record(out: &mut [u8], at: usize, letter: u8, values: &[i32]) -> usize
-    requires { ⌜ at + length (recordText letter (now values)) ≤ length (now out) ⌝ }
-    ensures { λ r. ⌜ r ≡ at + length (recordText letter (now (values .entry))) ⌝ }
-    ensures { λ _. ⌜ now (out .exit) ≡ sets (now (out .entry)) at (recordText letter (now (values .entry))) ⌝ }
+// A letter and some values, from a place on; the place behind them.
+fn opened(out: &mut [u8], at: usize, letter: u8, values: &[i32]) -> usize
+    requires { ⌜ at + length (valuesText letter (now values)) ≤ length (now out) ⌝ }
+    ensures { λ r. ⌜ r ≡ at + length (valuesText letter (now (values .entry))) ⌝ }
+    ensures { λ _. ⌜ now (out .exit) ≡ sets (now (out .entry)) at (valuesText letter (now (values .entry))) ⌝ }
 {
     let mut place = put(out, at, letter);
     let mut i = 0;
@@ -37,6 +37,16 @@ pub fn record(out: &mut [u8], at: usize, letter: u8, values: &[i32]) -> usize
         place = field(out, place, values[i]);
         i += 1;
     }
+    place
+}
+
+// A line of some values, from a place on; the place behind it.
+pub fn record(out: &mut [u8], at: usize, letter: u8, values: &[i32]) -> usize
+    requires { ⌜ at + length (recordText letter (now values)) ≤ length (now out) ⌝ }
+    ensures { λ r. ⌜ r ≡ at + length (recordText letter (now (values .entry))) ⌝ }
+    ensures { λ _. ⌜ now (out .exit) ≡ sets (now (out .entry)) at (recordText letter (now (values .entry))) ⌝ }
+{
+    let place = opened(out, at, letter, values);
     put(out, place, LINE_FEED)
 }
 
@@ -130,18 +140,45 @@ pub fn message(
     crate::records::rows(out, first, rows, n)
 }
 
-// The letter of a stop's line.
+// The letter of a stop's line, and the stop that says how many bits were missing.
 const LETTER_E: u8 = b'E';
 
-// A stop, from the first byte on: its number and place, and how many messages and rows were listed before it.
-pub fn stop(out: &mut [u8], number: u64, place: usize, messages: usize, rows: usize) -> usize
+const SHORT: u64 = 3;
+
+// A stop's last value, after a tab (document 02, Ask 7): how many bits were missing where it is 3, else a dash. It is
+// printed as a number of 64 bits, so that nothing need be known of it.
+fn missing_bits(out: &mut [u8], at: usize, number: u64, missing: usize) -> usize
+    requires { ⌜ at + missingLong ≤ length (now out) ⌝ }
+    ensures { λ r. ⌜ r ≡ at + length (tab ∷ valueText (missingValue number missing)) ⌝ }
+    ensures { λ _. ⌜ now (out .exit) ≡ sets (now (out .entry)) at (tab ∷ valueText (missingValue number missing)) ⌝ }
+    ensures { λ r. ⌜ r ≤ at + missingLong ⌝ }
+{
+    let from = put(out, at, TAB);
+    if number == SHORT {
+        return text::number::number(out, from, missing as u64);
+    }
+    put(out, from, DASH)
+}
+
+// A stop, from the first byte on: its number and place, how many messages and rows were listed before it, and how many
+// bits were missing.
+pub fn stop(
+    out: &mut [u8],
+    number: u64,
+    place: usize,
+    messages: usize,
+    rows: usize,
+    missing: usize,
+) -> usize
     requires { ⌜ (number < 2 ^ 31) × (place < 2 ^ 31) × (messages < 2 ^ 31) × (rows < 2 ^ 31) × (messageRoom ≤ length (now out)) ⌝ }
-    ensures { λ r. ⌜ r ≡ length (recordText letterE (pos number ∷ pos place ∷ pos messages ∷ pos rows ∷ [])) ⌝ }
-    ensures { λ _. ⌜ now (out .exit) ≡ sets (now (out .entry)) 0 (recordText letterE (pos number ∷ pos place ∷ pos messages ∷ pos rows ∷ [])) ⌝ }
+    ensures { λ r. ⌜ r ≡ length (stopIn number place messages rows missing) ⌝ }
+    ensures { λ _. ⌜ now (out .exit) ≡ sets (now (out .entry)) 0 (stopIn number place messages rows missing) ⌝ }
     ensures { λ r. ⌜ r ≤ messageRoom ⌝ }
 {
     let values = [number as i32, place as i32, messages as i32, rows as i32];
-    record(out, 0, LETTER_E, &values)
+    let first = opened(out, 0, LETTER_E, &values);
+    let last = missing_bits(out, first, number, missing);
+    put(out, last, LINE_FEED)
 }
 
 // The letter of a bad line's line.

@@ -29,11 +29,11 @@ use Rattle.walk.proofs.Found.{Accepted, message-of}
 use Rattle.walk.proofs.Going.{nextStand, Goes, within, outcome-there, next-goes}
 
 -- what is said with a number is a stop
-stop-said : (place number : ℕ) (o : Outcome) → saidAt place (answerOf o) ≡ stop number place → Stopped o
+stop-said : (place number missing : ℕ) (o : Outcome) → saidAt place (answerOf o) ≡ stop number place missing → Stopped o
 unfolding saidAt answerOf
-stop-said place number (accepted m next) e = absurd (let z : _≡_ {A = ℕ} 0 1 = cc in omega arith)
-stop-said place number (idle holding) e = tt
-stop-said place number (refused r missing holding) e = tt
+stop-said place number missing (accepted m next) e = absurd (let z : _≡_ {A = ℕ} 0 1 = cc in omega arith)
+stop-said place number missing (idle holding) e = tt
+stop-said place number missing (refused r by holding) e = tt
 
 -- and a stop is listed as one
 lists-stop : (s : State) (bits : ℕ) (tally : Tally) (o : Outcome) (line : List ℕ) (rows : List ℤ) → Stopped o → listsAs s bits tally o line rows ≡ stopsAs s tally o line rows
@@ -129,24 +129,24 @@ module _ (s : State) (bits : ℕ) (tally : Tally) (line : List ℕ) (rows : List
 
     -- ---- a stop
 
-    module _ (number : ℕ) (e : saidAt (tally .place) (r .answer) ≡ stop number (tally .place)) where
-      says : saidAt (tally .place) (answerOf o) ≡ stop number (tally .place)
+    module _ (number missing : ℕ) (e : saidAt (tally .place) (r .answer) ≡ stop number (tally .place) missing) where
+      says : saidAt (tally .place) (answerOf o) ≡ stop number (tally .place) missing
       says = ap (saidAt (tally .place)) (sym answer) ∙ e
 
       stopped : Stopped o
-      stopped = stop-said (tally .place) number o says
+      stopped = stop-said (tally .place) number missing o says
 
       stops : d ≡ stopsAs s tally o line rows
       stops = lists-stop s bits tally o line rows stopped
 
-      stop-same : stopText number tally ≡ stopsAs s tally o line rows .text
+      stop-same : stopText number missing tally ≡ stopsAs s tally o line rows .text
       unfolding stopsAs
       stop-same = ap (λ (x : Said). recordText letterE (stopValues x (tally .messages) (tally .rows))) (sym says)
 
       -- it is listed
       pub record StopListed : Type 0 where
-        pub text : stopText number tally ≡ d .text
-        pub result : _≡_ {A = Step} (record { state = nextLine s (r .holding); taken = 0; given = length (stopText number tally) }) (answered d)
+        pub text : stopText number missing tally ≡ d .text
+        pub result : _≡_ {A = Step} (record { state = nextLine s (r .holding); taken = 0; given = length (stopText number missing tally) }) (answered d)
         pub numbers : after ≡ d .rows
 
       pub stop-listed : StopListed

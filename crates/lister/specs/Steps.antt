@@ -63,9 +63,9 @@ opensAs s bad line rows = record { state = nextLine s (s .holding); taken = 0; t
 
 -- ---- of a stretch: one message, or the stop
 
--- the line of a stop with this number
-abbrev pub stopText : ℕ → Tally → List ℕ
-stopText number tally = recordText letterE (stopValues (stop number (tally .place)) (tally .messages) (tally .rows))
+-- the line of a stop with this number, and so many bits missing
+abbrev pub stopText : ℕ → ℕ → Tally → List ℕ
+stopText number missing tally = recordText letterE (stopValues (stop number (tally .place) missing) (tally .messages) (tally .rows))
 
 unfoldable pub stopsAs : State → Tally → Outcome → List ℕ → List ℤ → Done
 stopsAs s tally o line rows =

@@ -20,13 +20,20 @@ use walk::single;
 const IDLE: u64 = 0;
 
 // The stop's line of text, after which the next line is gathered.
-fn stop(next: State, tally: Tally, number: u64, out: &mut [u8]) -> Step
+fn stop(next: State, tally: Tally, number: u64, missing: usize, out: &mut [u8]) -> Step
     requires { ⌜ (number < 2 ^ 31) × (tally .place < 2 ^ 31) × (tally .messages < 2 ^ 31) × (tally .rows < 2 ^ 31) × (messageRoom ≤ length (now out)) ⌝ }
-    ensures { λ r. ⌜ r ≡ record { state = next; taken = 0; given = length (stopText number tally) } ⌝ }
-    ensures { λ _. ⌜ now (out .exit) ≡ sets (now (out .entry)) 0 (stopText number tally) ⌝ }
+    ensures { λ r. ⌜ r ≡ record { state = next; taken = 0; given = length (stopText number missing tally) } ⌝ }
+    ensures { λ _. ⌜ now (out .exit) ≡ sets (now (out .entry)) 0 (stopText number missing tally) ⌝ }
     ensures { λ r. ⌜ r .given ≤ messageRoom ⌝ }
 {
-    let given = records::stop(out, number, tally.place, tally.messages, tally.rows);
+    let given = records::stop(
+        out,
+        number,
+        tally.place,
+        tally.messages,
+        tally.rows,
+        missing,
+    );
     Step {
         state: next,
         taken: 0,
@@ -70,7 +77,13 @@ pub fn onward(
                 given,
             }
         }
-        Answer::Idle => stop(next_line(state, holding), tally, IDLE, out),
-        Answer::Refused(r, _) => stop(next_line(state, holding), tally, number(r), out),
+        Answer::Idle => stop(next_line(state, holding), tally, IDLE, 0, out),
+        Answer::Refused(r, missing) => stop(
+            next_line(state, holding),
+            tally,
+            number(r),
+            missing,
+            out,
+        ),
     }
 }

@@ -18,19 +18,19 @@ use Rattle.format.proofs.HeldGood.{held-good, stays-good}
 use Rattle.format.proofs.Stops.{Stopped}
 use Rattle.format.proofs.Walks.{Law, every-walk, all-good}
 use Rattle.format.proofs.WrittenRead.{took}
-use Rattle.host.specs.Handing.{numberSaid, walkedTo}
+use Rattle.host.specs.Handing.{numberSaid, missingSaid, walkedTo}
 use Rattle.promises.specs.Calls.{Got, answered, gets, Calls, stops, goes, gotBy}
 use Rattle.promises.proofs.Determined.{alike}
 use Rattle.reader.proofs.RowsRead.{Eight, rows-left, message-eight}
 
 -- what is equal in equal answers
-stop-parts : {m n p q : ℕ} → stop m p ≡ stop n q → (m ≡ n) × (p ≡ q)
-stop-parts e = (cc, cc)
+stop-parts : {m n p q a b : ℕ} → stop m p a ≡ stop n q b → (m ≡ n) × ((p ≡ q) × (a ≡ b))
+stop-parts e = (cc, (cc, cc))
 
 pub message-parts : {h k : Head} {m n p q : ℕ} → message h m p ≡ message k n q → (h ≡ k) × ((m ≡ n) × (p ≡ q))
 message-parts e = (cc, (cc, cc))
 
-pub never-both : {h : Head} {m n p q : ℕ} {A : Type 0} → stop m p ≡ message h n q → A
+pub never-both : {h : Head} {m n p q a : ℕ} {A : Type 0} → stop m p a ≡ message h n q → A
 never-both e = absurd (false≢true cc)
 
 -- a function that allows no more than another has no more runs of calls
@@ -68,7 +68,7 @@ module _ {H : Type 0} (lentIn : H → Lent) (leave : Lent → H → H) where
       -- a stop
       stops-so : (o : Outcome) → Stopped o → outcome h place rows ≡ o
           → Calls Read h place rows (gotBy (record { handed = []; stop = o; place = place; rows = rows }) (leave (lentAfter o) h))
-      unfolding gotBy walkedTo numberSaid saidAt answerOf rowsAfter
+      unfolding gotBy walkedTo numberSaid missingSaid saidAt answerOf rowsAfter
       stops-so (accepted m next) stopped e = absurd stopped
       stops-so (idle l) stopped e = stops (read (idle l) e)
       stops-so (refused r missing l) stopped e = stops (read (refused r missing l) e)
@@ -121,7 +121,7 @@ module _ {H : Type 0} (lentIn : H → Lent) (leave : Lent → H → H) where
     same-calls : {h : H} {place : ℕ} {rows : List ℤ} {a b : Got H} → Calls Read h place rows a → Calls Read h place rows b → a ≡ b
     same-calls (stops c) (stops d) =
         let said = stop-parts (alike (c .says) (d .says)) in
-        λ i. record { handed = []; number = said .0 i; place = said .1 i; holding = alike (c .holds) (d .holds) i; rows = alike (c .writes) (d .writes) i }
+        λ i. record { handed = []; number = said .0 i; place = said .1 .0 i; missing = said .1 .1 i; holding = alike (c .holds) (d .holds) i; rows = alike (c .writes) (d .writes) i }
     same-calls (stops c) (goes d ds) = never-both (alike (c .says) (d .says))
     same-calls (goes c cs) (stops d) = never-both (alike (d .says) (c .says))
     same-calls (goes {place = place} c cs) (goes d ds) =

@@ -167,9 +167,9 @@ module _ (hb bytes : List ℕ) (end : ℕ) (rows : List ℤ) where
     unfolding hostWalk walkAt
     calls-are-the-walk = reads-walk lentIn bytesAfter bytes end bytes-passes hb rows (calls-so (host-reads bytes end) calls)
 
-    -- so `hundurzek_walk` answers where and why it stopped, how many messages and rows there were, and leaves the same bytes and the same row buffer
+    -- so `hundurzek_walk` answers where and why it stopped, how many bits were missing, how many messages and rows there were, and leaves the same bytes and the same row buffer
     pub both-the-same : {result : Walked} {left : List ℕ} {after : List ℤ} → HostWalk bytes end hb rows result left after
-        → (result ≡ record { answer = got .number; place = got .place; messages = length (got .handed); rows = rowCount (got .handed) })
+        → (result ≡ record { answer = got .number; place = got .place; missing = got .missing; messages = length (got .handed); rows = rowCount (got .handed) })
         × ((left ≡ got .holding) × (after ≡ got .rows))
     unfolding gotBy walkedTo messages
     both-the-same c = rw calls-are-the-walk (c .allowed)

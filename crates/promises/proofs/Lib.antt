@@ -13,3 +13,4 @@ pub mod Listings
 pub mod RoundTrips
 pub mod CallsOfWrite
 pub mod UselessWriter
+pub mod Missing

@@ -26,7 +26,7 @@ use Rattle.passing.specs.Bytes as Bytes
 use Rattle.passing.specs.Passing as Passing
 use Rattle.passing.specs.Passing.{size, holdingIn}
 use Rattle.promises.specs.Useless as Calls
-use Rattle.promises.specs.Useless.{lendable, Call, Beside, Seen, LeavesRows, LeavesHolding, Fixed, OneType, SaysTheSame, UselessReader, refuses-everything, fixed-answer, fixed-head, fixed-place, fixed-count, fixed-rows, fixed-holding, leaves-rows, leaves-holding, OpenAlike, UselessWalk, invents-stop, invents-place, invents-messages, invents-count, invents-rows, invents-holding, stops-at-once, fixed-stop, keeps-rows, keeps-holding, ShutsOut, reads, walks, hostReads, hostWalks}
+use Rattle.promises.specs.Useless.{lendable, Call, Beside, Seen, LeavesRows, LeavesHolding, Fixed, OneType, BothShort, SaysTheSame, UselessReader, refuses-everything, fixed-answer, fixed-head, fixed-place, fixed-count, fixed-missing, fixed-rows, fixed-holding, leaves-rows, leaves-holding, OpenAlike, StopShort, UselessWalk, invents-stop, invents-place, invents-messages, invents-count, invents-missing, invents-rows, invents-holding, stops-at-once, fixed-stop, keeps-rows, keeps-holding, ShutsOut, reads, walks, hostReads, hostWalks}
 use Rattle.reader.specs.Readings as Readings
 use Rattle.reader.specs.Readings.{outcomeAt, holdingAfter}
 use Rattle.walk.proofs as walk
@@ -104,6 +104,15 @@ long : Call
 unfolding lending
 long = call masked (bytesOf (packet 1 80)) 102 refl
 
+-- a clock that ends one bit early, and seven
+cutClock : Call
+unfolding lending
+cutClock = call masked (bytesOf (clocks 5 6)) 66 refl
+
+shorterClock : Call
+unfolding lending
+shorterClock = call masked (bytesOf (clocks 5 6)) 60 refl
+
 -- two stretches of one length that open with one mask: the first goes on to clocks and another mask, the second is refused there
 whole : Call
 unfolding lending
@@ -112,6 +121,15 @@ whole = call empty (bytesOf (masksFirst (clocks 5 6 ++ maskHead 4 0))) 226 refl
 torn : Call
 unfolding lending
 torn = call empty (bytesOf (masksFirst (12 ∶ 4072 ∷ 104 ∶ 0 ∷ []))) 226 refl
+
+-- and two that stop four bits into a body: clocks' of 30 bits, or orbits' of 98
+lacksClocks : Call
+unfolding lending
+lacksClocks = call empty (bytesOf (masksFirst (head 3 3 ++ (4 ∶ 0 ∷ [])))) 151 refl
+
+lacksOrbits : Call
+unfolding lending
+lacksOrbits = call empty (bytesOf (masksFirst (head 2 3 ++ (4 ∶ 0 ∷ [])))) 151 refl
 
 -- ---- what is said at a call, then held and left in the row buffer, by the definitions
 
@@ -131,7 +149,7 @@ numberAt k rows = unsigned 32 (getD rows k absent)
 
 -- what they compute with
 promising : Unit {0}
-unfolding lending listed neighbour clock otherClock short long whole torn readHere walkHere numberAt Calls.FixedAnswer Calls.Fixed Calls.OneType Calls.SaysTheSame Calls.OpenAlike Calls.ShutsOut Calls.reads Calls.walks Calls.hostReads Calls.hostWalks Readings.structOf Readings.outcomeAt Handing.bytesAfter Handing.hostOutcome Readings.readingOf Walks.walkAt Walks.walkedOf Handing.numberSaid Handing.handedBy Handing.hostWalk Handing.walkedTo Walking.messages Walking.rowCount rawEnd unsigned
+unfolding lending listed neighbour clock otherClock short long cutClock shorterClock whole torn lacksClocks lacksOrbits readHere walkHere numberAt Calls.FixedAnswer Calls.Fixed Calls.OneType Calls.BothShort Calls.SaysTheSame Calls.OpenAlike Calls.StopShort Calls.ShutsOut Calls.reads Calls.walks Calls.hostReads Calls.hostWalks Readings.structOf Readings.outcomeAt Handing.bytesAfter Handing.hostOutcome Readings.readingOf Walks.walkAt Walks.walkedOf Handing.numberSaid Handing.missingSaid Handing.handedBy Handing.hostWalk Handing.walkedTo Walking.messages Walking.rowCount rawEnd unsigned
 promising = tt
 
 -- ---- what is the same at two calls though it must differ
@@ -169,6 +187,8 @@ record Reads (f : Call → Seen Handed) : Type 0 where
   other-is : f otherClock ≡ readHere otherClock
   short-is : f short ≡ readHere short
   long-is : f long ≡ readHere long
+  cut-is : f cutClock ≡ readHere cutClock
+  shorter-is : f shorterClock ≡ readHere shorterClock
 
 module _ (f : Call → Seen Handed) (is : Reads f) where
   -- one thing is said, but other rows are written, or another mask is held
@@ -186,6 +206,11 @@ module _ (f : Call → Seen Handed) (is : Reads f) where
   unfolding promising
   other-part part number = apart f OneType part number (is .short-is) (is .long-is) (record { holding = refl; rows = refl }) (refl, refl, refl)
 
+  -- of two that run past the end
+  other-missing : Fixed BothShort (λ s. s .said .missing) f → ⊥
+  unfolding promising
+  other-missing = apart f BothShort (λ s. s .said .missing) (λ n. n) (is .cut-is) (is .shorter-is) (record { holding = refl; rows = refl }) (refl, refl) refl
+
   useful-reader : UselessReader f → ⊥
   unfolding promising
   useful-reader (refuses-everything never) = never clock (ap (λ (s : Seen Handed). s .said .answer) (is .clock-is))
@@ -193,6 +218,7 @@ module _ (f : Call → Seen Handed) (is : Reads f) where
   useful-reader (fixed-head same) = other-part (λ s. s .said .head) (λ h. unsigned 32 (h .b)) refl same
   useful-reader (fixed-place same) = other-part (λ s. s .said .place) (λ n. n) refl same
   useful-reader (fixed-count same) = other-part (λ s. s .said .rows) (λ n. n) refl same
+  useful-reader (fixed-missing same) = other-missing same
   useful-reader (fixed-rows same) = other-rows same
   useful-reader (fixed-holding same) = other-holding same
   useful-reader (leaves-rows leaves) = other-rows (same-rows f SaysTheSame leaves)
@@ -202,23 +228,30 @@ module _ (f : Call → Seen Handed) (is : Reads f) where
 pub read-useful : ShutsOut walk.single.read.Kinds.ps walk.single.read.Kinds.r walk.single.read.Reads.Learnt reads UselessReader
 unfolding promising
 read-useful κs result content meets useless =
-    useful-reader _ (record { listed-is = refl; neighbour-is = refl; clock-is = refl; other-is = refl; short-is = refl; long-is = refl })
+    useful-reader _ (record { listed-is = refl; neighbour-is = refl; clock-is = refl; other-is = refl; short-is = refl; long-is = refl; cut-is = refl; shorter-is = refl })
     (subst UselessReader (λ i c. reads .seen κs c (meets c .0 i) (tt, (tt, (tt, (tt, (meets c .1 i, tt)))))) useless)
 
 -- from C
 pub hundurzek-read-useful : ShutsOut host.hundurzek_read.Kinds.ps host.hundurzek_read.Kinds.r host.hundurzek_read.Reads.Learnt hostReads UselessReader
 unfolding promising
 hundurzek-read-useful κs result content meets useless =
-    useful-reader _ (record { listed-is = refl; neighbour-is = refl; clock-is = refl; other-is = refl; short-is = refl; long-is = refl })
+    useful-reader _ (record { listed-is = refl; neighbour-is = refl; clock-is = refl; other-is = refl; short-is = refl; long-is = refl; cut-is = refl; shorter-is = refl })
     (subst UselessReader (λ i c. hostReads .seen κs c (meets c .0 i) (meets c .1 .0 i, (tt, (tt, (tt, (meets c .1 .1 i, tt)))))) useless)
 
 -- ---- a walk
 
-module _ (f : Call → Seen Walked) (whole-is : f whole ≡ walkHere whole) (torn-is : f torn ≡ walkHere torn) where
+-- at these calls it shows what the definitions say
+record WalksHere (f : Call → Seen Walked) : Type 0 where
+  whole-is : f whole ≡ walkHere whole
+  torn-is : f torn ≡ walkHere torn
+  clocks-is : f lacksClocks ≡ walkHere lacksClocks
+  orbits-is : f lacksOrbits ≡ walkHere lacksOrbits
+
+module _ (f : Call → Seen Walked) (is : WalksHere f) where
   other-walk : {A : Type 0} (part : Seen Walked → A) (number : A → ℕ)
       → eqb (number (part (walkHere whole))) (number (part (walkHere torn))) ≡ false → Fixed OpenAlike part f → ⊥
   unfolding promising
-  other-walk part number = apart f OpenAlike part number whole-is torn-is (record { holding = refl; rows = refl }) (refl, refl)
+  other-walk part number = apart f OpenAlike part number (is .whole-is) (is .torn-is) (record { holding = refl; rows = refl }) (refl, refl)
 
   other-messages : Fixed OpenAlike (λ s. s .said .messages) f → ⊥
   unfolding promising
@@ -232,12 +265,17 @@ module _ (f : Call → Seen Walked) (whole-is : f whole ≡ walkHere whole) (tor
   unfolding promising
   walk-holding = other-walk (λ s. s .holding) (λ h. h .iod) refl
 
+  walk-missing : Fixed StopShort (λ s. s .said .missing) f → ⊥
+  unfolding promising
+  walk-missing = apart f StopShort (λ s. s .said .missing) (λ n. n) (is .clocks-is) (is .orbits-is) (record { holding = refl; rows = refl }) ((refl, refl), (refl, refl)) refl
+
   useful-walk : UselessWalk f → ⊥
   unfolding promising
   useful-walk (invents-stop same) = other-walk (λ s. s .said .answer) (λ n. n) refl same
   useful-walk (invents-place same) = other-walk (λ s. s .said .place) (λ n. n) refl same
   useful-walk (invents-messages same) = other-messages same
   useful-walk (invents-count same) = other-walk (λ s. s .said .rows) (λ n. n) refl same
+  useful-walk (invents-missing same) = walk-missing same
   useful-walk (invents-rows same) = walk-rows same
   useful-walk (invents-holding same) = walk-holding same
   useful-walk (stops-at-once none) = other-messages (λ c d beside _. none c ∙ sym (none d))
@@ -249,10 +287,12 @@ module _ (f : Call → Seen Walked) (whole-is : f whole ≡ walkHere whole) (tor
 pub walk-useful : ShutsOut walk.walk.Kinds.ps walk.walk.Kinds.r walk.walk.Reads.Learnt walks UselessWalk
 unfolding promising
 walk-useful κs result content meets useless =
-    useful-walk _ refl refl (subst UselessWalk (λ i c. walks .seen κs c (meets c .0 i) (tt, (tt, (tt, (meets c .1 i, tt))))) useless)
+    useful-walk _ (record { whole-is = refl; torn-is = refl; clocks-is = refl; orbits-is = refl })
+    (subst UselessWalk (λ i c. walks .seen κs c (meets c .0 i) (tt, (tt, (tt, (meets c .1 i, tt))))) useless)
 
 -- from C
 pub hundurzek-walk-useful : ShutsOut host.hundurzek_walk.Kinds.ps host.hundurzek_walk.Kinds.r host.hundurzek_walk.Reads.Learnt hostWalks UselessWalk
 unfolding promising
 hundurzek-walk-useful κs result content meets useless =
-    useful-walk _ refl refl (subst UselessWalk (λ i c. hostWalks .seen κs c (meets c .0 i) (meets c .1 .0 i, (tt, (tt, (meets c .1 .1 i, tt))))) useless)
+    useful-walk _ (record { whole-is = refl; torn-is = refl; clocks-is = refl; orbits-is = refl })
+    (subst UselessWalk (λ i c. hostWalks .seen κs c (meets c .0 i) (meets c .1 .0 i, (tt, (tt, (meets c .1 .1 i, tt))))) useless)

@@ -5,3 +5,4 @@ pub mod Useless
 pub mod Listings
 pub mod RoundTrips
 pub mod UselessWriter
+pub mod Missing

@@ -11,14 +11,15 @@ use borrow.Fn.Kinds.{PK, RK, Out, Dens, endedOf}
 use lib.Dec.{eqb, leb, ltb}
 use lib.IntN.{ℤ, pos, negsuc}
 use lib.ListN.{length}
-use Rattle.format.specs.Answers.{saidAt}
+use Rattle.format.specs.declared.Refusal.the-variants.{Short}
+use Rattle.format.specs.Answers.{numberOf, saidAt}
 use Rattle.format.specs.Reading.{rowRoom, stretchLimit, placed, Outcome}
 use Rattle.holding.specs.declared.Holding.{Holding}
 use Rattle.holding.specs.Bounds.{below}
 use Rattle.host.proofs as host
 use Rattle.host.specs.declared.Handed.{Handed}
 use Rattle.host.specs.declared.Walked.{Walked}
-use Rattle.host.specs.Handing.{messageNumber, handedBy, numberSaid, hostOutcome}
+use Rattle.host.specs.Handing.{messageNumber, handedBy, numberSaid, missingSaid, hostOutcome}
 use Rattle.passing.specs.Passing.{size, holdingIn}
 use Rattle.promises.specs.Determination.{Result, Content}
 use Rattle.walk.proofs as walk
@@ -80,6 +81,10 @@ LeavesHolding f = (c : Call) → f c .holding ≡ holdingIn (c .holding)
 unfoldable pub OneType : Call → Call → Seen Handed → Seen Handed → Type 0
 OneType c d s t = (s .said .answer ≡ messageNumber) × (t .said .answer ≡ messageNumber) × (s .said .head .subtype ≡ t .said .head .subtype)
 
+-- two that run past the end
+unfoldable pub BothShort : Call → Call → Seen Handed → Seen Handed → Type 0
+BothShort c d s t = (s .said .answer ≡ numberOf Short) × (t .said .answer ≡ numberOf Short)
+
 -- two of which the same is said
 unfoldable pub SaysTheSame : Call → Call → Seen Handed → Seen Handed → Type 0
 SaysTheSame c d s t = s .said ≡ t .said
@@ -87,11 +92,12 @@ SaysTheSame c d s t = s .said ≡ t .said
 pub data UselessReader (f : Call → Seen Handed) : Type 0 where
   -- "one that refuses everything": or is idle, and never hands out a message
   refuses-everything : ((c : Call) → f c .said .answer ≡ messageNumber → ⊥) → UselessReader f
-  -- "one with a fixed answer": of what it says, all, or a part that it gives to all messages of one sub type; or it leaves the same wherever it says the same
+  -- "one with a fixed answer": of what it says, all, or a part that it gives to all messages of one sub type, or to all refusals with 3; or it leaves the same wherever it says the same
   fixed-answer : FixedAnswer f → UselessReader f
   fixed-head : Fixed OneType (λ s. s .said .head) f → UselessReader f
   fixed-place : Fixed OneType (λ s. s .said .place) f → UselessReader f
   fixed-count : Fixed OneType (λ s. s .said .rows) f → UselessReader f
+  fixed-missing : Fixed BothShort (λ s. s .said .missing) f → UselessReader f
   fixed-rows : Fixed SaysTheSame (λ s. s .rows) f → UselessReader f
   fixed-holding : Fixed SaysTheSame (λ s. s .holding) f → UselessReader f
   leaves-rows : LeavesRows f → UselessReader f
@@ -107,12 +113,17 @@ firstReading c = hostOutcome (c .holding) (c .bytes) (c .end) 0 (c .rows)
 unfoldable pub OpenAlike : Call → Call → Seen Walked → Seen Walked → Type 0
 OpenAlike c d s t = (c .end ≡ d .end) × (firstReading c ≡ firstReading d)
 
+-- and that both stop past the end
+unfoldable pub StopShort : Call → Call → Seen Walked → Seen Walked → Type 0
+StopShort c d s t = OpenAlike c d s t × ((s .said .answer ≡ numberOf Short) × (t .said .answer ≡ numberOf Short))
+
 pub data UselessWalk (f : Call → Seen Walked) : Type 0 where
   -- "a walk that reads the first message and invents the others, or counts it made up"
   invents-stop : Fixed OpenAlike (λ s. s .said .answer) f → UselessWalk f
   invents-place : Fixed OpenAlike (λ s. s .said .place) f → UselessWalk f
   invents-messages : Fixed OpenAlike (λ s. s .said .messages) f → UselessWalk f
   invents-count : Fixed OpenAlike (λ s. s .said .rows) f → UselessWalk f
+  invents-missing : Fixed StopShort (λ s. s .said .missing) f → UselessWalk f
   invents-rows : Fixed OpenAlike (λ s. s .rows) f → UselessWalk f
   invents-holding : Fixed OpenAlike (λ s. s .holding) f → UselessWalk f
   -- "one that refuses everything": hands out no message
@@ -155,7 +166,14 @@ walks =
       args = λ κs c. (holdingIn (c .holding), (lentAs 1 (c .bytes), (c .end, (lentAs 2 (c .rows), tt))));
       seen =
           λ κs c x v. record {
-            said = record { answer = numberSaid (saidAt (x .tally .place) (x .stop)); place = x .tally .place; messages = x .tally .messages; rows = x .tally .rows };
+            said =
+                record {
+                  answer = numberSaid (saidAt (x .tally .place) (x .stop));
+                  place = x .tally .place;
+                  missing = missingSaid (saidAt (x .tally .place) (x .stop));
+                  messages = x .tally .messages;
+                  rows = x .tally .rows;
+                };
             holding = x .holding;
             rows = v .1 .1 .1 .0;
           };

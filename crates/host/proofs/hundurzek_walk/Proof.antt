@@ -55,13 +55,14 @@ leave-requires c κs some =
 returns : tie.Need-returns
 unfolding hostWalk
 returns c =
-    let e = c .before .before .before in
+    let n = c .before in
+    let e = n .before .before .before in
     let k = e .before .before in
     let v = k .before .before .before .before in
     let x = s v .args in
     let t = v .walk-under .result .tally in
     let told = walked-to (lent v) (x .bytes .now) (x .end) (x .rows .now) (halt v) (said v .0) in (
-      ap (λ (n : ℕ). record { answer = n; place = t .place; messages = t .messages; rows = t .rows }) (c .answer-number .ensures (t .place)) ∙ told,
+      (λ i. record { answer = n .answer-number .ensures (t .place) i; place = t .place; missing = c .answer-missing .ensures (t .place) i; messages = t .messages; rows = t .rows }) ∙ told,
       (
         e .leave .ensures ∙ ap (λ (h : Holding). leftBytes (t .messages) h (lent v)) (k .with .ensures) ∙ left (lent v) (x .bytes .now) (x .end) (x .rows .now) (halt v) (said v .0) (small v),
         said v .1,
@@ -71,4 +72,4 @@ returns c =
 pub hundurzek-walk-spec : {M : Type 1} → statement M
 hundurzek-walk-spec =
     tie.close
-    (tie.spec (λ c κs. search needs) (λ c κs. search needs) (λ c κs. search needs) (λ c κs. search needs) leave-requires (λ c κs. search needs) (λ c. search needs) (λ c. search needs) returns)
+    (tie.spec (λ c κs. search needs) (λ c κs. search needs) (λ c κs. search needs) (λ c κs. search needs) leave-requires (λ c κs. search needs) (λ c κs. search needs) (λ c. search needs) (λ c. search needs) returns)

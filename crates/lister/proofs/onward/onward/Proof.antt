@@ -55,13 +55,13 @@ message-requires c κs =
     let it = listed a in
     (omega (arith, it .past), omega (arith, it .stands-behind .there, it .stands-behind .limit), it .few, omega (arith, it .few, it .stands-behind .room), s (k a) .pre .1)
 
-add-t23 : tie.Need-add-t23
-add-t23 c =
+add-t24 : tie.Need-add-t24
+add-t24 c =
     let it = listed (c .before .before .before .before .before .before .before) in
     record { fits = omega (arith, it .stands-behind .few, it .stands-behind .there, it .stands-behind .limit) }
 
-add-t24 : tie.Need-add-t24
-add-t24 c =
+add-t25 : tie.Need-add-t25
+add-t25 c =
     let it = listed (c .before .before .before .before .before .before .before .before) in
     record { fits = omega (arith, it .stands-behind .rows, it .stands-behind .few, it .stands-behind .there, it .stands-behind .limit) }
 
@@ -77,20 +77,20 @@ returns c =
     )
 
 -- a stop
-module _ (k : tie.After-read) (number : ℕ) (e : saidAt (s k .args .tally .place) (k .read .result .answer) ≡ stop number (s k .args .tally .place)) where
+module _ (k : tie.After-read) (number missing : ℕ) (e : saidAt (s k .args .tally .place) (k .read .result .answer) ≡ stop number (s k .args .tally .place) missing) where
   stops : StopListed (s k .args .state) (s k .args .bits) (s k .args .tally) (s k .args .line .now) (s k .args .rows .now) (stands k) (k .read .result) (k .read .ensures .0)
-      (after k) (k .read .ensures .1) number e
-  stops = stop-listed _ _ _ _ _ _ _ _ _ _ _ _
+      (after k) (k .read .ensures .1) number missing e
+  stops = stop-listed _ _ _ _ _ _ _ _ _ _ _ _ _
 
   -- as it is answered
   module _ (next : State) (then : next ≡ nextLine (s k .args .state) (k .read .result .holding)) (result : Step) (out : List ℕ)
-      (told : (result ≡ record { state = next; taken = 0; given = length (stopText number (s k .args .tally)) }) × ((out ≡ sets (s k .args .out .now) 0 (stopText number (s k .args .tally))) × (result .given ≤ messageRoom))) where
+      (told : (result ≡ record { state = next; taken = 0; given = length (stopText number missing (s k .args .tally)) }) × ((out ≡ sets (s k .args .out .now) 0 (stopText number missing (s k .args .tally))) × (result .given ≤ messageRoom))) where
     abbrev d : Done
     d = listedAt (s k .args .state) (s k .args .bits) (s k .args .tally) (s k .args .line .now) (s k .args .rows .now)
 
     stop-answered : (result ≡ answered d) × ((after k ≡ d .rows) × ((out ≡ sets (s k .args .out .now) 0 (d .text)) × (result .given ≤ messageRoom)))
     stop-answered =
-        (told .0 ∙ (λ i. record { state = then i; taken = 0; given = length (stopText number (s k .args .tally)) }) ∙ stops .result, (stops .numbers, (told .1 .0 ∙ ap (sets (s k .args .out .now) 0) (stops .text), told .1 .1)))
+        (told .0 ∙ (λ i. record { state = then i; taken = 0; given = length (stopText number missing (s k .args .tally)) }) ∙ stops .result, (stops .numbers, (told .1 .0 ∙ ap (sets (s k .args .out .now) 0) (stops .text), told .1 .1)))
 
 -- the numbers of its line are short
 short : (k : tie.After-read) → (s k .args .tally .place < 2 ^ 31) × (s k .args .tally .messages < 2 ^ 31) × (s k .args .tally .rows < 2 ^ 31) × (messageRoom ≤ length (s k .args .out .now))
@@ -114,7 +114,7 @@ returns-2 c =
     let t = c .before .before in
     let l = t .before .before in
     let k = l .before .before .before .before .before in
-    stop-answered k 0 (ap (saidAt (s k .args .tally .place)) (l .before .enum-told .given .1)) (l .next-line .result) (l .next-line .ensures) (t .stop .result) _ (t .stop .ensures)
+    stop-answered k 0 0 (ap (saidAt (s k .args .tally .place)) (l .before .enum-told .given .1)) (l .next-line .result) (l .next-line .ensures) (t .stop .result) _ (t .stop .ensures)
 
 returns-3 : tie.Need-returns-3
 unfolding saidAt
@@ -125,12 +125,12 @@ returns-3 c =
     let a = l .before .before in
     let k = a .before .before .before .before in
     let place = s k .args .tally .place in
-    stop-answered k (n .number .result) (ap (saidAt place) (a .answer2 .given .1) ∙ ap (λ (m : ℕ). stop m place) (sym (n .number .ensures))) (l .next-line2 .result) (l .next-line2 .ensures)
+    stop-answered k (n .number .result) (a .answer2 .given .0 .1 .0) (ap (saidAt place) (a .answer2 .given .1) ∙ ap (λ (m : ℕ). stop m place (a .answer2 .given .0 .1 .0)) (sym (n .number .ensures))) (l .next-line2 .result) (l .next-line2 .ensures)
     (t .stop2 .result) _ (t .stop2 .ensures)
 
 pub onward-spec : {M : Type 1} → statement M
 onward-spec =
     tie.close
-    (tie.spec (λ c κs. search needs) (λ c. search needs) message-requires add-t23 add-t24 (λ c. search needs) (λ c κs. search needs) stop-requires
+    (tie.spec (λ c κs. search needs) (λ c. search needs) message-requires add-t24 add-t25 (λ c. search needs) (λ c κs. search needs) stop-requires
     (λ c. search needs) (λ c κs. search needs) (λ c κs. search needs) stop-requires-2
     (λ c. search needs) (λ c. search needs) returns (λ c. search needs) (λ c. search needs) returns-2 (λ c. search needs) (λ c. search needs) returns-3)

@@ -1,0 +1,234 @@
+-- How many bits were missing (document 02, Ask 7), of readings and walks: the number says what is missing of the field that is short, and any refusal but 3 has
+-- none; the same stretch with fewer bits more is short at the same place, by that many less.
+-- Assumes nothing.
+use mathlib.Core.Path.{_≡_, refl, sym, ap, _∙_}
+use mathlib.Core.Bool.{Bool, true, false, cond, false≢true}
+use mathlib.Core.List.{List, [], _∷_, _++_}
+use mathlib.Core.Logic.{_⊎_, inl, inr}
+use Prim.Native.Nat.{ℕ, _+_, _-_, _*_, _≤_, _<_}
+use native.Mathlib.Omega.{arith}
+use lib.IntN.{ℤ}
+use lib.ListN.{length, take, drop, length-append}
+use lib.Seq.{drop-append-le, length-take-le}
+use Rattle.bits.specs.BitLists.{bits}
+use Rattle.bits.proofs.BitLists.{length-bits}
+use Rattle.format.specs.declared.Head.{Head}
+use Rattle.format.specs.declared.Refusal.{Refusal}
+use Rattle.format.specs.declared.Refusal.the-variants.{Room, Place, Short, SubType, NoMask, OtherIssue, Network, Value}
+use Rattle.format.specs.Answers.{numberOf}
+use Rattle.format.specs.Assigned.{blank}
+use Rattle.format.specs.Good.{isHolding}
+use Rattle.format.specs.Masks.{Held, Lent, lent, heldIn}
+use Rattle.format.specs.Missing.{Lacks, Reason, LongerBy}
+use Rattle.format.specs.Programs.{Ended, well, badly, run}
+use Rattle.format.specs.Reading.{Outcome, accepted, idle, refused, endedAt, readFrom, bitsFrom, lentTests, readingBy, reading}
+use Rattle.format.specs.Table.{Message, table, message}
+use Rattle.format.specs.Walking.{handedAt, Walk, hand, goOn, walkOn, walk}
+use Rattle.format.specs.Writing as Writing
+use Rattle.format.specs.Writing.{writing}
+use Rattle.format.proofs.CutWalks.{message-bits}
+use Rattle.format.proofs.Missing.{lacks}
+use Rattle.format.proofs.Placed.{Inside, inside, is-placed}
+use Rattle.format.proofs.Reasons.{message-reasoned, ends-so}
+use Rattle.format.proofs.Runs.{run-append}
+use Rattle.format.proofs.Verdicts.{AllHold, all-hold, holds-all, EachElse, judged-why}
+use Rattle.format.proofs.Walks.{walk-step, Law, every-walk, walk-stops, refusal-ends}
+
+-- ---- where a reading is refused
+
+-- by the bits from its start on, what is lent having passed the tests
+pub record ByBits (holding : Lent) (bytes : List ℕ) (end start : ℕ) (rows : List ℤ) (r : Refusal) (missing : ℕ) (left : Lent) : Type 0 where
+  pub tests : AllHold (lentTests (isHolding holding) bytes end start (length rows))
+  pub some : blank (bitsFrom bytes end start) ≡ false
+  pub ran : run (message (heldIn holding)) (bitsFrom bytes end start) ≡ badly r missing
+  pub kept : left ≡ lent (heldIn holding)
+
+-- or by a test of what is lent: not with 3, and none are missing
+abbrev ByTest : Refusal → ℕ → Type 0
+ByTest r missing = ¬ (numberOf r ≡ numberOf Short) × (missing ≡ 0)
+
+-- one of these tests
+by-test : (q : Refusal) → ¬ (numberOf q ≡ 3) → (holding left : Lent) (r : Refusal) (missing : ℕ) → refused q 0 holding ≡ refused r missing left → ByTest r missing
+unfolding numberOf
+by-test q other holding left r missing e =
+    let same : q ≡ r = cc in
+    let none : 0 ≡ missing = cc in
+    ((λ three. other (ap numberOf same ∙ three)), sym none)
+
+-- what the bits say
+from-bits : (held : Held) (start : ℕ) (l : List Bool) (r : Refusal) (missing : ℕ) (left : Lent) → readFrom table held start l ≡ refused r missing left
+    → (blank l ≡ false) × (run (message held) l ≡ badly r missing) × (left ≡ lent held)
+unfolding readFrom endedAt
+from-bits held start l r missing left = go (blank l) (run (message held) l) refl refl
+  where
+    go : (b : Bool) (e : Ended Message) → blank l ≡ b → run (message held) l ≡ e → cond b (idle (lent held)) (endedAt held start e) ≡ refused r missing left
+        → (blank l ≡ false) × (run (message held) l ≡ badly r missing) × (left ≡ lent held)
+    go true e none ran said = absurd (false≢true cc)
+    go false (well m taken) some ran said = absurd (false≢true cc)
+    go false (badly q n) some ran said =
+        let same : q ≡ r = cc in
+        let count : n ≡ missing = cc in
+        let kept : lent held ≡ left = cc in
+        (some, ran ∙ (λ i. badly (same i) (count i)), sym kept)
+
+module _ (holding : Lent) (bytes : List ℕ) (end start : ℕ) (rows : List ℤ) (r : Refusal) (missing : ℕ) (left : Lent)
+    (e : reading holding bytes end start rows ≡ refused r missing left) where
+  pub refused-why : ByBits holding bytes end start rows r missing left ⊎ ByTest r missing
+  unfolding readingBy lentTests EachElse numberOf
+  refused-why =
+      go (judged-why (λ q. refused q 0 holding) (readFrom table (heldIn holding) start (bitsFrom bytes end start)) (refused r missing left)
+      (lentTests (isHolding holding) bytes end start (length rows))
+      (by-test Room (λ z. omega arith) holding left r missing, (by-test Place (λ z. omega arith) holding left r missing, (by-test Value (λ z. omega arith) holding left r missing, tt))) e)
+    where
+      go : ((readFrom table (heldIn holding) start (bitsFrom bytes end start) ≡ refused r missing left) × AllHold (lentTests (isHolding holding) bytes end start (length rows))) ⊎ ByTest r missing
+          → ByBits holding bytes end start rows r missing left ⊎ ByTest r missing
+      go (inl it) =
+          let said = from-bits (heldIn holding) start (bitsFrom bytes end start) r missing left (it .0) in
+          inl (record { tests = it .1; some = said .0; ran = said .1; kept = said .2 })
+      go (inr it) = inr it
+
+  -- 3 and some bits, or another number and none
+  pub reading-reason : Reason r missing
+  reading-reason = go refused-why
+    where
+      go : ByBits holding bytes end start rows r missing left ⊎ ByTest r missing → Reason r missing
+      go (inl it) = ends-so (bitsFrom bytes end start) r missing (message-reasoned (heldIn holding)) (it .ran)
+      go (inr it) = inr it
+
+-- ---- a reading that is short
+
+module _ (holding : Lent) (bytes : List ℕ) (end start : ℕ) (rows : List ℤ) (missing : ℕ) (left : Lent)
+    (e : reading holding bytes end start rows ≡ refused Short missing left) where
+  by-bits : ByBits holding bytes end start rows Short missing left
+  by-bits = go (refused-why holding bytes end start rows Short missing left e)
+    where
+      go : ByBits holding bytes end start rows Short missing left ⊎ ByTest Short missing → ByBits holding bytes end start rows Short missing left
+      go (inl it) = it
+      go (inr it) = absurd (it .0 refl)
+
+  some-missing : 0 < missing
+  some-missing = go (reading-reason holding bytes end start rows Short missing left e)
+    where
+      go : Reason Short missing → 0 < missing
+      go (inl it) = it .1
+      go (inr it) = absurd (it .0 refl)
+
+  -- so many bits are missing of the message that begins there
+  pub reading-short : Lacks (message (heldIn holding)) (bitsFrom bytes end start) missing
+  reading-short = lacks (message (heldIn holding)) (bitsFrom bytes end start) missing (by-bits .ran) some-missing
+
+-- so it is where a walk stops, by what is held then
+pub walk-short : (holding : Lent) (bytes : List ℕ) (end : ℕ) (rows : List ℤ) (missing : ℕ) (left : Lent) → walk holding bytes end rows .stop ≡ refused Short missing left
+    → Lacks (message (heldIn left)) (bitsFrom bytes end (walk holding bytes end rows .place)) missing
+unfolding heldIn
+walk-short holding bytes end rows missing left e =
+    let w = walk holding bytes end rows in
+    let it = walk-stops table holding bytes end 0 rows in
+    let said : reading (it .0) bytes end (w .place) (w .rows) ≡ refused Short missing left = sym (it .1) ∙ e in
+    let kept = by-bits (it .0) bytes end (w .place) (w .rows) missing left said .kept in
+    rw kept (reading-short (it .0) bytes end (w .place) (w .rows) missing left said)
+
+pub walk-reason : (holding : Lent) (bytes : List ℕ) (end : ℕ) (rows : List ℤ) (r : Refusal) (missing : ℕ) (left : Lent) → walk holding bytes end rows .stop ≡ refused r missing left
+    → Reason r missing
+walk-reason holding bytes end rows r missing left e =
+    let w = walk holding bytes end rows in
+    let it = walk-stops table holding bytes end 0 rows in
+    reading-reason (it .0) bytes end (w .place) (w .rows) r missing left (sym (it .1) ∙ e)
+
+-- ---- more bits behind the stretch's end
+
+more-blank : (l more : List Bool) → blank l ≡ false → blank (l ++ more) ≡ false
+unfolding blank
+more-blank [] more some = absurd (false≢true (sym some))
+more-blank (true ∷ l) more some = refl
+more-blank (false ∷ l) more some = more-blank l more some
+
+module _ (more : List Bool) (bytes : List ℕ) (end : ℕ) (others : List ℕ) (far : ℕ) (longer : LongerBy more bytes end others far) where
+  module _ (start : ℕ) (f : Inside bytes end start) where
+    long : length (take end (bits bytes)) ≡ end
+    long = length-take-le end (bits bytes) (rw (length-bits bytes) (f .lent))
+
+    there : Inside others far start
+    there =
+        let g = inside others far 0 (longer .is) in
+        let far-long = length-take-le far (bits others) (rw (length-bits others) (g .lent)) in
+        let sum = ap length (longer .bits) ∙ length-append (take end (bits bytes)) more in
+        record { limit = g .limit; lent = g .lent; there = omega (arith, f .there, far-long, sum, long) }
+
+    bits-longer : bitsFrom others far start ≡ bitsFrom bytes end start ++ more
+    unfolding bitsFrom
+    bits-longer = ap (drop start) (longer .bits) ∙ drop-append-le start (take end (bits bytes)) more (omega (arith, long, f .there))
+
+  -- a reading that is short, with fewer bits more
+  pub longer-reading : (holding : Lent) (start : ℕ) (rows : List ℤ) (missing : ℕ) (left : Lent) → reading holding bytes end start rows ≡ refused Short missing left
+      → length more < missing → reading holding others far start rows ≡ refused Short (missing - length more) left
+  unfolding readingBy lentTests AllHold readFrom endedAt
+  longer-reading holding start rows missing left e less =
+      let it = by-bits holding bytes end start rows missing left e in
+      let f = inside bytes end start (it .tests .1 .0) in
+      let short = reading-short holding bytes end start rows missing left e .fewer more less in
+      holds-all (λ r. refused r 0 holding) _ (lentTests (isHolding holding) others far start (length rows)) (it .tests .0, (is-placed others far start (there start f), it .tests .1 .1))
+      ∙ rw (bits-longer start f, more-blank (bitsFrom bytes end start) more (it .some), short) (ap (refused Short (missing - length more)) (sym (it .kept)))
+
+  -- and one that accepts, with any
+  pub longer-accepts : (holding : Lent) (start : ℕ) (rows : List ℤ) (m : Message) (taken : ℕ) → reading holding bytes end start rows ≡ accepted m (start + taken)
+      → run (message (heldIn holding)) (bitsFrom bytes end start) ≡ well m taken → reading holding others far start rows ≡ accepted m (start + taken)
+  unfolding readingBy lentTests AllHold readFrom endedAt
+  longer-accepts holding start rows m taken e ran =
+      let all = all-hold (λ r. refused r 0 holding) _ (accepted m (start + taken)) _ (λ r f. false≢true cc) e .1 in
+      let f = inside bytes end start (all .1 .0) in
+      let again = run-append (message (heldIn holding)) (bitsFrom bytes end start) more m taken ran in
+      holds-all (λ r. refused r 0 holding) _ (lentTests (isHolding holding) others far start (length rows)) (all .0, (is-placed others far start (there start f), all .1 .1))
+      ∙ rw (bits-longer start f, message-bits table (heldIn holding) (bitsFrom bytes end start ++ more) m taken again, again)
+
+  -- so a walk that is short, with fewer bits more, hands out the same, and stops where it did, by that many less
+  abbrev Longer : Lent → ℕ → List ℤ → Walk → Type 0
+  Longer holding place rows w =
+      (missing : ℕ) (left : Lent) → w .stop ≡ refused Short missing left → length more < missing
+      → walkOn table holding others far place rows ≡ record { handed = w .handed; stop = refused Short (missing - length more) left; place = w .place; rows = w .rows }
+
+  all-longer : Law table bytes end Longer
+  unfolding hand goOn
+  all-longer = record {
+    stops = λ holding place rows o e stopped missing left said less.
+        refusal-ends table holding others far place rows Short (missing - length more) left (longer-reading holding place rows missing left (e ∙ said) less);
+    goes = λ holding place rows m taken w e ran it missing left said less.
+        walk-step table holding others far place rows ∙ rw (longer-accepts holding place rows m taken e ran) (ap (hand (handedAt place m (place + taken))) (it missing left said less));
+  }
+
+  pub longer-walk : (holding : Lent) (rows : List ℤ) (missing : ℕ) (left : Lent) → walk holding bytes end rows .stop ≡ refused Short missing left → length more < missing
+      → walk holding others far rows
+      ≡ record { handed = walk holding bytes end rows .handed; stop = refused Short (missing - length more) left; place = walk holding bytes end rows .place; rows = walk holding bytes end rows .rows }
+  longer-walk holding rows = every-walk table bytes end Longer all-longer holding 0 rows
+
+-- ---- no writing is
+
+-- one of its tests
+not-short : (q : Refusal) → ¬ (numberOf q ≡ 3) → (r : Refusal) → Writing.refused q ≡ Writing.refused r → ¬ (numberOf r ≡ numberOf Short)
+unfolding numberOf
+not-short q other r e three =
+    let same : q ≡ r = cc in
+    other (ap numberOf same ∙ three)
+
+-- a refused writing says another number than 3
+pub writing-not-short : (holding : Lent) (h : Head) (rows : List ℤ) (count : ℕ) (bytes : List ℕ) (start : ℕ) (r : Refusal)
+    → writing holding h rows count bytes start ≡ Writing.refused r → ¬ (numberOf r ≡ numberOf Short)
+unfolding writing EachElse numberOf
+writing-not-short holding h rows count bytes start r e =
+    go (judged-why Writing.refused _ (Writing.refused r) _ (
+      not-short Place (λ z. omega arith) r,
+      (
+        not-short Value (λ z. omega arith) r,
+        (
+          not-short SubType (λ z. omega arith) r,
+          (
+            not-short NoMask (λ z. omega arith) r,
+            (not-short OtherIssue (λ z. omega arith) r, (not-short Network (λ z. omega arith) r, (not-short Value (λ z. omega arith) r, (not-short Room (λ z. omega arith) r, tt)))),
+          ),
+        ),
+      ),
+    ) e)
+  where
+    go : {l : List Bool} {A : Type 0} → ((Writing.wrote l ≡ Writing.refused r) × A) ⊎ ¬ (numberOf r ≡ numberOf Short) → ¬ (numberOf r ≡ numberOf Short)
+    go (inl it) = let never = it .0 in absurd (false≢true cc)
+    go (inr it) = it
