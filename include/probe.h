@@ -1,7 +1,5 @@
 /* Crate probe for C: fields of a byte string, most significant bit first, places counted from 0. All passes as
-   docs/HOST.md has it, but for the results: x86-64, which is all that the comparison needs, returns a struct of at
-   most 16 bytes in registers, and there is no pointer to spell out. Each function takes every number there is;
-   crates/probe/src/lib.rt states what it answers. */
+   docs/HOST.md has it. Each function takes every number there is; crates/probe/src/lib.rt states what it answers. */
 #ifndef HUNDURZEK_PROBE_H
 #define HUNDURZEK_PROBE_H
 
@@ -10,15 +8,6 @@
 
 /* The number in w bits at a place, bits past the last byte being 0; UINT64_MAX where w is over 56. */
 uint64_t hundurzek_read_field(const uint8_t *bytes, uint64_t count, uint64_t w, uint64_t place);
-
-typedef struct {
-  uint64_t value;
-  uint64_t missing;
-} hundurzek_probed;
-
-/* The same where the bits end at end: missing is how many of the w lie past it, and value counts where
-   that is 0. Both are UINT64_MAX where w is over 56. */
-hundurzek_probed hundurzek_take_field(const uint8_t *bytes, uint64_t count, uint64_t end, uint64_t place, uint64_t w);
 
 /* Sets the w bits after the first skip to a number. False, and nothing changed, where skip is over 7,
    w over 56, the part too short or the number too large. */

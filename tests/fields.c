@@ -81,17 +81,6 @@ static void read_one(void) {
   expect(got == (w > 56 ? UINT64_MAX : field(bytes, count, place, w)), "read_field");
 }
 
-static void take_one(void) {
-  uint8_t bytes[LONGEST];
-  uint64_t count = fill(bytes), w = width(), end = below(8 * count + 1), place = below(end + 1);
-  hundurzek_probed got = hundurzek_take_field(bytes, count, end, place, w);
-  uint64_t missing = place + w > end ? place + w - end : 0;
-  if (w > 56)
-    expect(got.value == UINT64_MAX && got.missing == UINT64_MAX, "take_field, too wide");
-  else
-    expect(got.missing == missing && got.value == (missing ? 0 : field(bytes, count, place, w)), "take_field");
-}
-
 static void write_one(void) {
   uint8_t part[LONGEST], want[LONGEST];
   uint64_t count = fill(part), w = width(), skip = below(9);
@@ -130,7 +119,6 @@ static void unsigned_one(void) {
 int main(void) {
   for (int k = 0; k < CASES; k++) {
     read_one();
-    take_one();
     write_one();
     zero_one();
     signed_one();

@@ -3,7 +3,7 @@ use crate::window;
 ghost use mathlib.Core.Path.{_≡_};
 ghost use Prim.Native.Nat.{_+_, _-_, _*_, _/_, _%_, _^_, _≤_, _<_};
 ghost use Rattle.bits.specs.Places.{field};
-ghost use Rattle.bits.specs.Short.{takenAt, bitsOf, shortBy, widthsOf};
+ghost use Rattle.bits.specs.Short.{bitsOf, shortBy, widthsOf};
 
 // The w bits after the first skip of a window.
 pub fn cut(window: u64, skip: usize, w: usize) -> u64
@@ -43,19 +43,6 @@ pub fn bits_left(end: usize, place: usize) -> usize
 pub enum Taken {
     Whole(u64),
     Short(usize),
-}
-
-// The number in w bits at a place of a string whose bits end at end, or how many of them lie past it.
-pub fn take_field(bytes: &[u8], end: usize, place: usize, w: usize) -> Taken
-    requires { ⌜ w ≤ 56 ⌝ }
-    ensures { λ r. ⌜ r ≡ takenAt (now (bytes .entry)) end place w ⌝ }
-{
-    let left = bits_left(end, place);
-    if w <= left {
-        Taken::Whole(read_field(bytes, place, w))
-    } else {
-        Taken::Short(w - left)
-    }
 }
 
 // The widths of fields that stand one after the other: four at most, the later ones being 0 where there are fewer.

@@ -9,10 +9,6 @@ use lib.Signed.{mag}
 use Rattle.bits.specs.Places.{field}
 use Rattle.bits.specs.BitLists.{setField}
 use Rattle.bits.specs.Signed.{unsigned}
-use Rattle.bits.specs.Short.{takenAt}
-use Rattle.bits.specs.declared.read.Taken.{Taken}
-use Rattle.bits.specs.declared.read.Taken.the-variants.{Whole, Short}
-use Rattle.probe.specs.declared.Probed.{Probed}
 
 -- all ones
 abbrev pub none : ℕ
@@ -20,13 +16,6 @@ none = 2 ^ 64 - 1
 
 abbrev pub readOr : List ℕ → ℕ → ℕ → ℕ
 readOr bs place w = cond (leb w 56) (field bs place w) none
-
-abbrev pub probedOf : Taken → Probed
-probedOf (Whole n) = record { value = n; missing = 0 }
-probedOf (Short m) = record { value = 0; missing = m }
-
-abbrev pub takenOr : List ℕ → ℕ → ℕ → ℕ → Probed
-takenOr bs end place w = cond (leb w 56) (probedOf (takenAt bs end place w)) (record { value = none; missing = none })
 
 abbrev pub writable : ℕ → ℕ → ℕ → ℕ → Bool
 writable count skip w n = ltb skip 8 && (leb w 56 && (leb (skip + w) (8 * count) && ltb n (2 ^ w)))

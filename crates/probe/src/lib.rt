@@ -1,12 +1,11 @@
 // Crate bits for C: each function takes every number there is, and refuses what crate bits asks its
 // callers to have tested. tests/fields.c compares these with a bit-by-bit program, bench/ counts them.
-use bits::read::Taken;
 ghost use mathlib.Core.Path.{_≡_};
 ghost use Prim.Native.Nat.{_-_};
 ghost use lib.Dec.{eqb};
 ghost use lib.ListN.{length};
 ghost use Rattle.bits.specs.Places.{field};
-ghost use Rattle.probe.specs.Probes.{readOr, takenOr, writable, writtenOr, bitsOr};
+ghost use Rattle.probe.specs.Probes.{readOr, writable, writtenOr, bitsOr};
 
 // The number in w bits at a place; all ones, which no field of 56 bits or fewer is, for a wider one.
 // The width comes before the place, which leaves x86-64 fewer moves.
@@ -18,31 +17,6 @@ pub extern "C" fn hundurzek_read_field(bytes: &[u8], w: usize, place: usize) -> 
         return bits::read::read_field(bytes, place, w);
     }
     0xffff_ffff_ffff_ffff
-}
-
-// A field of a string whose bits end at end, and how many of its bits are missing: the number counts
-// where none is. A wider field than 56 bits has all ones for both.
-#[repr(C)]
-pub struct Probed {
-    pub value: u64,
-    pub missing: usize,
-}
-
-#[no_mangle]
-pub extern "C" fn hundurzek_take_field(bytes: &[u8], end: usize, place: usize, w: usize) -> Probed
-    ensures { λ r. ⌜ r ≡ takenOr (now (bytes .entry)) end place w ⌝ }
-{
-    if 56 < w {
-        return Probed {
-            value: 0xffff_ffff_ffff_ffff,
-            missing: 0xffff_ffff_ffff_ffff,
-        };
-    }
-    let taken = bits::read::take_field(bytes, end, place, w);
-    match taken {
-        Taken::Whole(value) => Probed { value, missing: 0 },
-        Taken::Short(missing) => Probed { value: 0, missing },
-    }
 }
 
 // Whether a field and its number can be written into a part of so many bytes.

@@ -135,10 +135,6 @@ hundurzek-line-determined = says _ _ _ λ κs args x v p. (p .0, λ i. (tt, (p .
 pub read-field-determined : Determined probe.hundurzek_read_field.Kinds.ps probe.hundurzek_read_field.Kinds.r probe.hundurzek_read_field.Reads.Learnt
 read-field-determined = says _ _ _ λ κs args x v p. (p, refl)
 
--- the number in a field that the bits' end may cut, and how many bits are missing
-pub take-field-determined : Determined probe.hundurzek_take_field.Kinds.ps probe.hundurzek_take_field.Kinds.r probe.hundurzek_take_field.Reads.Learnt
-take-field-determined = says _ _ _ λ κs args x v p. (p, refl)
-
 -- whether a field was written, and the lent part
 pub write-field-determined : Determined probe.hundurzek_write_field.Kinds.ps probe.hundurzek_write_field.Kinds.r probe.hundurzek_write_field.Reads.Learnt
 write-field-determined = says _ _ _ λ κs args x v p. (p .0, λ i. (p .1 i, (tt, (tt, (tt, tt)))))
