@@ -22,9 +22,15 @@ struct cursor {
   const uint8_t *bytes;
   int place;
   int end;
+  int missing; /* bits of the field, or of the body, that is short (document 02, Ask 7); 0 where none is */
 };
 
-static int has(const struct cursor *c, int width) { return width <= c->end - c->place; }
+static int has(struct cursor *c, int width) {
+  int missing = c->place + width - c->end;
+  if (missing <= 0) return 1;
+  c->missing = missing;
+  return 0;
+}
 
 static int32_t unsigned_field(struct cursor *c, int width) {
   int32_t value = (int32_t)getbitu(c->bytes, c->place, width);
@@ -100,13 +106,14 @@ static int read_signals(struct cursor *c, bitwise_system *system) {
   return MESSAGE;
 }
 
-/* The cells of the satellites from first on. "With flag 0 every signal counts for every satellite." */
+/* The cells of the satellites from first on, in a cell mask, which is one field. "With flag 0 every signal counts for
+   every satellite." */
 static int read_cells(struct cursor *c, bitwise_holding *mask, int first, int signals) {
-  int32_t flag, cells;
+  int32_t flag, cells = (1 << signals) - 1;
   if (!take(c, 1, &flag)) return SHORT;
+  if (flag && !has(c, signals * (mask->satellites - first))) return SHORT;
   for (int k = first; k < mask->satellites; k++) {
-    cells = (1 << signals) - 1;
-    if (flag && !take(c, signals, &cells)) return SHORT;
+    if (flag) cells = unsigned_field(c, signals);
     mask->satellite[k].cells = (uint32_t)cells;
     for (int j = 0; j < signals; j++) mask->cells += cells >> j & 1;
   }
@@ -297,7 +304,7 @@ static int read_next(struct cursor *c, bitwise_holding *holding, hundurzek_head 
 
 hundurzek_reading *bitwise_read(hundurzek_reading *out, uint8_t *holding, uint64_t holding_count, const uint8_t *bytes,
                                 uint64_t count, uint64_t end, uint64_t start, int32_t *rows, uint64_t row_count) {
-  struct cursor c = {bytes, (int)start, (int)end};
+  struct cursor c = {bytes, (int)start, (int)end, 0};
   struct rows table = {rows, 0};
   *out = (hundurzek_reading){.place = start, .head = nothing};
   int answer = test_lent(holding_count, count, end, start, row_count);
@@ -309,6 +316,7 @@ hundurzek_reading *bitwise_read(hundurzek_reading *out, uint8_t *holding, uint64
     out->raw_offset = start / 8;
     out->raw_count = (out->place + 7) / 8 - start / 8;
   } else {
+    out->missing = (uint64_t)c.missing;
     out->head = nothing; /* the fields before the one that was refused are in it */
   }
   return out;
@@ -316,7 +324,7 @@ hundurzek_reading *bitwise_read(hundurzek_reading *out, uint8_t *holding, uint64
 
 hundurzek_walked *bitwise_walk(hundurzek_walked *out, uint8_t *holding, uint64_t holding_count, const uint8_t *bytes,
                                uint64_t count, uint64_t end, int32_t *rows, uint64_t row_count) {
-  struct cursor c = {bytes, 0, (int)end};
+  struct cursor c = {bytes, 0, (int)end, 0};
   hundurzek_walked walked = {0};
   hundurzek_head head; /* not handed out */
   int answer = test_lent(holding_count, count, end, 0, row_count);
@@ -328,6 +336,7 @@ hundurzek_walked *bitwise_walk(hundurzek_walked *out, uint8_t *holding, uint64_t
   }
   walked.answer = (uint64_t)answer;
   walked.place = (uint64_t)c.place;
+  walked.missing = (uint64_t)c.missing;
   *out = walked;
   return out;
 }

@@ -132,6 +132,7 @@ static hundurzek_walked check_messages(const stretch *s) {
     tell(&reading, sizeof reading, by_message.rows);
     made.answer = reading.answer;
     made.place = reading.place;
+    made.missing = reading.missing;
     if (!message) return made;
     made.messages++;
     made.rows += reading.rows;

@@ -66,32 +66,32 @@ static void list_cells(tuned_mask *mask, const mask_source *m, uint32_t count, u
 }
 
 /* After the signal mask: the cells of the count last satellites. */
-ALWAYS uint64_t read_cells(mask_source *m, tuned_mask *mask, uint32_t count, uint32_t signals, bool flag) {
+ALWAYS uint64_t read_cells(stretch *s, mask_source *m, tuned_mask *mask, uint32_t count, uint32_t signals, bool flag) {
   uint32_t bits = count * ones(signals), cells = bits;
   if (flag) {
-    if (m->end - m->place < bits) return SHORT;
+    if (m->end - m->place < bits) return stop_short(s, bits, m->end - m->place);
     cells = count_cells(m, bits);
   }
   mask->cells += cells;
-  if (mask->cells > TUNED_CELLS) return SIZE;
+  if (mask->cells > TUNED_CELLS) return stop(s, SIZE);
   if (cells > 0) list_cells(mask, m, count, signals, flag);
   if (flag) m->place += bits;
   return MESSAGE;
 }
 
-ALWAYS uint64_t read_system(mask_source *m, tuned_mask *mask) {
+ALWAYS uint64_t read_system(stretch *s, mask_source *m, tuned_mask *mask) {
   uint64_t left = m->end - m->place, bits = window(m->bytes, m->place), satellites = bits << 4 >> 24;
   uint32_t id = (uint32_t)(bits >> 60), count = ones(satellites);
-  if (left < 4) return SHORT;
-  if (id >= SYSTEMS || m->named >> id & 1) return SYSTEM;
-  if (left < 44) return SHORT;
-  if (satellites & reserved_satellites[id]) return RESERVED;
-  if (mask->satellites + count > TUNED_SATELLITES) return SIZE;
-  if (left < 60) return SHORT;
+  if (left < 4) return stop_short(s, 4, left);
+  if (id >= SYSTEMS || m->named >> id & 1) return stop(s, SYSTEM);
+  if (left < 44) return stop_short(s, 44, left);
+  if (satellites & reserved_satellites[id]) return stop(s, RESERVED);
+  if (mask->satellites + count > TUNED_SATELLITES) return stop(s, SIZE);
+  if (left < 60) return stop_short(s, 60, left);
   bits = window(m->bytes, m->place + 44);
   uint32_t signals = (uint32_t)(bits >> 48);
-  if (signals & reserved_signals[id]) return RESERVED;
-  if (left < 61) return SHORT;
+  if (signals & reserved_signals[id]) return stop(s, RESERVED);
+  if (left < 61) return stop_short(s, 61, left);
   m->named |= 1u << id;
   m->place += 61;
   mask->satellites += count;
@@ -101,7 +101,7 @@ ALWAYS uint64_t read_system(mask_source *m, tuned_mask *mask) {
     mask->after_galileo = 0;
   }
   list_satellites(mask->satellite + TUNED_SATELLITES - mask->satellites, id, satellites);
-  return read_cells(m, mask, count, signals, bits >> 47 & 1);
+  return read_cells(s, m, mask, count, signals, bits >> 47 & 1);
 }
 
 /* Five systems, and fifteen signals of 64 satellites in cell masks. */
@@ -110,16 +110,14 @@ enum { MASK_MOST = MASK_HEAD + SYSTEMS * 61 + 15 * TUNED_SATELLITES };
 /* "Each good mask message is adopted as the new holding and replaces the old one whole." */
 __attribute__((noinline)) static uint64_t read_mask(stretch *s, uint64_t place, uint64_t first) {
   uint64_t left = s->end - place;
-  if (left < MASK_HEAD) return stop(s, SHORT);
+  if (left < MASK_HEAD) return stop_in_head(s, mask_ends, left);
   source from = source_of(s, place, left < MASK_MOST ? left : MASK_MOST);
   mask_source m = {from.bytes, from.place + MASK_HEAD, from.place + left, 0};
   tuned_mask *mask = &s->holding->masks[s->holding->current ^ 1];
   mask->gate = HELD | (uint32_t)cut(first, 41, 4);
   mask->satellites = mask->cells = mask->galileo = mask->after_galileo = 0;
-  for (int32_t systems = cut(first, 45, 4); systems > 0; systems--) {
-    uint64_t answer = read_system(&m, mask);
-    if (answer != MESSAGE) return stop(s, answer);
-  }
+  for (int32_t systems = cut(first, 45, 4); systems > 0; systems--)
+    if (read_system(s, &m, mask) == STOPPED) return STOPPED;
   mask->orbit_bits = ORBIT * mask->satellites + (LONG_ORBIT - ORBIT) * mask->galileo;
   s->holding->current ^= 1;
   s->held = mask;
@@ -132,7 +130,7 @@ typedef void body(const tuned_mask *m, source b, int32_t *rows);
 
 ALWAYS uint64_t read_body(stretch *s, uint64_t place, uint64_t bits, body *put) {
   place += HEAD;
-  if (s->end - place < bits) return stop(s, SHORT);
+  if (s->end - place < bits) return stop_in_body(s, bits, s->end - place);
   put(s->held, source_of(s, place, bits), s->rows);
   return place + bits;
 }
@@ -152,13 +150,13 @@ ALWAYS source past_of(stretch *s, uint64_t place, uint64_t bits) {
 ALWAYS uint64_t read_network(stretch *s, uint64_t place, int parts, uint64_t *rows) {
   const tuned_mask *m = s->held;
   place += NETWORK_END;
-  if (s->end - place < m->satellites) return stop(s, SHORT);
+  if (s->end - place < m->satellites) return stop_in_body(s, m->satellites, s->end - place);
   uint64_t selected = selection(source_of(s, place, m->satellites), m->satellites);
   place += m->satellites;
   *rows = ones(selected);
   uint64_t bits = *rows * satellite_bits(parts, IODE);
   if (parts & ORBITS) bits += (LONG_IODE - IODE) * ones(selected & galileo_bits(m));
-  if (s->end - place < bits) return stop(s, SHORT);
+  if (s->end - place < bits) return stop_in_body(s, bits, s->end - place);
   put_network(m, selected, past_of(s, place, bits), s->rows + HUNDURZEK_ROW * *rows, parts);
   return place + bits;
 }
@@ -166,17 +164,17 @@ ALWAYS uint64_t read_network(stretch *s, uint64_t place, int parts, uint64_t *ro
 ALWAYS uint64_t read_combined(stretch *s, uint64_t place, uint64_t first, hundurzek_head *head, uint64_t *rows) {
   const tuned_mask *m = s->held;
   uint64_t left = s->end - place;
-  if (left < FLAGS) return stop(s, SHORT);
+  if (left < FLAGS) return stop_in_body(s, left + 1, left); /* of the next flag its one bit */
   int parts = cut(first, 37, 2);
   head->a = parts >> 1;
   head->b = parts & 1;
   if (cut(first, 39, 1)) {
-    if (left < NETWORK_END) return stop(s, SHORT);
+    if (left < NETWORK_END) return stop_in_body(s, NETWORK_END, left);
     head->c = cut(first, 40, 5);
     return head->c == 0 ? stop(s, NETWORK) : read_network(s, place, parts, rows);
   }
   uint64_t bits = (parts & CLOCKS ? CLOCK * m->satellites : 0) + (parts & ORBITS ? m->orbit_bits : 0);
-  if (left - FLAGS < bits) return stop(s, SHORT);
+  if (left - FLAGS < bits) return stop_in_body(s, bits, left - FLAGS);
   *rows = m->satellites;
   put_combined(m, past_of(s, place + FLAGS, bits), s->rows, parts);
   return place + FLAGS + bits;
@@ -211,7 +209,7 @@ ALWAYS uint64_t read_service(stretch *s, uint64_t place, uint64_t first, hundurz
   *rows = (uint64_t)size + 1;
   uint64_t bits = SERVICE * *rows;
   place += SERVICE_HEAD;
-  if (s->end - place < bits) return stop(s, SHORT);
+  if (s->end - place < bits) return stop_in_body(s, bits, s->end - place);
   source b = source_of(s, place, bits);
   int32_t *row = s->rows;
   for (int32_t k = 0; k <= size; k++, b.place += SERVICE, row += HUNDURZEK_ROW)
@@ -234,18 +232,24 @@ static bool all_zero(const uint8_t *bytes, uint64_t place, uint64_t end) {
 }
 
 /* Where there is no opening of a message, or not 37 bits: the shortest message has these. */
-static uint64_t refusal(const stretch *s, uint64_t place, uint64_t first) {
-  uint64_t left = s->end - place;
-  static const uint32_t subtypes = 1u << 1 | 1u << 2 | 1u << 3 | 1u << 4 | 1u << 5 | 1u << 10 | 1u << 11;
-  if (all_zero(s->bytes, place, s->end)) return IDLE;
-  if (left < 12) return SHORT;
-  if (first >> 52 != 4073) return NUMBER;
-  if (left < 16) return SHORT;
-  return subtypes >> cut(first, 12, 4) & 1 ? SHORT : SUBTYPE;
-}
-
 __attribute__((noinline)) static uint64_t refuse(stretch *s, uint64_t place, uint64_t first) {
-  return stop(s, refusal(s, place, first));
+  uint64_t left = s->end - place;
+  if (all_zero(s->bytes, place, s->end)) return stop(s, IDLE);
+  if (left < 12) return stop_short(s, 12, left);
+  if (first >> 52 != 4073) return stop(s, NUMBER);
+  if (left < 16) return stop_short(s, 16, left);
+  switch (cut(first, 12, 4)) {
+    case 1: return stop_in_head(s, mask_ends, left);
+    case 2:
+    case 3:
+    case 4:
+    case 5:
+    case 11: return stop_in_head(s, head_ends, left);
+    case 10:
+      if (left < SERVICE_HEAD) return stop_in_head(s, service_ends, left);
+      return stop_short(s, SERVICE_HEAD + SERVICE * (1 + (uint64_t)cut(first, 20, 2)), left);
+    default: return stop(s, SUBTYPE);
+  }
 }
 
 ALWAYS uint64_t read_adopting(stretch *s, uint64_t place, uint64_t first, hundurzek_head *head) {
@@ -321,11 +325,12 @@ hundurzek_reading *tuned_read(hundurzek_reading *out, uint8_t *holding, uint64_t
     place = read_next(&s, start, &out->head, &made);
   }
   if (place == STOPPED) {
-    *out = (hundurzek_reading){.answer = s.answer, .place = start, .head = nothing};
+    *out = (hundurzek_reading){.answer = s.answer, .place = start, .missing = missing(&s), .head = nothing};
     return out;
   }
   out->answer = MESSAGE;
   out->place = place;
+  out->missing = 0;
   out->rows = made;
   out->raw_offset = start / 8;
   out->raw_count = (place + 7) / 8 - start / 8;
@@ -347,6 +352,6 @@ hundurzek_walked *tuned_walk(hundurzek_walked *out, uint8_t *holding, uint64_t h
       all += made;
     }
   }
-  *out = (hundurzek_walked){s.answer, place, messages, all};
+  *out = (hundurzek_walked){s.answer, place, missing(&s), messages, all};
   return out;
 }

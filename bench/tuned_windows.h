@@ -20,6 +20,12 @@ enum {
   ORBIT = 49, LONG_ORBIT = 51, CLOCK = 15, CODE = 11, PHASE = 15, DISCONTINUITY = 2, SERVICE = 40
 };
 
+/* Where the fields of a head end, a bit for each: sub type 1's, those of 2, 3, 4, 5 and 11, sub type 10's. */
+#define END(place) (UINT64_C(1) << (place))
+static const uint64_t mask_ends = END(36) | END(40) | END(41) | END(45) | END(MASK_HEAD);
+static const uint64_t head_ends = END(28) | END(32) | END(33) | END(HEAD);
+static const uint64_t service_ends = END(17) | END(20) | END(SERVICE_HEAD);
+
 /* "Held mask and assigned places": places without assignment, the first place highest; the longest stretch. */
 enum { GALILEO = 2, SYSTEMS = 5, LONGEST = 50850, HELD = 16 };
 static const uint64_t reserved_satellites[SYSTEMS] = {0, 0xFFFF, 0x7, 0, 0x3FFFFFFF};
@@ -73,7 +79,8 @@ typedef struct {
   int32_t *rows;
   tuned_holding *holding;
   const tuned_mask *held; /* the holding's current mask */
-  uint64_t answer;        /* where no message was read: why */
+  uint64_t answer;        /* where no message was read: why, */
+  uint64_t missing;       /* and where that is SHORT, how many bits of a field or a body lie past the end */
   uint8_t copy[COPIED + WINDOW];
 } stretch;
 
@@ -84,6 +91,24 @@ ALWAYS uint64_t stop(stretch *s, uint64_t answer) {
   s->answer = answer;
   return STOPPED;
 }
+
+/* Document 02, Ask 7: "the needed bits less those left". */
+ALWAYS uint64_t stop_short(stretch *s, uint64_t needed, uint64_t left) {
+  s->missing = needed - left;
+  return stop(s, SHORT);
+}
+
+/* Of what comes after a head, apart: inlined, it takes an instruction of each message that is not short. */
+__attribute__((noinline)) static uint64_t stop_in_body(stretch *s, uint64_t needed, uint64_t left) {
+  return stop_short(s, needed, left);
+}
+
+/* Of a head the first field is short that ends past what is left. */
+ALWAYS uint64_t stop_in_head(stretch *s, uint64_t ends, uint64_t left) {
+  return stop_short(s, left + 1 + (uint64_t)__builtin_ctzll(ends >> (left + 1)), left);
+}
+
+ALWAYS uint64_t missing(const stretch *s) { return s->answer == SHORT ? s->missing : 0; }
 
 typedef struct {
   const uint8_t *bytes;

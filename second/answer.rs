@@ -23,4 +23,41 @@ pub const STOPS: usize = VALUE as usize + 1;
 pub struct Stop {
     pub number: u8,
     pub place: usize,
+    /// Where the number is 3, how many bits were missing: "the needed bits less
+    /// those left, always 1 or more" (document 02, Ask 7). Else 0.
+    pub missing: usize,
+}
+
+impl Stop {
+    /// A stop with any number but 3: nothing was missing.
+    pub const fn plain(number: u8, place: usize) -> Self {
+        Stop { number, place, missing: 0 }
+    }
+}
+
+/// Why a reading stops, before its place is said beside it: bits are missing
+/// with 3, and with 3 alone.
+#[derive(Clone, Copy, Debug, PartialEq, Eq)]
+pub enum Reason {
+    /// Any number but 3.
+    Plain(u8),
+    /// 3, and how many bits were missing.
+    Short(usize),
+}
+
+impl Reason {
+    pub fn at(self, place: usize) -> Stop {
+        match self {
+            Reason::Plain(number) => Stop::plain(number, place),
+            Reason::Short(missing) => Stop { number: SHORT, place, missing },
+        }
+    }
+}
+
+/// What reader and writer share never runs past an end, and so answers with a
+/// number alone.
+impl From<u8> for Reason {
+    fn from(number: u8) -> Self {
+        Reason::Plain(number)
+    }
 }

@@ -1,7 +1,7 @@
 //! Bit access: bytes hold bits most significant first, and places count bits
 //! from 0 (document 01, "What is built").
 
-use super::answer::SHORT;
+use super::answer::Reason;
 
 pub fn bit(bytes: &[u8], place: usize) -> bool {
     bytes[place / 8] >> (7 - place % 8) & 1 == 1
@@ -49,7 +49,8 @@ pub fn push(bits: &mut Vec<bool>, value: u64, width: usize) {
 }
 
 /// Fields taken one after another from a part of a stretch; a field that runs
-/// past the end is refused with 3 (document 01, "Reader's order").
+/// past the end is refused with 3 (document 01, "Reader's order"), and "the field
+/// reading itself" says how many bits were missing (document 02, Ask 7).
 pub struct Fields<'a> {
     bytes: &'a [u8],
     place: usize,
@@ -66,16 +67,17 @@ impl<'a> Fields<'a> {
     }
 
     /// One field of any width, bit by bit; a field of no bits is never short.
-    pub fn flags(&mut self, width: usize) -> Result<Vec<bool>, u8> {
-        if width > self.end - self.place {
-            return Err(SHORT);
+    pub fn flags(&mut self, width: usize) -> Result<Vec<bool>, Reason> {
+        let left = self.end - self.place;
+        if width > left {
+            return Err(Reason::Short(width - left));
         }
         let first = self.place;
         self.place += width;
         Ok((first..self.place).map(|place| bit(self.bytes, place)).collect())
     }
 
-    pub fn unsigned(&mut self, width: usize) -> Result<u64, u8> {
+    pub fn unsigned(&mut self, width: usize) -> Result<u64, Reason> {
         Ok(number(&self.flags(width)?))
     }
 }

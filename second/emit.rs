@@ -32,6 +32,8 @@
 //!     u8      answer: 0 to 12, or 255 for a message; 64 bits wide in C, but a
 //!             byte holds all there are
 //!     u64     place: after the message; else where the reading was made
+//!     u64     missing: with answer 3 how many bits were missing, 1 or more; with
+//!             every other answer 0 (document 02, Ask 7)
 //!     8 x i32 head; eight times -32768 when there is no message
 //!     u32     row count r; 0 when there is no message
 //!     u64     raw part: offset in bytes; 0 when there is no message
@@ -43,6 +45,8 @@
 //! (random stretches), each as one walk: lent, then expected
 //!   u8        stop number, 0 to 12
 //!   u64       stop place
+//!   u64       missing: with stop 3 how many bits were missing, 1 or more; with
+//!             every other stop 0
 //!   u64       messages accepted
 //!   u64       rows in all of them
 //!   bytes     holding after the walk, as many bytes as were lent
@@ -50,15 +54,18 @@
 //!   n x i32   row buffer after the walk: these first, its old numbers after them
 //!
 //! The kinds `save`, `load` and `line` have records of their own (`emit/texts.rs`),
-//! as have `write`, `changes` and `rounds` (`emit/writes.rs`).
+//! as have `write`, `changes` and `rounds` (`emit/writes.rs`); a record of `rounds`
+//! begins with one of `read`, and so has its missing bits too.
 
 pub mod texts;
 pub mod writes;
 
+use std::collections::BTreeSet;
 use std::io::{self, Write};
 
-use super::answer::STOPS;
-use super::generate::{bench, filled, plain, single, stretches, sweeps, Case};
+use super::answer::{Stop, SHORT, STOPS};
+use super::bits::Fields;
+use super::generate::{bench, cuts, filled, plain, single, stretches, sweeps, Case};
 use super::holding::Holding;
 use super::host::{self, Answer, MESSAGE};
 use super::random::Random;
@@ -72,6 +79,26 @@ pub struct Answers {
     pub stops: [usize; STOPS],
     /// Messages, apart from them because their number is far from the others.
     pub accepted: usize,
+    /// Each sub type with each number of missing bits that occurred with it; no
+    /// sub type where the stretch ends before it.
+    pub pairs: BTreeSet<(Option<u64>, usize)>,
+}
+
+impl Answers {
+    /// Counts idle or a refusal of what stands at the place.
+    fn stopped(&mut self, case: &Case, number: u8, place: usize, missing: usize) {
+        self.stops[usize::from(number)] += 1;
+        if number == SHORT {
+            self.pairs.insert((sub_type(case, place), missing));
+        }
+    }
+}
+
+/// The sub type of the message at the place, if it is there whole.
+fn sub_type(case: &Case, place: usize) -> Option<u64> {
+    let mut fields = Fields::new(&case.bytes, place, case.bit_length);
+    fields.unsigned(12).ok()?;
+    fields.unsigned(4).ok()
 }
 
 /// Readings of a record: a single one, or as many as there are until a stop.
@@ -139,17 +166,18 @@ pub fn emit_walk(output: &mut impl Write, seed: u64, count: usize) -> io::Result
     Ok(answers)
 }
 
-/// The bench cases that are single readings, and the sweeps.
-fn fixed_readings() -> Vec<Case> {
+/// The bench cases that are single readings, and the sweeps of these.
+pub fn fixed_readings() -> Vec<Case> {
     let bench = bench::readings();
     let bench = bench.iter().map(|case| plain(case.name, &case.holding, &case.bits));
-    bench.chain(sweeps::cases()).collect()
+    bench.chain(sweeps::cases()).chain(cuts::readings()).collect()
 }
 
-/// The bench cases that are whole stretches.
-fn fixed_stretches() -> Vec<Case> {
+/// The bench cases that are whole stretches, and the sweep of these.
+pub fn fixed_stretches() -> Vec<Case> {
     let bench = bench::stretches();
-    bench.iter().map(|case| plain(case.name, &Holding::Empty, &case.bits)).collect()
+    let bench = bench.iter().map(|case| plain(case.name, &Holding::Empty, &case.bits));
+    bench.chain(cuts::stretches()).collect()
 }
 
 /// Writes the case with its readings, at most so many, and gives the bytes of
@@ -170,7 +198,7 @@ fn put_readings(
         put_reading(&mut readings, &answer, &rows, &holding);
         match answer.number {
             MESSAGE => answers.accepted += 1,
-            stop => answers.stops[usize::from(stop)] += 1,
+            stop => answers.stopped(case, stop, answer.place, answer.missing),
         }
         place = answer.place;
         count += 1;
@@ -194,12 +222,14 @@ fn put_walk(output: &mut impl Write, answers: &mut Answers, case: &Case) -> io::
     let lent = host::decode(&holding);
     let walk = walk(&lent, &case.bytes, case.bit_length, &mut rows, |_, _, _| {});
     host::put(&walk.holding, &mut holding);
-    answers.stops[usize::from(walk.stop.number)] += 1;
+    let Stop { number, place, missing } = walk.stop;
+    answers.stopped(case, number, place, missing);
     answers.accepted += walk.messages;
     let mut record = Vec::new();
     put_lent(&mut record, case);
-    put(&mut record, u64::from(walk.stop.number), 1);
-    put(&mut record, walk.stop.place as u64, 8);
+    put(&mut record, u64::from(number), 1);
+    put(&mut record, place as u64, 8);
+    put(&mut record, missing as u64, 8);
     put(&mut record, walk.messages as u64, 8);
     put(&mut record, walk.rows as u64, 8);
     record.extend(holding);
@@ -249,6 +279,7 @@ fn put_lent(record: &mut Vec<u8>, case: &Case) {
 fn put_reading(record: &mut Vec<u8>, answer: &Answer, rows: &[i32], holding: &[u8]) {
     put(record, u64::from(answer.number), 1);
     put(record, answer.place as u64, 8);
+    put(record, answer.missing as u64, 8);
     put_numbers(record, &answer.head);
     put(record, answer.rows as u64, 4);
     put(record, answer.raw.start as u64, 8);

@@ -8,6 +8,7 @@
 //! - `messages`: whole messages with the head and rows they stand for;
 //! - `holdings`: lent holdings, good, damaged, cut and longer than they need be;
 //! - `sweeps`: what one message and one holding can be damaged in, all of it;
+//! - `cuts`: good messages and a stretch, cut at every length;
 //! - `single`: cases of one reading;
 //! - `stretches`: cases of one stretch, the mask kept from stretch to stretch;
 //! - `strays`: lent bytes that are no holding, kind by kind;
@@ -22,6 +23,7 @@
 
 pub mod bench;
 pub mod changes;
+pub mod cuts;
 pub mod edits;
 pub mod hand;
 pub mod holdings;

@@ -4,6 +4,7 @@
 use std::iter::repeat;
 use std::ops::Range;
 
+use super::answer::Stop;
 use super::holding::{Holding, Mask, System, MAX_SATELLITES, SIGNAL_BITS};
 use super::reader::{self, raw};
 use super::{ABSENT, COLUMNS};
@@ -24,6 +25,8 @@ pub struct Answer {
     pub number: u8,
     /// After the message; else the start asked for.
     pub place: usize,
+    /// With answer 3, how many bits were missing; else 0.
+    pub missing: usize,
     pub rows: usize,
     pub raw: Range<usize>,
     pub head: [i32; COLUMNS],
@@ -44,10 +47,10 @@ pub fn read(
         Ok(message) => {
             put(&message.holding, lent);
             let (place, rows, head) = (message.next, message.rows, message.head);
-            Answer { number: MESSAGE, place, rows, raw, head }
+            Answer { number: MESSAGE, place, missing: 0, rows, raw, head }
         }
-        Err(stop) => {
-            Answer { number: stop.number, place: stop.place, rows: 0, raw, head: [ABSENT; COLUMNS] }
+        Err(Stop { number, place, missing }) => {
+            Answer { number, place, missing, rows: 0, raw, head: [ABSENT; COLUMNS] }
         }
     }
 }

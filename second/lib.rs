@@ -1,6 +1,7 @@
 //! A second, independent codec for Compact SSR messages of sub types 1, 2, 3,
-//! 4, 5, 10 and 11, made from document 01 ("Exact rules for the build") so
-//! that another implementation can be compared with it.
+//! 4, 5, 10 and 11, made from document 01 ("Exact rules for the build") and, of
+//! document 02, from Ask 7 ("How many bits were missing"), so that another
+//! implementation can be compared with it.
 //!
 //! Clarity comes before speed everywhere: bits are taken one by one, masks are
 //! spelled out as lists, and a message is read whole before anything is lent

@@ -1,12 +1,14 @@
-//! The listing program (document 01, "Saved mask and listing").
+//! The listing program (document 01, "Saved mask and listing"; document 02, Ask 7
+//! for the last field of its E lines).
 
 use std::io::{self, BufRead, Write};
 
+use super::answer::{Stop, SHORT};
 use super::bits::pack;
 use super::holding::Holding;
 use super::reader::Message;
 use super::text::{decimal, hex_bits};
-use super::walk::walk;
+use super::walk::{walk, Walk};
 use super::{ABSENT, COLUMNS, ROW_ROOM, STRETCH_BITS};
 
 /// Lists every line of the input, holding the mask from line to line, and gives
@@ -60,9 +62,16 @@ fn stretch(
     let walk = walk(holding, bytes, bit_length, rows, |place, message, rows| {
         text.push_str(&message_text(place, message, rows));
     });
-    let stop = walk.stop;
-    text.push_str(&format!("E\t{}\t{}\t{}\t{}\n", stop.number, stop.place, walk.messages, walk.rows));
+    text.push_str(&end_text(&walk));
     (text, walk.holding)
+}
+
+/// E: stop number, place, messages, rows, and last how many bits were missing,
+/// "`-` for every other stop" than 3 (document 02, Ask 7).
+fn end_text(walk: &Walk) -> String {
+    let Stop { number, place, missing } = walk.stop;
+    let missing = if number == SHORT { missing.to_string() } else { "-".to_string() };
+    format!("E\t{number}\t{place}\t{}\t{}\t{missing}\n", walk.messages, walk.rows)
 }
 
 /// M: place, length, the head, row count. R: each row.

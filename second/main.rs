@@ -106,10 +106,14 @@ fn emit(emitted: impl FnOnce(&mut Output) -> io::Result<Answers>) -> io::Result<
     Ok(())
 }
 
-/// The distribution over the answers.
+/// The distribution over the answers; where bits were missing, also how many
+/// pairs of a sub type and a number of missing bits there were.
 fn print_answers(answers: &Answers) {
     for (number, count) in answers.stops.iter().enumerate() {
         eprintln!("{number} {count}");
     }
     eprintln!("accepted {}", answers.accepted);
+    if !answers.pairs.is_empty() {
+        eprintln!("pairs {}", answers.pairs.len());
+    }
 }

@@ -2,6 +2,7 @@
 
 use std::ops::Range;
 
+use super::answer::Reason::{self, Plain};
 use super::answer::{Stop, IDLE, NETWORK, NUMBER, PLACE, ROOM, SUB_TYPE, VALUE};
 use super::bits::{bit, bytes_for, number, signed_number, Fields};
 use super::holding::{Holding, Mask};
@@ -43,7 +44,7 @@ pub fn read(
         let parts = take_message(&mut fields, holding)?;
         Ok((parts, fields.place()))
     });
-    let (parts, next) = taken.map_err(|number| Stop { number, place: start })?;
+    let (parts, next) = taken.map_err(|reason| reason.at(start))?;
     for (lent, row) in rows.chunks_exact_mut(COLUMNS).zip(&parts.rows) {
         lent.copy_from_slice(row);
     }
@@ -70,36 +71,36 @@ fn open<'a>(
     bit_length: usize,
     start: usize,
     room: usize,
-) -> Result<Fields<'a>, u8> {
+) -> Result<Fields<'a>, Reason> {
     if room < ROW_ROOM {
-        return Err(ROOM);
+        return Err(Plain(ROOM));
     }
     if bit_length > STRETCH_BITS || bit_length > bytes.len() * 8 || start > bit_length {
-        return Err(PLACE);
+        return Err(Plain(PLACE));
     }
     if *holding == Holding::Nonsense {
-        return Err(VALUE);
+        return Err(Plain(VALUE));
     }
     if !(start..bit_length).any(|place| bit(bytes, place)) {
-        return Err(IDLE);
+        return Err(Plain(IDLE));
     }
     Ok(Fields::new(bytes, start, bit_length))
 }
 
-fn take_message(fields: &mut Fields, holding: &Holding) -> Result<Parts, u8> {
+fn take_message(fields: &mut Fields, holding: &Holding) -> Result<Parts, Reason> {
     if fields.unsigned(12)? != MESSAGE_NUMBER {
-        return Err(NUMBER);
+        return Err(Plain(NUMBER));
     }
     match fields.unsigned(4)? {
         1 => take_mask_message(fields),
         10 => take_service(fields, holding),
         sub_type @ (2..=5 | 11) => take_correction(fields, holding, sub_type),
-        _ => Err(SUB_TYPE),
+        _ => Err(Plain(SUB_TYPE)),
     }
 }
 
 /// Sub type, epoch, interval, indicator and IOD SSR; a, b and c still absent.
-fn take_head(fields: &mut Fields, sub_type: u64, epoch: usize) -> Result<[i32; COLUMNS], u8> {
+fn take_head(fields: &mut Fields, sub_type: u64, epoch: usize) -> Result<[i32; COLUMNS], Reason> {
     let mut head = [ABSENT; COLUMNS];
     head[0] = sub_type as i32;
     for (column, width) in [(1, epoch), (2, 4), (3, 1), (4, 4)] {
@@ -109,7 +110,7 @@ fn take_head(fields: &mut Fields, sub_type: u64, epoch: usize) -> Result<[i32; C
 }
 
 /// Sub type 1: a is the number of systems, and the mask is adopted.
-fn take_mask_message(fields: &mut Fields) -> Result<Parts, u8> {
+fn take_mask_message(fields: &mut Fields) -> Result<Parts, Reason> {
     let mut head = take_head(fields, 1, 20)?;
     let mask = take_mask(fields, head[4] as u8)?;
     head[5] = mask.systems.len() as i32;
@@ -117,7 +118,7 @@ fn take_mask_message(fields: &mut Fields) -> Result<Parts, u8> {
 }
 
 /// Sub type 10: indicator, counter (a) and size (b); no epoch, interval or IOD.
-fn take_service(fields: &mut Fields, holding: &Holding) -> Result<Parts, u8> {
+fn take_service(fields: &mut Fields, holding: &Holding) -> Result<Parts, Reason> {
     let mut head = [ABSENT; COLUMNS];
     head[0] = 10;
     head[3] = fields.unsigned(1)? as i32;
@@ -129,7 +130,7 @@ fn take_service(fields: &mut Fields, holding: &Holding) -> Result<Parts, u8> {
 }
 
 /// Sub types 2, 3, 4, 5 and 11, all made for one mask. "After IOD SSR: 6, then 7."
-fn take_correction(fields: &mut Fields, holding: &Holding, sub_type: u64) -> Result<Parts, u8> {
+fn take_correction(fields: &mut Fields, holding: &Holding, sub_type: u64) -> Result<Parts, Reason> {
     let mut head = take_head(fields, sub_type, 12)?;
     let mask = holding.of_issue(head[4])?;
     let layout = match sub_type {
@@ -146,7 +147,7 @@ fn take_combined_layout(
     fields: &mut Fields,
     mask: &Mask,
     head: &mut [i32; COLUMNS],
-) -> Result<Vec<Row>, u8> {
+) -> Result<Vec<Row>, Reason> {
     let orbit = fields.unsigned(1)?;
     let clock = fields.unsigned(1)?;
     head[5] = orbit as i32;
@@ -155,7 +156,7 @@ fn take_combined_layout(
     if fields.unsigned(1)? == 1 {
         let network = fields.unsigned(5)?;
         if network == 0 {
-            return Err(NETWORK);
+            return Err(Plain(NETWORK));
         }
         head[7] = network as i32;
         let mut selection = fields.flags(selected.len())?.into_iter();
@@ -164,8 +165,9 @@ fn take_combined_layout(
     Ok(layout::combined(&selected, orbit == 1, clock == 1))
 }
 
-/// "The body ... after the last head or selection field is one test of 3."
-fn take_body(fields: &mut Fields, layout: &[Row]) -> Result<Vec<[i32; COLUMNS]>, u8> {
+/// "The body ... after the last head or selection field is one test of 3." So what
+/// is missing of it is missing of the whole body.
+fn take_body(fields: &mut Fields, layout: &[Row]) -> Result<Vec<[i32; COLUMNS]>, Reason> {
     let body = fields.flags(layout::width(layout))?;
     let mut left = &body[..];
     Ok(layout.iter().map(|columns| columns.map(|column| split_column(&mut left, column))).collect())

@@ -8,8 +8,8 @@ use super::text::{decimal, hex, hex_bits};
 /// Writes the line from the buffer's first byte on and answers its length;
 /// later bytes stay. "12 comes before 1."
 pub fn save(holding: &Holding, buffer: &mut [u8]) -> Result<usize, Stop> {
-    let line = line(holding).ok_or(Stop { number: VALUE, place: 0 })?;
-    let lent = buffer.get_mut(..line.len()).ok_or(Stop { number: ROOM, place: 0 })?;
+    let line = line(holding).ok_or(Stop::plain(VALUE, 0))?;
+    let lent = buffer.get_mut(..line.len()).ok_or(Stop::plain(ROOM, 0))?;
     lent.copy_from_slice(line.as_bytes());
     Ok(line.len())
 }
@@ -22,7 +22,7 @@ pub fn load(text: &[u8]) -> (Result<(), Stop>, Holding) {
         Some(holding) if line(&holding).map_or(false, |line| line.as_bytes() == text) => {
             (Ok(()), holding)
         }
-        _ => (Err(Stop { number: VALUE, place: 0 }), Holding::Empty),
+        _ => (Err(Stop::plain(VALUE, 0)), Holding::Empty),
     }
 }
 

@@ -6,6 +6,9 @@ mod coverage;
 mod hand;
 mod host;
 mod listing;
+mod missing;
+mod missing_cases;
+mod pencil;
 mod reader;
 mod rounds;
 mod saved;
@@ -50,13 +53,17 @@ impl Group {
     }
 }
 
-const GROUPS: [(&str, fn(&mut Group)); 27] = [
+const GROUPS: [(&str, fn(&mut Group)); 31] = [
     ("bench 1 the worked listing", bench::worked_listing),
     ("bench 1 to 4 stretches", bench::stretches),
     ("bench 5 to 14 readings", bench::readings),
     ("reader: each answer number", reader::numbers),
     ("reader: order of refusals", reader::order),
     ("reader: messages by hand", hand::messages),
+    ("missing bits: by hand", missing::by_hand),
+    ("missing bits: drawn messages cut", missing::drawn),
+    ("missing bits: fixed cases", missing_cases::fixed),
+    ("missing bits: generated cases", missing_cases::random),
     ("host: encodings by hand", host::by_hand),
     ("host: what a good mask message makes", host::good_masks),
     ("host: readings", host::readings),

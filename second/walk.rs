@@ -1,7 +1,7 @@
 //! The walk over a stretch (document 01, "The walk reads from place 0 until
 //! idle or a refusal").
 
-use super::answer::Stop;
+use super::answer::{Stop, IDLE};
 use super::holding::Holding;
 use super::reader::{read, Message};
 
@@ -26,7 +26,7 @@ pub fn walk(
 ) -> Walk {
     let mut place = 0;
     let mut walk = Walk {
-        stop: Stop { number: 0, place: 0 },
+        stop: Stop::plain(IDLE, 0),
         messages: 0,
         rows: 0,
         holding: holding.clone(),

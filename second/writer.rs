@@ -18,7 +18,7 @@ pub fn write(
 ) -> Result<usize, Stop> {
     let limit = STRETCH_BITS.min(bytes.len() * 8);
     let message = prepare(holding, head, rows, count, start, limit)
-        .map_err(|number| Stop { number, place: start })?;
+        .map_err(|number| Stop::plain(number, start))?;
     for (offset, &value) in message.iter().enumerate() {
         set_bit(bytes, start + offset, value);
     }

@@ -51,6 +51,16 @@ static void take_message(uint64_t start, const hundurzek_reading *message) {
   write_message(start, message, numbers);
 }
 
+/* Why the walk stopped; how many bits were missing is there beside 3 alone. */
+static void print_stop(const hundurzek_walked *walked) {
+  printf("E\t%" PRIu64 "\t%" PRIu64, walked->answer, walked->place);
+  printf("\t%" PRIu64 "\t%" PRIu64, walked->messages, walked->rows);
+  if (walked->missing > 0)
+    printf("\t%" PRIu64 "\n", walked->missing);
+  else
+    printf("\t-\n");
+}
+
 /* The messages one by one; then the whole stretch at once, by a receiver that starts anew. */
 int main(void) {
   uint64_t place = 0;
@@ -65,7 +75,6 @@ int main(void) {
   }
   hundurzek_empty(holding, sizeof holding);
   hundurzek_walk(&walked, holding, sizeof holding, stretch, sizeof stretch, BITS, rows, HUNDURZEK_ROOM);
-  printf("E\t%" PRIu64 "\t%" PRIu64, walked.answer, walked.place);
-  printf("\t%" PRIu64 "\t%" PRIu64 "\n", walked.messages, walked.rows);
+  print_stop(&walked);
   return memcmp(written, stretch, sizeof stretch) != 0;
 }

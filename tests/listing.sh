@@ -1,7 +1,7 @@
 #!/bin/sh
 # The listing program against the second program, byte for byte, with the saved mask after each input: document 01's
-# worked listing and its bench cases 8, 9 and 14; 24,000 lines, good ones and each kind of bad one, counted; and inputs
-# that come in pieces of 1 byte, 7 bytes and 4,096 bytes.
+# worked listing and its bench cases 2, 8, 9, 10 and 14; 24,000 lines, good ones and each kind of bad one, counted; and
+# inputs that come in pieces of 1 byte, 7 bytes and 4,096 bytes.
 set -eu
 cd "$(dirname "$0")/.."
 . tests/lib/tools.sh
@@ -54,7 +54,7 @@ agreed() {
     same "$1, saved mask" "$work/got.mask" "$work/want.mask"
 }
 
-# ---- document 01
+# ---- document 01; the last field of E is document 02's, Ask 7
 
 expected 'the worked listing' <<'END'
 < 181 FE91000645188500000000040806FFA4C1908600160000
@@ -62,28 +62,43 @@ expected 'the worked listing' <<'END'
 > M 114 67 3 100 2 0 3 - - - 2
 > R 0 1 - 5 - - - -
 > R 0 3 - -16384 - - - -
-> E 0 181 2 2
+> E 0 181 2 2 -
+= S 3 0 A000000000 8100 1 B
+END
+expected 'bench 2: its first 180 bits, of which the clocks lack one' <<'END'
+< 180 FE91000645188500000000040806FFA4C190860016000
+> M 0 114 1 100 5 0 3 1 - - 0
+> E 3 114 1 0 1
 = S 3 0 A000000000 8100 1 B
 END
 expected 'bench 8: 40 GPS and 24 BeiDou, then 25' <<'END'
 < 171 FE910006451907FFFFFFFFF80000FFFFFFC00000000
 < 171 FE910006451907FFFFFFFFF80000FFFFFFE00000000
 > M 0 171 1 100 5 0 3 2 - - 0
-> E 0 171 1 0
-> E 10 0 0 0
+> E 0 171 1 0 -
+> E 10 0 0 0 -
 = S 3 0 FFFFFFFFFF 0000 0 - 3 FFFFFF0000 0000 0 -
 END
 expected 'bench 9: 32 GPS by 8 signals, then by 9' <<'END'
 < 110 FE910006451887FFFFFFF807F800
 < 110 FE910006451887FFFFFFF807FC00
 > M 0 110 1 100 5 0 3 1 - - 0
-> E 0 110 1 0
-> E 10 0 0 0
+> E 0 110 1 0 -
+> E 10 0 0 0 -
 = S 3 0 FFFFFFFF00 FF00 0 -
+END
+expected 'bench 10: 11 zero bits, 11 bits with a one, 12 bits of 4072' <<'END'
+< 11 000
+< 11 FE8
+< 12 FE8
+> E 0 0 0 0 -
+> E 3 0 0 0 1
+> E 4 0 0 0 -
+= S -
 END
 expected 'bench 14: sub type 12' <<'END'
 < 37 FE9C064218
-> E 5 0 0 0
+> E 5 0 0 0 -
 = S -
 END
 expected 'no lines' <<'END'
@@ -169,6 +184,16 @@ must() {
     done
 }
 
+# missing: what the last field of each E is, a number beside stop 3 and - beside every other; 'stray' is anything else
+missing() {
+    awk -F '\t' '$1 == "E" {
+        n = $6
+        if (NF != 6 || n !~ ($2 == 3 ? "^[1-9][0-9]*$" : "^-$")) n = "stray"
+        else if (n != "-") n = n < 2 ? "1" : n < 5 ? "2 to 4" : n < 41 ? "5 to 40" : n < 256 ? "41 to 255" : "over 255"
+        print 1 "\t" n
+    }' "$printed"
+}
+
 must 'line' 12000:plain 800:'mask missed' 500:cut 500:'damaged bits' 50:'late joiner' \
     10:'last without its line feed' 5:megabytes 100:'over 50850 bits' 100:'count over 50850' 50:'long line' \
     200:'lower case digit' 50:'lower case' 150:'leading zero' 200:'spare bits set' 150:'digit missing' \
@@ -178,6 +203,8 @@ must 'line' 12000:plain 800:'mask missed' 500:cut 500:'damaged bits' 50:'late jo
     50:'character dropped' 50:'character doubled' 50:'character put in' 50:'neighbours swapped' \
     50:'space for a tab' 50:'in front' 10:'random bytes' 20:'random characters' <"$kinds"
 often 2 E | must 'stop' 5000:0 1000:3 1000:4 200:5 50:6 1000:7 200:8 200:9 200:10 200:11
+missing | must 'missing' 10000:- 100:1 200:'2 to 4' 500:'5 to 40' 200:'41 to 255' 100:'over 255'
+if grep -q stray "$work/came"; then judge 'a number of missing bits beside another stop than 3' no; else judge missing yes; fi
 often 4 M | must 'sub type' 10000:1 4000:2 4000:3 4000:4 4000:5 5000:10 10000:11
 awk -F '\t' '{ print 1 "\t" $1 }' "$printed" | must 'printed' 5000:B 15000:E 60000:M 500000:R
 

@@ -1,6 +1,7 @@
 /* Compares hundurzek_read, and hundurzek_empty, with the second program (lib/streams.h). */
 #include <string.h>
 
+#include "missing.h"
 #include "readings.h"
 
 /* What is counted: each stop, messages, and each sub type of these. */
@@ -15,11 +16,14 @@ static kind kinds[KINDS] = {
 
 /* ---- readings */
 
+static missing_counts missing[KINDS];
+
 static void count_answer(kind *k, const hundurzek_reading *want) {
   bool message = want->answer == HUNDURZEK_MESSAGE;
   k->calls++;
   k->counts[message ? MESSAGES : want->answer]++;
   if (message) k->counts[SUBTYPE + want->head.subtype]++;
+  count_missing(&missing[k - kinds], want->answer, want->missing);
 }
 
 /* Readings one after another, each at the place where the one before must end. */
@@ -59,13 +63,15 @@ static void judge(const char *what, unsigned long which, size_t count, unsigned 
   need(kinds[READ].counts[count] >= least, what, which);
 }
 
-/* Every stop and every sub type often, messages over a third of the single readings. */
+/* Every stop and every sub type often, messages over a third of the single readings; beside 3 few bits missing, and
+   many. */
 static void judge_all(void) {
   static const unsigned subtypes[] = {1, 2, 3, 4, 5, 10, 11};
   for (unsigned i = 0; i < STOPS; i++) judge("answer", i, i, 1000);
   judge("answer", HUNDURZEK_MESSAGE, MESSAGES, kinds[READ].calls / 3 + 1);
   for (size_t i = 0; i < sizeof subtypes / sizeof *subtypes; i++)
     judge("sub type", subtypes[i], SUBTYPE + subtypes[i], 1000);
+  judge_missing(missing, KINDS, READ, 1000, 1000);
 }
 
 int main(void) {

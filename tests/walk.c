@@ -2,6 +2,7 @@
 #include <stdio.h>
 #include <string.h>
 
+#include "missing.h"
 #include "streams.h"
 
 /* What is counted: each stop, each stop after a message, walks of many messages, and walks that were lent what the
@@ -14,11 +15,14 @@ static kind kinds[KINDS] = {
     [WALK] = {.name = "walk", .least = 20000},
 };
 
+static missing_counts missing[KINDS];
+
 /* The walk that is expected; the buffers are wanted as it leaves them. */
 static hundurzek_walked take_expected(void) {
   hundurzek_walked want;
   want.answer = number(1);
   want.place = number(8);
+  want.missing = number(8);
   want.messages = number(8);
   want.rows = number(8);
   get(content(holding.want), holding.count);
@@ -33,6 +37,7 @@ static void count_walk(kind *k, const hundurzek_walked *want, bool kept) {
   if (want->messages > 0) k->counts[AFTER + want->answer]++;
   if (want->messages > MANY) k->counts[LONG]++;
   if (kept) k->counts[KEPT]++;
+  count_missing(&missing[k - kinds], want->answer, want->missing);
 }
 
 static void compare_walk(kind *k) {
@@ -40,15 +45,16 @@ static void compare_walk(kind *k) {
   take_stretch();
   bool sufficient = holding.count >= sizeof left;
   bool kept = sufficient && memcmp(content(holding.got), left, sizeof left) == 0;
-  hundurzek_walked want = take_expected(), got;
-  const void *out = hundurzek_walk(&got, content(holding.got), holding.count, content(stretch.got), stretch.count,
+  hundurzek_walked want = take_expected(), *got = lend_result(sizeof *got);
+  const void *out = hundurzek_walk(got, content(holding.got), holding.count, content(stretch.got), stretch.count,
                                    now.end, numbers(rows.got), rows.count / 4);
   if (sufficient) memcpy(left, content(holding.got), sizeof left);
-  if (out != &got) differ("another pointer is returned");
-  compare("stop", got.answer, want.answer);
-  compare("place", got.place, want.place);
-  compare("messages", got.messages, want.messages);
-  compare("rows", got.rows, want.rows);
+  if (out != got) differ("another pointer is returned");
+  compare("stop", got->answer, want.answer);
+  compare("place", got->place, want.place);
+  compare_missing(got->answer, got->missing, want.missing);
+  compare("messages", got->messages, want.messages);
+  compare("rows", got->rows, want.rows);
   compare_lent();
   count_walk(k, &want, kept);
 }
@@ -59,12 +65,14 @@ static void judge(const char *what, unsigned long which, size_t count, unsigned 
   need(kinds[WALK].counts[count] >= least, what, which);
 }
 
-/* Every stop often; also after a message, but for those that come before any; the holding kept in most walks. */
+/* Every stop often; also after a message, but for those that come before any; beside 3 few bits missing, and many;
+   the holding kept in most walks. */
 static void judge_all(void) {
   unsigned long kept = kinds[WALK].counts[KEPT];
   for (unsigned i = 0; i < STOPS; i++) judge("stop", i, i, 100);
   for (unsigned i = 0; i < STOPS; i++) judge("after a message", i, AFTER + i, i == 1 || i == 2 || i == 12 ? 0 : 100);
   judge("messages over", MANY, LONG, 100);
+  judge_missing(missing, KINDS, WALK, 300, 500);
   printf("%lu random walks were lent what the walk before left\n", kept);
   need(kept >= kinds[WALK].records / 2, "kept", kept);
 }

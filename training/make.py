@@ -2,6 +2,9 @@
 
 import os
 import sys
+from functools import reduce
+from itertools import count
+from operator import xor
 
 from messages import (BEIDOU, GALILEO, GLONASS, GPS, QZSS, Mask, System, combined, correction, mask_message, service,
                       spell, text)
@@ -77,6 +80,22 @@ def network(network_id):
     return under(MASK, combined(MASK, (40,), orbits=0, network=network_id, selection="01"))
 
 
+# A part lost: a subframe of three data parts, orbits and clocks of eleven satellites by turns, zeros behind them.
+PART = 1695
+ELEVEN = one_system(System(GPS, range(11), (0,)))
+TURNS = [correction(sub_type, ELEVEN, count(1), epoch=100 + 5 * turn) for turn in range(6) for sub_type in (2, 3)]
+SUBFRAME = under(ELEVEN, *TURNS)[0].ljust(3 * PART, "0")
+
+
+def position(second):
+    """What is no Compact SSR: a line of a position log in letters, as receivers write it (NMEA 0183)."""
+    said = f"GPGGA,1200{second:02},3540.60,N,13944.50,E,1,08,0.9,40.0,M,39.5,M,,"
+    return f"${said}*{reduce(xor, said.encode()):02X}\r\n"
+
+
+FOREIGN = "".join(format(letter, "08b") for second in range(7) for letter in position(second).encode())
+
+
 # Mistake 1: the next issue names satellite 4 where this one names 3; a message for it is as long.
 NEXT = Mask(4, (System(GPS, (0, 3), (0, 7), "1011"),))
 
@@ -123,6 +142,8 @@ STRETCHES = {
                 "filling": followed(("filling", 24, 0))},
     "03-short-body": {"refused": [spell(WORKED)[:-1]], "accepted": [spell(WORKED)]},
     "03-short-field": {"refused": [followed(*no_systems())[0][:-1]], "accepted": followed(*no_systems())},
+    "03-part-lost": {"refused": [SUBFRAME[:2 * PART]], "accepted": [SUBFRAME], "two-lost": [SUBFRAME[:PART]],
+                     "foreign": [FOREIGN[:2 * PART]], "tiny": [FOREIGN[:8]]},
     "04-number": {"refused": renumbered(4072), "accepted": renumbered(4073)},
     "05-sub-type": {"refused": followed(*packet(8)), "accepted": followed(*packet(10))},
     "06-no-mask": {"refused": [spell(WORKED)[114:]], "accepted": [spell(WORKED)[:114], spell(WORKED)[114:]]},

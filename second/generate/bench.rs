@@ -1,6 +1,8 @@
 //! Document 01's bench cases: 1 to 4 as whole stretches, the others as single
-//! readings, each with what the document says of it.
+//! readings, each with what the document says of it, and with how many bits are
+//! missing where that is 3 (document 02, Ask 7).
 
+use super::super::answer::Reason::{self, Plain, Short};
 use super::super::answer::Stop;
 use super::super::holding::Holding;
 use super::hand::{fields, first, head_bits, held, listing_bits, mask_bits, place};
@@ -17,29 +19,29 @@ pub struct Stretch {
     pub stop: Stop,
 }
 
-/// A reading at place 0, and the place after the message or the answer number.
+/// A reading at place 0, and the place after the message or why there is none.
 pub struct Reading {
     pub name: &'static str,
     pub holding: Holding,
     pub bits: Vec<bool>,
-    pub expected: Result<usize, u8>,
+    pub expected: Result<usize, Reason>,
 }
 
 pub fn stretches() -> Vec<Stretch> {
     let listing = listing_bits();
-    let stretch = |name, bits: &[bool], number, place| Stretch {
+    let stretch = |name, bits: &[bool], reason: Reason, place| Stretch {
         name,
         bits: bits.to_vec(),
-        stop: Stop { number, place },
+        stop: reason.at(place),
     };
     let mut other_issue = listing.clone();
     let iod = 114 + 33;
     other_issue.splice(iod..iod + 4, fields(&[(4, 4)]));
     vec![
-        stretch("bench 1: the listing's stretch", &listing, 0, 181),
-        stretch("bench 2: its first 180 bits", &listing[..180], 3, 114),
-        stretch("bench 3: its last 67 bits", &listing[114..], 6, 0),
-        stretch("bench 4: its clock with IOD 4", &other_issue, 7, 114),
+        stretch("bench 1: the listing's stretch", &listing, Plain(0), 181),
+        stretch("bench 2: its first 180 bits", &listing[..180], Short(1), 114),
+        stretch("bench 3: its last 67 bits", &listing[114..], Plain(6), 0),
+        stretch("bench 4: its clock with IOD 4", &other_issue, Plain(7), 114),
     ]
 }
 
@@ -51,7 +53,7 @@ fn reading(
     name: &'static str,
     holding: &Holding,
     bits: &[bool],
-    expected: Result<usize, u8>,
+    expected: Result<usize, Reason>,
 ) -> Reading {
     Reading { name, holding: holding.clone(), bits: bits.to_vec(), expected }
 }
@@ -69,26 +71,26 @@ fn masks() -> Vec<Reading> {
         fresh("bench 5: no systems", &[], Ok(49)),
         reading("bench 5: a clock under it", &held(&[]), &head_bits(3, 3), Ok(37)),
         fresh("bench 6: QZSS place 9", &[system(QZSS, place(9, 40), 0)], Ok(110)),
-        fresh("bench 6: QZSS place 10", &[system(QZSS, place(10, 40), 0)], Err(9)),
-        fresh("bench 7: ID 5", &[system(5, 0, 0)], Err(8)),
-        fresh("bench 7: GPS twice", &[system(GPS, 0, 0), system(GPS, 0, 0)], Err(8)),
+        fresh("bench 6: QZSS place 10", &[system(QZSS, place(10, 40), 0)], Err(Plain(9))),
+        fresh("bench 7: ID 5", &[system(5, 0, 0)], Err(Plain(8))),
+        fresh("bench 7: GPS twice", &[system(GPS, 0, 0), system(GPS, 0, 0)], Err(Plain(8))),
         fresh("bench 8: 40 GPS and 24 BeiDou", &[gps, beidou(24)], Ok(49 + 2 * 61)),
-        fresh("bench 8: 40 GPS and 25 BeiDou", &[gps, beidou(25)], Err(10)),
+        fresh("bench 8: 40 GPS and 25 BeiDou", &[gps, beidou(25)], Err(Plain(10))),
         fresh("bench 9: 32 GPS by 8 signals", &[cells(8)], Ok(110)),
-        fresh("bench 9: 32 GPS by 9 signals", &[cells(9)], Err(10)),
+        fresh("bench 9: 32 GPS by 9 signals", &[cells(9)], Err(Plain(10))),
     ]
 }
 
 /// Case 10.
 fn short_ones() -> Vec<Reading> {
-    let fresh = |name, bits: &[bool], number| reading(name, &Holding::Empty, bits, Err(number));
+    let fresh = |name, bits: &[bool], reason| reading(name, &Holding::Empty, bits, Err(reason));
     let mut all = vec![
-        fresh("bench 10: 11 zero bits", &[false; 11], 0),
-        fresh("bench 10: 12 bits of 4072", &fields(&[(4072, 12)]), 4),
+        fresh("bench 10: 11 zero bits", &[false; 11], Plain(0)),
+        fresh("bench 10: 12 bits of 4072", &fields(&[(4072, 12)]), Plain(4)),
     ];
     all.extend((0..11).map(|one| {
         let bits = fields(&[(place(one, 11), 11)]);
-        fresh("bench 10: 11 bits with a one", &bits, 3)
+        fresh("bench 10: 11 bits with a one", &bits, Short(1))
     }));
     all
 }
@@ -108,14 +110,14 @@ fn under_a_mask() -> Vec<Reading> {
     let (galileo, galileo_orbit) = orbit(GALILEO, 51);
     let other = head_bits(12, 3);
     vec![
-        reading("bench 11: network 0", &one(GPS), &network(0), Err(11)),
+        reading("bench 11: network 0", &one(GPS), &network(0), Err(Plain(11))),
         reading("bench 11: network 31", &one(GPS), &network(31), Ok(46)),
         reading("bench 12: one GPS orbit", &gps, &gps_orbit, Ok(86)),
-        reading("bench 12: a bit less", &gps, &gps_orbit[..85], Err(3)),
+        reading("bench 12: a bit less", &gps, &gps_orbit[..85], Err(Short(1))),
         reading("bench 12: one Galileo orbit", &galileo, &galileo_orbit, Ok(88)),
-        reading("bench 12: a bit less", &galileo, &galileo_orbit[..87], Err(3)),
-        reading("bench 14: sub type 12", &Holding::Empty, &other, Err(5)),
-        reading("bench 14: sub type 12 under a mask", &held(&[]), &other, Err(5)),
+        reading("bench 12: a bit less", &galileo, &galileo_orbit[..87], Err(Short(1))),
+        reading("bench 14: sub type 12", &Holding::Empty, &other, Err(Plain(5))),
+        reading("bench 14: sub type 12 under a mask", &held(&[]), &other, Err(Plain(5))),
     ]
 }
 
@@ -128,8 +130,8 @@ fn services() -> Vec<Reading> {
     let fresh = |name, bits: &[bool], expected| reading(name, &Holding::Empty, bits, expected);
     vec![
         fresh("bench 13: size 0", &service(0, 40), Ok(62)),
-        fresh("bench 13: size 0, a bit less", &service(0, 39), Err(3)),
+        fresh("bench 13: size 0, a bit less", &service(0, 39), Err(Short(1))),
         fresh("bench 13: size 3", &service(3, 160), Ok(182)),
-        fresh("bench 13: size 3, a bit less", &service(3, 159), Err(3)),
+        fresh("bench 13: size 3, a bit less", &service(3, 159), Err(Short(1))),
     ]
 }

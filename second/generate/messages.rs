@@ -12,17 +12,38 @@ pub struct Drawn {
     pub bits: Vec<bool>,
     /// The place after each field.
     pub bounds: Vec<usize>,
+    /// The place where the body begins; the message's end where it has none.
+    pub body: usize,
     pub head: [i32; COLUMNS],
     pub rows: Vec<[i32; COLUMNS]>,
 }
 
 impl Drawn {
     fn new(sub_type: u64) -> Self {
-        let head = [ABSENT; COLUMNS];
-        let mut drawn = Drawn { bits: Vec::new(), bounds: Vec::new(), head, rows: Vec::new() };
+        let mut drawn = Drawn {
+            bits: Vec::new(),
+            bounds: Vec::new(),
+            body: 0,
+            head: [ABSENT; COLUMNS],
+            rows: Vec::new(),
+        };
         drawn.put(MESSAGE_NUMBER, 12);
         drawn.head[0] = drawn.put(sub_type, 4);
         drawn
+    }
+
+    /// The ends of all that is tested for 3 by itself: of each field before the
+    /// body, and of the whole body, which is one (document 01, "Reader's order").
+    pub fn ends(&self) -> Vec<usize> {
+        let mut ends = self.bounds.clone();
+        ends.retain(|&end| end <= self.body);
+        ends.push(self.bits.len());
+        ends
+    }
+
+    /// What is put from now on is the body.
+    fn begin_body(&mut self) {
+        self.body = self.bits.len();
     }
 
     /// Appends a field and gives its value back as a column.
@@ -92,6 +113,7 @@ pub fn mask_of(random: &mut Random, mask: &Mask, count: u64) -> Drawn {
             drawn.put_flags(cells);
         }
     }
+    drawn.begin_body();
     drawn
 }
 
@@ -106,6 +128,7 @@ pub fn service(random: &mut Random) -> Drawn {
     drawn.head[3] = drawn.put_any(random, 1);
     drawn.head[5] = drawn.put_any(random, 3);
     drawn.head[6] = drawn.put_any(random, 2);
+    drawn.begin_body();
     for number in 1..=drawn.head[6] + 1 {
         let mut row = [ABSENT; COLUMNS];
         row[2] = number;
@@ -142,6 +165,7 @@ pub fn of_sub_type(random: &mut Random, held: &Mask, sub_type: u64) -> Drawn {
 fn per_satellite(random: &mut Random, mask: &Mask, sub_type: u64) -> Drawn {
     let mut drawn = Drawn::new(sub_type);
     drawn.put_opening(random, 12, mask.iod);
+    drawn.begin_body();
     for (id, place) in mask.satellites() {
         let mut row = keyed(id, place);
         if sub_type == 2 {
@@ -157,6 +181,7 @@ fn per_satellite(random: &mut Random, mask: &Mask, sub_type: u64) -> Drawn {
 fn per_cell(random: &mut Random, mask: &Mask, sub_type: u64) -> Drawn {
     let mut drawn = Drawn::new(sub_type);
     drawn.put_opening(random, 12, mask.iod);
+    drawn.begin_body();
     for (id, place, signal) in mask.cells() {
         let mut row = keyed(id, place);
         row[2] = signal as i32;
@@ -200,6 +225,7 @@ fn combined_for(random: &mut Random, mask: &Mask, network: u64) -> Drawn {
         selection.fill_with(|| random.chance(percent));
         drawn.put_flags(&selection);
     }
+    drawn.begin_body();
     for (&(id, place), selected) in satellites.iter().zip(selection) {
         if selected {
             put_combined(random, &mut drawn, id, place);

@@ -161,11 +161,13 @@ fn spoil(random: &mut Random, case: &mut Case, drawn: &Drawn) {
 }
 
 /// Ends the stretch at the end of a field, one bit before it, or anywhere in
-/// the message. What was after that becomes dirt.
+/// the message. A body has many fields, so half of the ends are of those that are
+/// tested for 3 by themselves. What was after that becomes dirt.
 fn truncate(random: &mut Random, case: &mut Case, drawn: &Drawn) {
+    let end = random.pick(&drawn.ends());
     let bound = random.pick(&drawn.bounds);
     let any = random.below(drawn.bits.len());
-    let kept = random.pick(&[bound, bound - 1, any]);
+    let kept = random.pick(&[end, end - 1, bound, bound - 1, any]);
     case.bit_length = case.bit_length.min(case.start + kept);
 }
 

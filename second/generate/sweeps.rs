@@ -92,7 +92,7 @@ fn shifted(random: &mut Random, holding: &Holding, bits: &[bool], start: usize) 
 
 /// The stretch ends after each number of the message's bits, at each alignment
 /// in turn; what was after that becomes dirt.
-fn cut(random: &mut Random, holding: &Holding, drawn: &Drawn) -> Vec<Case> {
+pub fn cut(random: &mut Random, holding: &Holding, drawn: &Drawn) -> Vec<Case> {
     let mut cut = |kept: usize| {
         let start = kept % 8;
         let case = shifted(random, holding, &drawn.bits, start);

@@ -14,7 +14,7 @@ M\t0\t114\t1\t100\t5\t0\t3\t1\t-\t-\t0
 M\t114\t67\t3\t100\t2\t0\t3\t-\t-\t-\t2
 R\t0\t1\t-\t5\t-\t-\t-\t-
 R\t0\t3\t-\t-16384\t-\t-\t-\t-
-E\t0\t181\t2\t2
+E\t0\t181\t2\t2\t-
 ";
 
 fn walked(bits: &[bool]) -> Walk {
@@ -51,8 +51,8 @@ pub fn stretches(group: &mut Group) {
 pub fn readings(group: &mut Group) {
     for case in bench::readings() {
         let found = reading(&case.holding, &case.bits);
-        let found = found.map(|message| message.next).map_err(|stop| stop.number);
-        group.same(case.name, found, case.expected);
+        let found = found.map(|message| message.next);
+        group.same(case.name, found, case.expected.map_err(|reason| reason.at(0)));
     }
     let no_systems = adopted(&mask_bits(&[]));
     group.same("5: the mask of no systems", no_systems, held(&[]));

@@ -170,7 +170,9 @@ pub fn readings(group: &mut Group) {
         let answer = read(&mut holding, &stretch, LISTING_BITS, place, rows);
         (answer, holding.clone())
     };
-    let message = |place, rows, raw, head| Answer { number: 255, place, rows, raw, head };
+    let message = |place, rows, raw, head| {
+        Answer { number: 255, place, missing: 0, rows, raw, head }
+    };
     let (answer, held) = at(0, &mut rows);
     let head = [1, 100, 5, 0, 3, 1, NO, NO];
     group.same("mask", answer, message(114, 0, 0..15, head));
@@ -179,10 +181,17 @@ pub fn readings(group: &mut Group) {
     let head = [3, 100, 2, 0, 3, NO, NO, NO];
     group.same("clock", answer, message(181, 2, 14..23, head));
     group.check("still held", after == held);
-    let nothing = |number, place| Answer { number, place, rows: 0, raw: 0..0, head: [NO; 8] };
+    let short = |number, place, missing| {
+        Answer { number, place, missing, rows: 0, raw: 0..0, head: [NO; 8] }
+    };
+    let nothing = |number, place| short(number, place, 0);
     group.same("idle", at(181, &mut rows), (nothing(0, 181), held.clone()));
     group.same("a refusal", at(8, &mut rows), (nothing(4, 8), held.clone()));
     group.same("no room", at(114, &mut rows[1..]), (nothing(1, 114), held));
     let fewer = read(&mut [0; 193], &stretch, LISTING_BITS, 5, &mut rows);
     group.same("193 bytes", fewer, nothing(12, 5));
+    let cut = read(&mut listing_bytes(), &stretch, LISTING_BITS - 1, 114, &mut rows);
+    group.same("a bit missing", cut, short(3, 114, 1));
+    let cut = read(&mut listing_bytes(), &stretch, 114 + 1, 114, &mut rows);
+    group.same("11 bits missing", cut, short(3, 114, 11));
 }

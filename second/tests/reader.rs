@@ -22,7 +22,7 @@ fn answer(
 }
 
 fn refused(number: u8, place: usize) -> Option<Stop> {
-    Some(Stop { number, place })
+    Some(Stop::plain(number, place))
 }
 
 pub fn numbers(group: &mut Group) {
@@ -38,7 +38,7 @@ fn lent(group: &mut Group) {
     group.same("0: none remain", answer(&empty, 2, 13, 13, ROW_ROOM), refused(0, 13));
     group.same("0: all zero", answer(&empty, 6_357, 50_850, 5, ROW_ROOM), refused(0, 5));
     let dirty = read(&empty, &[0, 0x0F, 0xFF], 12, 3, &mut row_buffer());
-    group.same("0: dirt after the end", dirty, Err(Stop { number: 0, place: 3 }));
+    group.same("0: dirt after the end", dirty, Err(Stop::plain(0, 3)));
     group.same("1: no room", answer(&empty, 0, 0, 0, 0), refused(1, 0));
     group.same("1: 2,047", answer(&empty, 2, 9, 4, 2_047), refused(1, 4));
     group.same("2: over 50,850", answer(&empty, 6_357, 50_851, 0, ROW_ROOM), refused(2, 0));

@@ -9,7 +9,7 @@ use crate::codec::random::Random;
 use crate::codec::saved::{load, save};
 
 const CASES: usize = 5_000;
-const REFUSED: Stop = Stop { number: 12, place: 0 };
+const REFUSED: Stop = Stop::plain(12, 0);
 
 fn saved(holding: &Holding) -> String {
     let mut buffer = [0; 1_000];
@@ -68,7 +68,7 @@ fn room(group: &mut Group) {
     let length = saved(&holding).len();
     for room in 0..length {
         let mut buffer = vec![b'?'; room];
-        group.same("1: room", save(&holding, &mut buffer), Err(Stop { number: 1, place: 0 }));
+        group.same("1: room", save(&holding, &mut buffer), Err(Stop::plain(1, 0)));
         group.check("nothing written", buffer.iter().all(|&byte| byte == b'?'));
     }
     let mut buffer = vec![b'?'; length + 3];

@@ -28,11 +28,13 @@ pub fn answers(group: &mut Group) {
 }
 
 fn often(group: &mut Group, kind: &str, answers: io::Result<Answers>, least: usize) {
-    let Answers { stops, accepted } = answers.unwrap_or_default();
+    let Answers { stops, accepted, pairs } = answers.unwrap_or_default();
     for (number, &count) in stops.iter().enumerate() {
         group.check(&format!("{kind}: answer {number}, {count} times"), count >= least);
     }
     group.check(&format!("{kind}: accepted {accepted} times"), accepted >= least);
+    let pairs = pairs.len();
+    group.check(&format!("{kind}: {pairs} sub types with missing bits"), pairs >= least);
 }
 
 pub fn formats(group: &mut Group) {
@@ -111,7 +113,9 @@ fn skip_readings(left: &mut &[u8]) -> Option<()> {
     let holding = skip_lent(left)?;
     for _ in 0..take(left, 4)? {
         let answer = take(left, 1)?;
-        skip(left, 8 + 32)?;
+        skip(left, 8)?;
+        skip_missing(left, answer)?;
+        skip(left, 32)?;
         let rows = take(left, 4)?;
         if !matches!(answer, 0..=12 | 255) || rows > 256 {
             return None;
@@ -121,9 +125,18 @@ fn skip_readings(left: &mut &[u8]) -> Option<()> {
     Some(())
 }
 
+/// Steps over the missing bits: 1 or more with 3, none with all else.
+fn skip_missing(left: &mut &[u8], answer: u64) -> Option<()> {
+    let missing = take(left, 8)?;
+    ((answer == 3) == (missing > 0)).then_some(())
+}
+
 fn skip_walk(left: &mut &[u8]) -> Option<()> {
     let holding = skip_lent(left)?;
-    skip(left, 1 + 8 + 8 + 8 + holding)?;
+    let stop = take(left, 1)?;
+    skip(left, 8)?;
+    skip_missing(left, stop)?;
+    skip(left, 8 + 8 + holding)?;
     let changed = take(left, 4)? as usize;
     skip(left, 4 * changed)
 }

@@ -115,8 +115,22 @@ pub fn inputs(group: &mut Group) {
         group.check("it is listed", listing(&mut &input[..], &mut output).is_ok());
         let output = String::from_utf8_lossy(&output).into_owned();
         let ends = output.lines().filter(|line| line.starts_with('E') || line.starts_with('B'));
-        group.same("an E or a B for each", ends.count(), 500);
+        group.same("an E or a B for each", ends.clone().count(), 500);
+        group.check("each of its form", ends.clone().all(is_end));
+        let short = ends.filter(|line| line.starts_with("E\t3\t")).count();
+        group.check("some with missing bits", short >= 10);
         group.check("the same seed", input == self::input(seed).0);
+    }
+}
+
+/// The last field of an E line is a number with stop 3, and `-` with all else
+/// (document 02, Ask 7); a B line has no such field.
+fn is_end(line: &str) -> bool {
+    let fields: Vec<&str> = line.split('\t').collect();
+    match fields[..] {
+        ["E", "3", _, _, _, missing] => missing.parse::<usize>().map_or(false, |bits| bits > 0),
+        ["E", _, _, _, _, "-"] | ["B", _] => true,
+        _ => false,
     }
 }
 

@@ -77,21 +77,21 @@ fn walked(holding: &Holding, bits: &[bool], room: usize) -> Walk {
 fn by_hand(group: &mut Group) {
     let empty = Holding::Empty;
     let walk = walked(&empty, &listing_bits(), 2_047);
-    group.same("1 at place 0", walk.stop, Stop { number: 1, place: 0 });
+    group.same("1 at place 0", walk.stop, Stop::plain(1, 0));
     let walk = walked(&empty, &vec![true; 50_851], 2_048);
-    group.same("2 at place 0", walk.stop, Stop { number: 2, place: 0 });
+    group.same("2 at place 0", walk.stop, Stop::plain(2, 0));
 
     let mut bits = listing_bits();
     bits.resize(181 + 30, false);
     let walk = walked(&empty, &bits, 2_048);
-    group.same("idle before the padding", walk.stop, Stop { number: 0, place: 181 });
+    group.same("idle before the padding", walk.stop, Stop::plain(0, 181));
 
     let mut bits = listing_bits();
     bits.extend(mask_bits(&[]));
     bits.extend(head_bits(3, 9));
     bits.extend(mask_bits(&[(0, 1, 0, 0, &[])]));
     let walk = walked(&empty, &bits, 2_048);
-    group.same("nothing after a refusal", walk.stop, Stop { number: 7, place: 230 });
+    group.same("nothing after a refusal", walk.stop, Stop::plain(7, 230));
     group.same("messages and rows", (walk.messages, walk.rows), (3, 2));
     group.same("the last mask before it", walk.holding, adopted(&mask_bits(&[])));
 }

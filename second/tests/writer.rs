@@ -176,5 +176,5 @@ pub fn order(group: &mut Group) {
     group.same("12 before 1", at(&mask(), &head(1, -1), 0), Err(12));
     let mut bytes = [0; 8];
     let last = write(&mask(), &HEAD, &ROWS, 2, &mut bytes, 64);
-    group.same("1 last", last, Err(Stop { number: 1, place: 64 }));
+    group.same("1 last", last, Err(Stop::plain(1, 64)));
 }

@@ -1,12 +1,13 @@
 """A stretch read field by field, with the field where it stops (document 01, "Reader's order").
 
 The listing says why and where a stretch stops, not at which field; this says it. As a program it takes lines of the
-listing's input and prints each field (place, width, name, value, bits), then the stop.
+listing's input and prints each field (place, width, name, value, bits), then the stop; of a field or a body that is
+short also how many of its bits are missing (document 02, Ask 7).
 """
 
 import re
 import sys
-from typing import NamedTuple
+from typing import NamedTuple, Optional
 
 from messages import (CLOCK, CODE, CORRECTIONS, NUMBER, PHASE, SATELLITE_PLACES, SIGNAL_PLACES, Mask, System,
                       cell_flags, cells, orbit, satellites)
@@ -17,10 +18,10 @@ SIGNED = ("radial", "along-track", "cross-track", "clock", "code bias", "phase b
 
 
 class Stop(Exception):
-    """Its number, and the field where it was given."""
+    """Its number, the field where it was given, and how many of its bits are missing where that is short."""
 
-    def __init__(self, number, field):
-        self.number, self.field = number, field
+    def __init__(self, number, field, missing=None):
+        self.number, self.field, self.missing = number, field, missing
 
 
 class Field(NamedTuple):
@@ -37,9 +38,14 @@ class Message:
         self.bits, self.place, self.held = bits, place, held
         self.taken, self.sub_type = [], None
 
+    def need(self, name, width):
+        """So many bits are left for a field or a body."""
+        missing = self.place + width - len(self.bits)
+        if missing > 0:
+            raise Stop(SHORT, name, missing)
+
     def take(self, name, width):
-        if self.place + width > len(self.bits):
-            raise Stop(SHORT, name)
+        self.need(name, width)
         value = int(self.bits[self.place:self.place + width] or "0", 2)
         self.taken.append(Field(name, self.place, width, value))
         self.place += width
@@ -116,8 +122,7 @@ class Message:
         return ids, lambda system_id: orbit(system_id) * orbits + CLOCK * clocks
 
     def body(self, columns):
-        if self.place + sum(width for _, width in columns) > len(self.bits):
-            raise Stop(SHORT, "body")
+        self.need("body", sum(width for _, width in columns))
         for name, width in columns:
             self.take(name, width)
 
@@ -128,6 +133,7 @@ class Walked(NamedTuple):
     place: int
     stopped: Message  # the message that was not accepted
     field: str  # at which field; none where idle
+    missing: Optional[int]  # of its bits; none where it is not short
     held: Mask
 
 
@@ -138,7 +144,7 @@ def walk(bits, held):
         try:
             message.read()
         except Stop as stop:
-            return Walked(messages, stop.number, place, message, stop.field, held)
+            return Walked(messages, stop.number, place, message, stop.field, stop.missing, held)
         messages.append(message)
         place, held = message.place, message.held
 
@@ -175,6 +181,11 @@ def field_line(bits, field):
     return f"{field.place:6} {field.width:3}  {field.name:14} {value:13}  {bits[field.place:field.place + field.width]}"
 
 
+def stopped_in(answer):
+    field = f", field {answer.field}" if answer.field else ""
+    return field + (f", bits missing: {answer.missing}" if answer.missing else "")
+
+
 def main():
     for number, answer in enumerate(listed(lines_of(sys.stdin.buffer)), 1):
         print(f"line {number}" + (": bad" if answer is None else ""))
@@ -182,7 +193,7 @@ def main():
             for field in message.taken:
                 print(field_line(message.bits, field))
         if answer:
-            print(f"stop {answer.stop} at {answer.place}" + (f", field {answer.field}" if answer.field else ""))
+            print(f"stop {answer.stop} at {answer.place}" + stopped_in(answer))
 
 
 if __name__ == "__main__":

@@ -3,10 +3,13 @@
 #include <inttypes.h>
 #include <string.h>
 
+#include "missing.h"
+
 hundurzek_reading take_reading(void) {
   hundurzek_reading want;
   want.answer = number(1);
   want.place = number(8);
+  want.missing = number(8);
   get(&want.head, sizeof want.head);
   want.rows = number(4);
   want.raw_offset = number(8);
@@ -34,6 +37,7 @@ void compare_reading(const buffer *bytes, const hundurzek_reading *want) {
   if (out != got) differ("another pointer is returned");
   compare("answer", got->answer, want->answer);
   compare("place", got->place, want->place);
+  compare_missing(got->answer, got->missing, want->missing);
   compare("row count", got->rows, want->rows);
   compare("raw part's offset", got->raw_offset, want->raw_offset);
   compare("raw part's count", got->raw_count, want->raw_count);

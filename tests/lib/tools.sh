@@ -69,8 +69,8 @@ agree() {
     program=$1
     shift
     second
-    compile "$program" host tests/lib/streams.c tests/lib/families.c tests/lib/readings.c tests/lib/texts.c \
-        tests/lib/writes.c ${ALSO:-}
+    compile "$program" host tests/lib/streams.c tests/lib/families.c tests/lib/missing.c \
+        tests/lib/readings.c tests/lib/texts.c tests/lib/writes.c ${ALSO:-}
     for stream; do
         target/tests/second emit $stream
     done 2>"target/tests/$program.log" | $RUN "target/tests/$program"

@@ -6,13 +6,15 @@ from itertools import zip_longest
 from pathlib import Path
 
 from checks import check, check_programs, check_remade, files, finish, read_lines
-from fields import parse
+from fields import SHORT, parse, walk
 
 FOLDER = Path("training")
 EARNED_BY_STRETCHES = ("0", "3", "4", "5", "6", "7", "8", "9", "10", "11", "B")
 EARNED_BY_CALLS = ("1", "2", "12")
 CASES_HEADER = ["case", "file", "its last answer", "accepted differs in"]
 WORKED_HEADER = ["place", "width", "field", "value"]
+LONGER_HEADER = ["file", "bits more", "answer", "place", "messages", "at the field", "needed", "left", "missing"]
+PART = 1695
 
 
 def cases():
@@ -119,6 +121,33 @@ def check_fields(case, header, rows):
         check(differ <= told, f"{case}: line {line} also differs at {sorted(differ - told)}")
 
 
+# ---- the tables of stretches made longer
+
+
+def longer(case, name, more):
+    """What a file's stretch gives with so many of the accepted one's bits behind it."""
+    bits, accepted = (parse(lines(case, each)[0]) for each in (name, "accepted"))
+    return walk(bits + accepted[len(bits):len(bits) + more], None)
+
+
+def needed_left_missing(answer):
+    """Of the field or the body that is short."""
+    left = len(answer.stopped.bits) - answer.stopped.place
+    return [left + answer.missing, left, answer.missing] if answer.stop == SHORT else ["-", "-", "-"]
+
+
+def check_longer(case, rows):
+    """Each stops as told, and one without bits more as it is listed."""
+    for name, more, *told in rows:
+        answer = longer(case, name, int(more))
+        stop = [answer.stop, answer.place, len(answer.messages), answer.field or "-"]
+        found = list(map(str, stop + needed_left_missing(answer)))
+        check(found == told, f"{case}/{name}, {more} bits more: {found}")
+        if more == "0":
+            said = listing(FOLDER / case / f"{name}.txt")[-1].split("\t")
+            check(said[1:4] + said[5:] == told[:3] + told[6:], f"{case}/{name} is listed with {said}")
+
+
 # ---- the page
 
 
@@ -146,6 +175,8 @@ def check_section(title, text):
             check_cases(rows)
         elif header == WORKED_HEADER:
             check_worked(rows)
+        elif header == LONGER_HEADER:
+            check_longer(title, rows)
         else:
             check_fields(title, header, rows)
     for block in re.findall(r"^```\n(.*?)^```$", text, re.M | re.S):
@@ -166,6 +197,27 @@ def check_mistakes():
     check(refused[67:] == careless, "mistake 3: careless is not the rest from place 67 on")
 
 
+def check_parts():
+    """The lost part: what is there is whole data parts, and what is missing of a body lies within one."""
+    case = "03-part-lost"
+    whole, two, one, foreign = (parse(lines(case, name)[0]) for name in ("accepted", "refused", "two-lost", "foreign"))
+    check(len(whole) == 3 * PART and len(foreign) == 2 * PART, f"{case}: whole data parts")
+    check(two == whole[:2 * PART] and one == whole[:PART], f"{case}: not the same subframe")
+    check(1 <= longer(case, "refused", 0).missing <= PART, f"{case}: more is missing than a part")
+    for name in ("refused", "two-lost"):
+        check_missing(case, name)
+
+
+def check_missing(case, name):
+    """What the number says: with fewer bits more the same field is short still, with that many it is not."""
+    short = longer(case, name, 0)
+    for more in range(1, short.missing + 1):
+        answer = longer(case, name, more)
+        still = (answer.stop, answer.place, answer.field) == (SHORT, short.place, short.field)
+        check(still == (more < short.missing), f"{case}/{name}: {more} bits more")
+        check(not still or answer.missing == short.missing - more, f"{case}/{name}: missing with {more} bits more")
+
+
 def check_calls():
     """calls.c prints what is expected, and each answer that a call alone earns is there."""
     printed = Path("target/tests/calls.out").read_text(encoding="ascii")
@@ -180,6 +232,7 @@ def main():
     check_page()
     check_answers()
     check_mistakes()
+    check_parts()
     check_calls()
     finish()
 

@@ -7,7 +7,7 @@ import sys
 from pathlib import Path
 
 from checks import check, check_programs, check_remade, files, finish, read_lines
-from fields import SIGNED, listed, parse
+from fields import SHORT, SIGNED, listed, parse
 from groups import late, limits, order
 
 FOLDER = Path("vectors")
@@ -55,12 +55,17 @@ def check_table(header, rows):
 
 
 def check_agreement(name, group):
-    """Read field by field, each line stops as its listing says."""
+    """Read field by field, each line stops as its listing says: number, place, messages, bits missing."""
     check(len(group.parts) == len(group.lines), f"{name}: parts of the listing")
     for number, (answer, part) in enumerate(zip(group.answers, group.parts), 1):
-        said = part[-1].split("\t")[:4]
-        want = ["B", number] if answer is None else ["E", answer.stop, answer.place, len(answer.messages)]
-        check(said == list(map(str, want)), f"{name}: line {number} is listed with {said}, read field by field {want}")
+        said = part[-1].split("\t")
+        want = list(map(str, ["B", number] if answer is None else stop_line(answer, said[4:5])))
+        check(said == want, f"{name}: line {number} is listed with {said}, read field by field {want}")
+
+
+def stop_line(answer, rows):
+    """The E line, but for how many rows: reading field by field counts none."""
+    return ["E", answer.stop, answer.place, len(answer.messages), *rows, answer.missing or "-"]
 
 
 def check_alone(groups):
@@ -69,7 +74,7 @@ def check_alone(groups):
         for number, (line, answer) in enumerate(zip(groups[name].lines, groups[name].answers), 1):
             alone = listed([line])[0]
             lost = name == "one-bit" and answer.place == 0 and answer.stop == 7 and alone.stop == 6
-            same = alone and answer and (alone.stop, alone.place) == (answer.stop, answer.place)
+            same = alone and answer and stop_line(alone, []) == stop_line(answer, [])
             check(same or lost or alone is answer is None, f"{name}: line {number} needs another one")
 
 
@@ -91,6 +96,20 @@ def check_refusals(group):
     pairs = sorted(dict.fromkeys(earned[:2] for earned in found), key=lambda pair: pair[0])
     rows = [[*pair] + [found.count((*pair, sub_type)) or "" for sub_type in (None, *SUB_TYPES)] for pair in pairs]
     check_table(["answer", "at the field", "any", *SUB_TYPES], rows)
+
+
+def check_missing(group):
+    """How many bits are missing at each field that is short; of many numbers the least and the greatest."""
+    seen, rows = {}, {}
+    for answer in group.answers:
+        if answer.stop == SHORT:
+            seen.setdefault((answer.field, answer.stopped.sub_type or "any"), set()).add(answer.missing)
+    for (field, sub_type), numbers in seen.items():
+        many = f"{len(numbers)} numbers, {min(numbers)} to {max(numbers)}"
+        said = many if len(numbers) > 3 else ", ".join(map(str, sorted(numbers)))
+        rows.setdefault((field, said), []).append(sub_type)
+    check_table(["short at the field", "bits missing", "sub types"],
+                [[*row, ", ".join(map(str, sorted(sub_types)))] for row, sub_types in rows.items()])
 
 
 def check_order(group):
@@ -193,6 +212,7 @@ def main():
     check_alone(groups)
     check_groups(groups)
     check_refusals(groups["refusals"])
+    check_missing(groups["refusals"])
     check_order(groups["order"])
     check_limits(groups["limits"])
     check_extremes(groups["extremes"])
