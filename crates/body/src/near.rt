@@ -21,7 +21,8 @@ pub fn string<'a>(near: bool, bytes: &'a [u8], zeros: &'a [u8]) -> &'a [u8]
     if near { zeros } else { bytes }
 }
 
-// The body that is written over it: for its keys alone one of gaps.
+// The body that is written over it: for its keys alone one of gaps. (A packet's parts are written in their one shape,
+// whatever is said here.)
 pub fn body(near: bool, placed: Placed) -> Placed
     ensures { λ r. ⌜ r ≡ cond near (named placed) placed ⌝ }
 {
