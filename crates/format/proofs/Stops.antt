@@ -3,16 +3,18 @@ use mathlib.Core.Path.{_≡_, refl}
 use mathlib.Core.Bool.{Bool, true, false, cond}
 use mathlib.Core.List.{List, [], _∷_}
 use Prim.Native.Nat.{ℕ, _+_}
+use native.Mathlib.Omega.{arith}
 use lib.Dec.{leb}
 use lib.IntN.{ℤ}
 use lib.ListN.{length}
 use Rattle.format.specs.declared.Refusal.{Refusal}
 use Rattle.format.specs.declared.Refusal.the-variants.{Room, Place, Value}
+use Rattle.format.specs.Answers as Answers
 use Rattle.format.specs.Assigned.{blank}
 use Rattle.format.specs.Good.{good, isHolding}
 use Rattle.format.specs.Masks.{Held, Lent, stray, lent, heldIn}
 use Rattle.format.specs.Programs.{Ended, well, badly, run}
-use Rattle.format.specs.Reading.{rowRoom, placed, Outcome, accepted, idle, refused, endedAt, readFrom, bitsFrom, lentTests, readingBy, reading, lentAfter, rowsAfter}
+use Rattle.format.specs.Reading.{rowRoom, placed, Outcome, accepted, idle, refused, endedAt, readFrom, bitsFrom, lentTests, readingBy, reading, lentAfter, answerOf, rowsAfter}
 use Rattle.format.specs.Table.{Kind, Message, table, messageBy}
 use Rattle.format.specs.Tests.{Test, verdict}
 
@@ -79,6 +81,13 @@ abbrev pub Stopped : Outcome → Type 0
 Stopped (accepted m next) = ⊥
 Stopped (idle holding) = Unit {0}
 Stopped (refused r missing holding) = Unit {0}
+
+-- what is said with a number is one
+pub said-stopped : (place : ℕ) (o : Outcome) {number at missing : ℕ} → Answers.saidAt place (answerOf o) ≡ Answers.stop number at missing → Stopped o
+unfolding Answers.saidAt answerOf
+said-stopped place (accepted m next) e = absurd (let z : _≡_ {A = ℕ} 0 1 = cc in omega arith)
+said-stopped place (idle holding) e = tt
+said-stopped place (refused r by holding) e = tt
 
 pub stop-holds : (holding : Lent) (bytes : List ℕ) (end start : ℕ) (rows : List ℤ) → Stopped (reading holding bytes end start rows)
     → lentAfter (reading holding bytes end start rows) ≡ holding

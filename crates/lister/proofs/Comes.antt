@@ -13,7 +13,7 @@ use Rattle.format.specs.Reading.{Outcome, accepted, idle, refused, answerOf, ro
 use Rattle.format.specs.Table.{Message}
 use Rattle.format.specs.Walking.{handedAt}
 use Rattle.format.specs.Writing.{rowsIn}
-use Rattle.format.proofs.Stops.{Stopped, stop-leaves}
+use Rattle.format.proofs.Stops.{Stopped, said-stopped, stop-leaves}
 use Rattle.holding.specs.Pictures.{pictureOf, lentBy}
 use Rattle.lines.specs.Records.{messageIn}
 use Rattle.lister.specs.declared.State.{State}
@@ -26,16 +26,9 @@ use Rattle.reader.proofs.RowsRead.{few-rows, accepted-eight, rows-left}
 use Rattle.walk.specs.declared.Tally.{Tally}
 use Rattle.walk.specs.Standing.{standAt, Stands}
 use Rattle.walk.proofs.Found.{Accepted, message-of}
-use Rattle.walk.proofs.Going.{nextStand, Goes, within, outcome-there, next-goes}
+use Rattle.walk.proofs.Going.{nextStand, Goes, outcome-there, next-goes}
 
--- what is said with a number is a stop
-stop-said : (place number missing : ℕ) (o : Outcome) → saidAt place (answerOf o) ≡ stop number place missing → Stopped o
-unfolding saidAt answerOf
-stop-said place number missing (accepted m next) e = absurd (let z : _≡_ {A = ℕ} 0 1 = cc in omega arith)
-stop-said place number missing (idle holding) e = tt
-stop-said place number missing (refused r by holding) e = tt
-
--- and a stop is listed as one
+-- a stop is listed as one
 lists-stop : (s : State) (bits : ℕ) (tally : Tally) (o : Outcome) (line : List ℕ) (rows : List ℤ) → Stopped o → listsAs s bits tally o line rows ≡ stopsAs s tally o line rows
 unfolding listsAs
 lists-stop s bits tally (accepted m next) line rows stopped = absurd stopped
@@ -134,7 +127,7 @@ module _ (s : State) (bits : ℕ) (tally : Tally) (line : List ℕ) (rows : List
       says = ap (saidAt (tally .place)) (sym answer) ∙ e
 
       stopped : Stopped o
-      stopped = stop-said (tally .place) number missing o says
+      stopped = said-stopped (tally .place) o says
 
       stops : d ≡ stopsAs s tally o line rows
       stops = lists-stop s bits tally o line rows stopped
