@@ -105,7 +105,7 @@ few-lines v (Cells chosen) shape sats cells fits =
     let less = cells-few (spell 64 chosen) (v .satellites) (v .strips) in
     record {
       rows = rw length-map (omega arith);
-      bits = omega (arith, cell-width (shapeAt shape) some, total-most (λ (c : Cell). shapeWidth (shapeAt shape (c .satellite .system))) 17 some (λ c. rw (one-shape (c .satellite .system) shape (fits .0 .iode)) (fits .1)));
+      bits = omega (arith, cell-width (shapeAt shape) some, total-most (λ (c : Cell). shapeWidth (shapeAt shape (c .satellite .system))) 28 some (λ c. rw (one-shape (c .satellite .system) shape (fits .0 .iode)) (fits .1)));
     }
 few-lines v (Parts n) shape sats cells fits = record { rows = omega (arith, packet-count 1 n); bits = omega (arith, packet-width 1 n) }
 
@@ -116,7 +116,7 @@ module _ (body : Body) (fits : Fits body) where
   unfolding FitsKeys
   satellites-fit known = rw known at fits
 
-  pub cells-fit : {chosen : ℕ} → body .keys ≡ Cells chosen → Narrow (shapeFor (body .shape)) × (shapeWidth (shapeAt (body .shape) 0) ≤ 17)
+  pub cells-fit : {chosen : ℕ} → body .keys ≡ Cells chosen → Narrow (shapeFor (body .shape)) × (shapeWidth (shapeAt (body .shape) 0) ≤ 28)
   unfolding FitsKeys
   cells-fit known = rw known at fits
 

@@ -51,7 +51,7 @@ total-most f k (x ∷ xs) most = omega (arith, most x, total-most f k xs most, m
 -- how many lines there are, and how wide
 pub record Few (lines : List Line) : Type 0 where
   pub rows : length lines ≤ 256
-  pub bits : bodyWidth lines ≤ 4544
+  pub bits : bodyWidth lines ≤ 7168
 
 pub few-satellites : (shape c : ℕ) (sats : List Satellite) → length sats ≤ 64 → Few (satelliteLines (shapeAt shape) (pick (spell 64 c) sats))
 unfolding satelliteLines

@@ -1,7 +1,9 @@
 // Rows of cells.
 ghost use mathlib.Core.Path.{_≡_};
+ghost use mathlib.Core.Bool.{_&&_};
 ghost use Prim.Native.Nat.{_≤_, _<_, _^_};
 ghost use lib.Count.{ones};
+ghost use lib.Dec.{leb, eqb};
 ghost use lib.ListN.{length};
 ghost use Rattle.bits.specs.BitLists.{spell};
 ghost use Rattle.body.specs.Asking.{stripedIn, Asks, AsksCells};
@@ -13,6 +15,7 @@ ghost use Rattle.format.specs.Messages.{cellLines};
 ghost use Rattle.format.specs.Reading.{over};
 ghost use Rattle.holding.specs.Held.{satellitesIn, slotSatellites};
 ghost use Rattle.rows.specs.Shapes.{columnsIn, FormedShape, Narrow};
+ghost use Rattle.table.specs.Bodies.{allSet};
 use crate::End;
 use crate::FIRST;
 use crate::Passed;
@@ -137,4 +140,31 @@ pub fn count(strips: &[u16], chosen: u64) -> usize
         i += 1;
     }
     sum
+}
+
+// Whether the first satellite of a selection is chosen, and its strip is empty.
+fn lacking(marks: u64, strip: u16) -> bool
+    ensures { λ r. ⌜ r ≡ (leb (2 ^ 63) marks && eqb strip 0) ⌝ }
+{
+    if marks < FIRST {
+        return false;
+    }
+    strip == 0
+}
+
+// Whether each satellite that is chosen has a cell, by the strips: a selection for cells names no other (document 02,
+// Ask 1).
+pub fn celled(strips: &[u16], chosen: u64) -> bool
+    ensures { λ r. ⌜ r ≡ allSet (pick (spell 64 chosen) (now (strips .entry))) ⌝ }
+{
+    let mut marks = chosen;
+    let mut i = 0;
+    while i < strips.len() {
+        if lacking(marks, strips[i]) {
+            return false;
+        }
+        marks = marks << 1;
+        i += 1;
+    }
+    true
 }

@@ -23,12 +23,12 @@ use Rattle.format.specs.declared.Head.{Head}
 use Rattle.format.specs.declared.Refusal.the-variants.{SubType}
 use Rattle.format.specs.Good.{good}
 use Rattle.format.specs.Masks.{Mask, Held, nothing, mask, Sky, skyOf}
-use Rattle.format.specs.Messages.{Common, Heading, headOf, overSatellites, overCells, orbitShape, clockShape, codeShape, phaseShape, combinedShape, flagged, packet, packetType, maskMessage, maskType}
+use Rattle.format.specs.Messages.{Common, Heading, headOf, overSatellites, overCells, Keys, bySatellite, byCell, orbitShape, clockShape, codeShape, phaseShape, biasShape, accuracyShape, combinedShape, packet, packetType, maskMessage, maskType}
 use Rattle.format.specs.Programs.{Program}
 use Rattle.format.specs.Rows.{absent, Column, Line}
 use Rattle.format.specs.Same.{sameℤ}
-use Rattle.format.specs.Spelling.{putCommon, putFlagged, putPacket, putMask}
-use Rattle.format.specs.Table.{Kind, FreeKind, MaskedKind, AdoptedKind, other, free, masked, adopts, alone, kinds, table, gate, underMask, keeping, byKind, messageBy, message, spelled}
+use Rattle.format.specs.Spelling.{putCommon, putPacket, putMask}
+use Rattle.format.specs.Table.{Kind, FreeKind, MaskedKind, AdoptedKind, other, free, masked, adopts, alone, withFlags, kinds, table, gate, underMask, keeping, byKind, messageBy, message, spelled}
 use Rattle.format.specs.Writing.{exact}
 use Rattle.fitting.specs.FitHeads.{commonFits, aloneFits, flaggedFits, packetFits, maskFits, Asks, never, freely, underIssue, ofMask, asked, askedBy, fitsAs, fits}
 use Rattle.fitting.proofs.FitHeads.{Carried, carried-reads, Fitting, alone-carried, alone-fits, packet-carried, packet-fits}
@@ -79,9 +79,9 @@ mask-told = told-mask (omega arith) mask-made mask-fits
 packet-told : Told packetType (free (record { program = packet; spelling = putPacket })) (freely packetFits)
 packet-told = told-free (omega arith) packet-carried packet-fits
 
-flagged-told : (n : ℕ) → n < 2 ^ 4 → (shape : Bool → Bool → ℕ → List Column)
-    → Told n (masked (record { program = flagged n shape; spelling = putFlagged shape })) (underIssue (flaggedFits shape))
-flagged-told n small shape = told-masked small (flagged-carried n shape) (flagged-fits n shape)
+flagged-told : (n : ℕ) → n < 2 ^ 4 → (keys : Keys) (shape : Bool → Bool → ℕ → List Column) → Told n (withFlags n keys shape) (underIssue (flaggedFits keys shape))
+unfolding withFlags
+flagged-told n small keys shape = told-masked small (flagged-carried n keys shape) (flagged-fits n keys shape)
 
 all-told : Pairs Told 0 kinds asked
 unfolding kinds asked overSatellites overCells
@@ -91,7 +91,9 @@ all-told =
     (then (alone-told 3 (omega arith) (overSatellites clockShape) (λ sky. satellite-threes clockShape (sky .satellites)))
     (then (alone-told 4 (omega arith) (overCells codeShape) (λ sky. cell-threes codeShape (sky .cells)))
     (then (alone-told 5 (omega arith) (overCells phaseShape) (λ sky. cell-threes phaseShape (sky .cells)))
-    (then neither (then neither (then neither (then neither (then packet-told (then (flagged-told 11 (omega arith) combinedShape) end)))))))))))
+    (then (flagged-told 6 (omega arith) byCell biasShape)
+    (then (alone-told 7 (omega arith) (overSatellites accuracyShape) (λ sky. satellite-threes accuracyShape (sky .satellites)))
+    (then neither (then neither (then packet-told (then (flagged-told 11 (omega arith) bySatellite combinedShape) end)))))))))))
 
 told-at : (n : ℕ) → Told n (table n) (askedBy (pos n))
 unfolding table askedBy

@@ -8,10 +8,10 @@ use lib.IntN.{ℤ, pos, negsuc}
 use lib.ListN.{length, getD}
 use Rattle.format.specs.declared.Head.{Head}
 use Rattle.format.specs.Masks.{Mask, Held, nothing, mask, Sky, skyOf}
-use Rattle.format.specs.Messages.{satelliteLines, packetLines, overSatellites, overCells, orbitShape, clockShape, codeShape, phaseShape, combinedShape}
+use Rattle.format.specs.Messages.{Keys, bySatellite, byCell, linesOf, packetLines, overSatellites, overCells, orbitShape, clockShape, codeShape, phaseShape, biasShape, accuracyShape, combinedShape}
 use Rattle.format.specs.Rows.{absent, Column, Line}
 use Rattle.format.specs.Same.{sameℤ}
-use Rattle.format.specs.Spelling.{chosenBy}
+use Rattle.format.specs.Spelling.{rowsFor, chosenBy}
 use Rattle.fitting.specs.Fits.{rowsFit}
 
 -- a number of w bits
@@ -23,12 +23,12 @@ numberFits w (negsuc n) = false
 unfoldable pub commonFits : ℕ → Head → Bool
 commonFits epochWidth h = numberFits epochWidth (h .epoch) && (numberFits 4 (h .interval) && (numberFits 1 (h .indicator) && numberFits 4 (h .iod)))
 
--- ---- behind it: 2, 3, 4 and 5
+-- ---- behind it: 2, 3, 4, 5 and 7
 
 unfoldable pub aloneFits : (Sky → List Line) → Sky → Head → List (List ℤ) → Bool
 aloneFits over sky h rows = sameℤ (h .a) absent && (sameℤ (h .b) absent && (sameℤ (h .c) absent && rowsFit (over sky) rows))
 
--- ---- 11
+-- ---- 6 and 11
 
 -- no network, or one from 1 to 31
 unfoldable pub networkFits : ℤ → Bool
@@ -36,10 +36,10 @@ networkFits (pos zero) = false
 networkFits (pos (suc n)) = ltb (suc n) 32
 networkFits (negsuc n) = sameℤ (negsuc n) absent
 
-unfoldable pub flaggedFits : (Bool → Bool → ℕ → List Column) → Sky → Head → List (List ℤ) → Bool
-flaggedFits shape sky h rows =
+unfoldable pub flaggedFits : Keys → (Bool → Bool → ℕ → List Column) → Sky → Head → List (List ℤ) → Bool
+flaggedFits keys shape sky h rows =
     numberFits 1 (h .a) && (numberFits 1 (h .b) && (networkFits (h .c)
-    && rowsFit (satelliteLines (shape (sameℤ (h .a) (pos 1)) (sameℤ (h .b) (pos 1))) (chosenBy (sky .satellites) (h .c) rows)) rows))
+    && rowsFit (linesOf keys (shape (sameℤ (h .a) (pos 1)) (sameℤ (h .b) (pos 1))) sky (chosenBy (rowsFor keys sky) (sky .satellites) (h .c) rows)) rows))
 
 -- ---- 10
 
@@ -79,9 +79,11 @@ asked =
     ∷ underIssue (aloneFits (overSatellites clockShape))
     ∷ underIssue (aloneFits (overCells codeShape))
     ∷ underIssue (aloneFits (overCells phaseShape))
-    ∷ never ∷ never ∷ never ∷ never
+    ∷ underIssue (flaggedFits byCell biasShape)
+    ∷ underIssue (aloneFits (overSatellites accuracyShape))
+    ∷ never ∷ never
     ∷ freely packetFits
-    ∷ underIssue (flaggedFits combinedShape)
+    ∷ underIssue (flaggedFits bySatellite combinedShape)
     ∷ []
 
 unfoldable pub askedBy : ℤ → Asks

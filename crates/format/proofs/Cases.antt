@@ -1,4 +1,5 @@
--- The bench cases that document 01 marks P, with 8 and 9 and two of the ways in which trainees break it, as one table: walks over bits, each with what it must say.
+-- The bench cases that document 01 marks P, with 8 and 9 and two of the ways in which trainees break it, and those of document 02's Asks 1 and 7, as one
+-- table: walks over bits, each with what it must say.
 -- Assumes nothing.
 use mathlib.Core.Path.{_≡_, refl}
 use mathlib.Core.Bool.{Bool, true}
@@ -103,6 +104,10 @@ system id sats signals = 4 ∶ id ∷ 40 ∶ sats ∷ 16 ∶ signals ∷ 1 ∶ 0
 exampleMask : List Field
 exampleMask = maskHead 3 1 ++ (4 ∶ 0 ∷ 40 ∶ 0xA000000000 ∷ 16 ∶ 0x8100 ∷ 1 ∶ 1 ∷ 4 ∶ 0xB ∷ [])
 
+-- the same with the cells 0011: satellite 1 has none
+bareMask : List Field
+bareMask = maskHead 3 1 ++ (4 ∶ 0 ∷ 40 ∶ 0xA000000000 ∷ 16 ∶ 0x8100 ∷ 1 ∶ 1 ∷ 4 ∶ 0x3 ∷ [])
+
 unfoldable pub clock : ℕ → List Field
 clock issue = head 3 issue ++ (15 ∶ 5 ∷ 15 ∶ 16384 ∷ [])
 
@@ -136,6 +141,13 @@ unsaid = "S\t-\n"
 
 exampleLine : String
 exampleLine = "S\t3\t0\tA000000000\t8100\t1\tB\n"
+
+bareLine : String
+bareLine = "S\t3\t0\tA000000000\t8100\t1\t3\n"
+
+-- a head of sub type 6 behind that mask: of so many bits, with these a, b, c, and so many rows
+saidBiases : ℕ → ℤ → ℤ → ℤ → ℕ → List ℤ
+saidBiases long a b c rows = n 114 ∷ n long ∷ n 6 ∷ n 100 ∷ n 2 ∷ n 0 ∷ n 3 ∷ a ∷ b ∷ c ∷ n rows ∷ []
 
 saidClock : List (List ℤ)
 saidClock = saidHead 114 67 3 3 2 ∷ (n 0 ∷ n 1 ∷ ∅ ∷ n 5 ∷ ∅ ∷ ∅ ∷ ∅ ∷ ∅ ∷ []) ∷ (n 0 ∷ n 3 ∷ ∅ ∷ negℤ (n 16384) ∷ ∅ ∷ ∅ ∷ ∅ ∷ ∅ ∷ []) ∷ []
@@ -204,6 +216,34 @@ cases =
     ∷ ((maskHead 3 1 ++ (system 4 0x4000000000 0xC000 ++ (head 5 3 ++ (15 ∶ 7 ∷ 2 ∶ 3 ∷ 15 ∶ 8 ∷ 2 ∶ 1 ∷ [])))) gives 0 at 181 after 2 and 2 says
     (saidMask 110 3 1 ∷ saidHead 110 71 5 3 2 ∷ (n 4 ∷ n 2 ∷ n 0 ∷ n 7 ∷ n 3 ∷ ∅ ∷ ∅ ∷ ∅ ∷ []) ∷ (n 4 ∷ n 2 ∷ n 1 ∷ n 8 ∷ n 1 ∷ ∅ ∷ ∅ ∷ ∅ ∷ []) ∷ [])
     keeps "S\t3\t4\t4000000000\tC000\t0\t-\n")
+    -- document 02, Ask 1, by the source's Tables 4.1.2-19, -20 and -22. Sub type 6 behind the example's mask, both flags, no network, three cells:
+    -- 111111101001 0110 000001100100 0010 0 0011, 1 1 0, then code bias, phase bias and indicator of each cell: 00000000101 111111111111111 10,
+    -- 10000000000 000000000000011 00, 01111111111 100000000000000 11
+    ∷ ((exampleMask ++ (head 6 3 ++ (3 ∶ 6 ∷ 11 ∶ 5 ∷ 15 ∶ 32767 ∷ 2 ∶ 2 ∷ 11 ∶ 1024 ∷ 15 ∶ 3 ∷ 2 ∶ 0 ∷ 11 ∶ 1023 ∷ 15 ∶ 16384 ∷ 2 ∶ 3 ∷ []))) gives 0 at 238 after 2 and 3 says
+    (saidMask 114 3 1 ∷ saidBiases 124 (n 1) (n 1) ∅ 3 ∷ (n 0 ∷ n 1 ∷ n 0 ∷ n 5 ∷ negℤ (n 1) ∷ n 2 ∷ ∅ ∷ ∅ ∷ []) ∷ (n 0 ∷ n 3 ∷ n 0 ∷ negℤ (n 1024) ∷ n 3 ∷ n 0 ∷ ∅ ∷ ∅ ∷ [])
+    ∷ (n 0 ∷ n 3 ∷ n 7 ∷ n 1023 ∷ negℤ (n 16384) ∷ n 3 ∷ ∅ ∷ ∅ ∷ []) ∷ [])
+    keeps exampleLine)
+    -- phase alone, network 7, whose selection 01 is of satellite 3: the same head, 0 1 1, 00111, 01, then phase bias and indicator of its two cells:
+    -- 000000000000111 01, 111111111111000 10
+    ∷ ((exampleMask ++ (head 6 3 ++ (3 ∶ 3 ∷ 5 ∶ 7 ∷ 2 ∶ 1 ∷ 15 ∶ 7 ∷ 2 ∶ 1 ∷ 15 ∶ 32760 ∷ 2 ∶ 2 ∷ []))) gives 0 at 195 after 2 and 2 says
+    (saidMask 114 3 1 ∷ saidBiases 81 (n 0) (n 1) (n 7) 2 ∷ (n 0 ∷ n 3 ∷ n 0 ∷ ∅ ∷ n 7 ∷ n 1 ∷ ∅ ∷ ∅ ∷ []) ∷ (n 0 ∷ n 3 ∷ n 7 ∷ ∅ ∷ negℤ (n 8) ∷ n 2 ∷ ∅ ∷ ∅ ∷ []) ∷ [])
+    keeps exampleLine)
+    -- sub type 7: 111111101001 0111 000001100100 0010 0 0011, then SSR URA of each satellite: 000000, 111111
+    ∷ ((exampleMask ++ (head 7 3 ++ (6 ∶ 0 ∷ 6 ∶ 63 ∷ []))) gives 0 at 163 after 2 and 2 says
+    (saidMask 114 3 1 ∷ saidHead 114 49 7 3 2 ∷ (n 0 ∷ n 1 ∷ ∅ ∷ n 0 ∷ ∅ ∷ ∅ ∷ ∅ ∷ ∅ ∷ []) ∷ (n 0 ∷ n 3 ∷ ∅ ∷ n 63 ∷ ∅ ∷ ∅ ∷ ∅ ∷ ∅ ∷ []) ∷ [])
+    keeps exampleLine)
+    -- sub type 6 where satellite 1 has no cell: without a network it has no row, and the others have, also with both flags 0; a selection that names it is
+    -- refused with 11, and so where nothing follows, before the body's 3; network 0 before the selection's 3
+    ∷ ((bareMask ++ (head 6 3 ++ (3 ∶ 0 ∷ []))) gives 0 at 154 after 2 and 2 says
+    (saidMask 114 3 1 ∷ saidBiases 40 (n 0) (n 0) ∅ 2 ∷ (n 0 ∷ n 3 ∷ n 0 ∷ ∅ ∷ ∅ ∷ ∅ ∷ ∅ ∷ ∅ ∷ []) ∷ (n 0 ∷ n 3 ∷ n 7 ∷ ∅ ∷ ∅ ∷ ∅ ∷ ∅ ∷ ∅ ∷ []) ∷ [])
+    keeps bareLine)
+    ∷ ((bareMask ++ (head 6 3 ++ (3 ∶ 5 ∷ 5 ∶ 7 ∷ 2 ∶ 1 ∷ 11 ∶ 1 ∷ 11 ∶ 2 ∷ []))) gives 0 at 183 after 2 and 2 says
+    (saidMask 114 3 1 ∷ saidBiases 69 (n 1) (n 0) (n 7) 2 ∷ (n 0 ∷ n 3 ∷ n 0 ∷ n 1 ∷ ∅ ∷ ∅ ∷ ∅ ∷ ∅ ∷ []) ∷ (n 0 ∷ n 3 ∷ n 7 ∷ n 2 ∷ ∅ ∷ ∅ ∷ ∅ ∷ ∅ ∷ []) ∷ [])
+    keeps bareLine)
+    ∷ ((bareMask ++ (head 6 3 ++ (3 ∶ 5 ∷ 5 ∶ 7 ∷ 2 ∶ 3 ∷ 11 ∶ 1 ∷ 11 ∶ 2 ∷ []))) gives 11 at 114 after 1 and 0 says (saidMask 114 3 1 ∷ []) keeps bareLine)
+    ∷ ((bareMask ++ (head 6 3 ++ (3 ∶ 5 ∷ 5 ∶ 7 ∷ 2 ∶ 2 ∷ []))) gives 11 at 114 after 1 and 0 says (saidMask 114 3 1 ∷ []) keeps bareLine)
+    ∷ ((bareMask ++ (head 6 3 ++ (3 ∶ 5 ∷ 5 ∶ 0 ∷ []))) gives 11 at 114 after 1 and 0 says (saidMask 114 3 1 ∷ []) keeps bareLine)
+    ∷ ((bareMask ++ (head 6 3 ++ (3 ∶ 5 ∷ 5 ∶ 7 ∷ 2 ∶ 1 ∷ 11 ∶ 1 ∷ []))) gives 3 missing 11 at 114 after 1 and 0 says (saidMask 114 3 1 ∷ []) keeps bareLine)
     -- how many bits of the field that is short are missing, or of the body (document 02, Ask 7): of the number; of a cell mask of four bits, which is one field;
     -- of a clock's body of 30; of the last flag of three, each of which is a field; of a selection of two bits; of a packet's body of 160
     ∷ ((1 ∶ 1 ∷ []) gives 3 missing 11 at 0 after 0 and 0 says [] keeps unsaid)
@@ -216,7 +256,7 @@ cases =
 
 -- what a reading computes with
 unfoldable pub computing : Unit {0}
-unfolding _∶_ spellAll bytesOf _at_after_and_says_ _missing_at_after_and_says_ said report n ∅ opening maskHead head system clock saidMask saidHead spell bits bytes number signed flatMap flatten saidAt numberOf Walking.messages Walking.rowCount Walking.walkOn Walking.walkFrom Walking.goOn Walking.hand Reading.readingBy Reading.lentTests Tests.verdict Reading.placed Reading.readFrom Reading.bitsFrom Reading.endedAt Reading.rowsAfter Reading.over Programs.run Programs._>>=_ Programs._>>_ Programs.later Programs.unlessShort Programs.numbered Programs.taking Programs.require Table.opening Table.messageBy Table.table Table.kinds Table.alone Table.byKind Table.keeping Table.underMask Table.gate Messages.bodied Messages.overSatellites Messages.overCells Messages.common Messages.headOf Messages.rowsAlone Messages.body Messages.satelliteLines Messages.cellLines Messages.iodeWidth Messages.orbitShape Messages.clockShape Messages.codeShape Messages.phaseShape Messages.combinedShape Messages.packetShape Messages.selection Messages.flagged Messages.packetLines Messages.packet Messages.packetHeading Messages.maskMessage Messages.systems Messages.system Messages.systemId Messages.systemMasks Messages.systemSignals Messages.systemWith Messages.systemCells Messages.flaggedCells Messages.fewCells Messages.named Assigned.known Assigned.blank Assigned.assigned Assigned.satellitePlaces Assigned.signalPlaces Masks.placesFrom Masks.pick Masks.satellitesOf Masks.pairsOf Masks.cellsOf Masks.satellites Masks.cells Masks.skyOf Masks.heldIn Rows.widthOf Rows.valueOf Rows.shapeWidth Rows.valuesOf Rows.bodyWidth Rows.rowsOf Good.isHolding Good.good Good.goodSystems Good.goodSystem Reading.lentAfter answerOf
+unfolding _∶_ spellAll bytesOf _at_after_and_says_ _missing_at_after_and_says_ said report n ∅ opening maskHead head system clock saidMask saidHead spell bits bytes number signed flatMap flatten saidAt numberOf Walking.messages Walking.rowCount Walking.walkOn Walking.walkFrom Walking.goOn Walking.hand Reading.readingBy Reading.lentTests Tests.verdict Reading.placed Reading.readFrom Reading.bitsFrom Reading.endedAt Reading.rowsAfter Reading.over Programs.run Programs._>>=_ Programs._>>_ Programs.later Programs.unlessShort Programs.numbered Programs.taking Programs.require Table.opening Table.messageBy Table.table Table.kinds Table.alone Table.withFlags Table.byKind Table.keeping Table.underMask Table.gate Messages.bodied Messages.overSatellites Messages.overCells Messages.common Messages.headOf Messages.rowsAlone Messages.body Messages.satelliteLines Messages.cellLines Messages.iodeWidth Messages.orbitShape Messages.clockShape Messages.codeShape Messages.phaseShape Messages.biasShape Messages.accuracyShape Messages.combinedShape Messages.packetShape Messages.linesOf Messages.celled Messages.nameable Messages.selection Messages.flagged Messages.packetLines Messages.packet Messages.packetHeading Messages.maskMessage Messages.systems Messages.system Messages.systemId Messages.systemMasks Messages.systemSignals Messages.systemWith Messages.systemCells Messages.flaggedCells Messages.fewCells Messages.named Assigned.known Assigned.blank Assigned.assigned Assigned.satellitePlaces Assigned.signalPlaces Masks.placesFrom Masks.pick Masks.satellitesOf Masks.pairsOf Masks.cellsOf Masks.satellites Masks.cells Masks.sameSatellite Masks.cellsOn Masks.skyOf Masks.heldIn Rows.widthOf Rows.valueOf Rows.shapeWidth Rows.valuesOf Rows.bodyWidth Rows.rowsOf Good.isHolding Good.good Good.goodSystems Good.goodSystem Reading.lentAfter answerOf
 computing = tt
 
 -- and what a text and a saved line compute with
@@ -231,7 +271,7 @@ walked c = walk (lent nothing) (c .bytes) (c .end) (replicate 2048 (pos 0))
 cases-hold :
     map (λ c. report (walked c)) cases ≡ map (λ c. c .answer) cases
     × (map (λ c. lineOf (heldIn (lentAfter (walked c .stop)))) cases ≡ map (λ c. c .line) cases)
-unfolding computing walked exampleMask saidClock unsaid exampleLine _gives_keeps_ _of_gives_keeps_ cases texts
+unfolding computing walked exampleMask bareMask saidBiases saidClock unsaid exampleLine bareLine _gives_keeps_ _of_gives_keeps_ cases texts
 cases-hold = (refl, refl)
 
 -- ---- the worked example, whole: what is listed of the customer's line, and the saved mask after it

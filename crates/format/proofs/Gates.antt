@@ -1,6 +1,6 @@
 -- A message that was read passes the writer's gate under the holding that it left: 5, 6, 7 and 11 are not for it. Assumes nothing.
 use mathlib.Core.Path.{_≡_, refl, sym, ap, subst, _∙_}
-use mathlib.Core.Bool.{Bool, true, false, not, _&&_}
+use mathlib.Core.Bool.{Bool, true, false, cond, not, _&&_}
 use mathlib.Core.List.{List}
 use Prim.Native.Nat.{ℕ, zero, suc}
 use lib.Dec.{eqb}
@@ -8,13 +8,13 @@ use lib.IntN.{ℤ, pos}
 use Rattle.format.specs.declared.Head.{Head}
 use Rattle.format.specs.declared.Refusal.the-variants.{SubType}
 use Rattle.format.specs.Good.{good}
-use Rattle.format.specs.Masks.{Held, nothing, mask, Satellite, Sky, skyOf}
-use Rattle.format.specs.Messages.{Common, common, headOf, selection, flagged, combinedShape, rowsAlone, packet, packetHeading, maskMessage, systems}
+use Rattle.format.specs.Masks.{Held, nothing, mask, Sky, skyOf}
+use Rattle.format.specs.Messages.{Common, common, headOf, Keys, selection, flagged, rowsAlone, packet, packetHeading, maskMessage, systems}
 use Rattle.format.specs.Programs.{well, run}
-use Rattle.format.specs.Rows.{Line}
+use Rattle.format.specs.Rows.{Column, Line}
 use Rattle.format.specs.Same.{sameℤ}
-use Rattle.format.specs.Table.{Message, Kind, other, free, masked, adopts, alone, kinds, table, byKind, message, kindOf}
-use Rattle.format.specs.Writing.{isOurs, hasMask, ofIssue}
+use Rattle.format.specs.Table.{Message, Kind, other, free, masked, adopts, alone, withFlags, kinds, table, byKind, message, kindOf}
+use Rattle.format.specs.Writing.{isOurs, hasMask, ofIssue, hasNetwork}
 use Rattle.format.proofs.RoundTrips.{Lawful, table-lawful}
 use Rattle.format.proofs.Sames.{sameℤ-refl}
 use Rattle.format.proofs.Selections.{satellites-distinct}
@@ -23,7 +23,7 @@ use Rattle.format.proofs.Tables.{Each, end, then, in-table, gives-messa
 
 -- the writer's test of the network
 abbrev pub networked : Head → Bool
-networked h = not (sameℤ (h .subtype) (pos 11) && sameℤ (h .c) (pos 0))
+networked h = not (hasNetwork (h .subtype) && sameℤ (h .c) (pos 0))
 
 -- the four tests of the gate
 pub record Gated (k : Kind) (held : Held) (h : Head) : Type 0 where
@@ -41,7 +41,7 @@ Networked n (masked k) = (sky : Sky) (h : Common) → Gives (k .program sky h) (
 Networked n (adopts k) = Gives (k .program) (λ d b. (networked (d .head) ≡ true) × (d .head .iod ≡ pos (d .made .iod)))
 
 mask-networked : Gives maskMessage (λ d b. (networked (d .head) ≡ true) × (d .head .iod ≡ pos (d .made .iod)))
-unfolding maskMessage headOf sameℤ
+unfolding maskMessage headOf hasNetwork sameℤ
 mask-networked =
     gives-bind (gives-itself (common 20)) λ h a _.
     gives-numbered _ _ λ count _.
@@ -49,7 +49,7 @@ mask-networked =
     gives-done (refl, refl)
 
 packet-networked : Gives packet (λ d b. networked (d .head) ≡ true)
-unfolding packet packetHeading sameℤ
+unfolding packet packetHeading hasNetwork sameℤ
 packet-networked =
     gives-numbered _ _ λ indicator _.
     gives-numbered _ _ λ counter _.
@@ -57,35 +57,38 @@ packet-networked =
     gives-done refl
 
 -- a network ID of 0 is refused, and where none is sent the column is absent
-selection-networked : (sats : List Satellite) (flag : ℕ) → Gives (selection sats flag) (λ s b. not (sameℤ (s .network) (pos 0)) ≡ true)
+selection-networked : (keys : Keys) (sky : Sky) (flag : ℕ) → Gives (selection keys sky flag) (λ s b. not (sameℤ (s .network) (pos 0)) ≡ true)
 unfolding selection sameℤ
-selection-networked sats zero = gives-done refl
-selection-networked sats (suc one) =
+selection-networked keys sky zero = gives-done refl
+selection-networked keys sky (suc one) =
     gives-numbered _ _ λ network _.
     gives-require _ _ _ λ some.
     gives-taking _ _ λ bits _.
+    gives-require _ _ _ λ _.
     gives-done some
 
-combined-networked : (sky : Sky) (h : Common) → Gives (flagged 11 combinedShape sky h) (λ d b. networked (d .head) ≡ true)
-unfolding flagged headOf sameℤ
-combined-networked sky h =
-    gives-numbered _ _ λ orbit _.
-    gives-numbered _ _ λ clock _.
+flagged-networked : (n : ℕ) → hasNetwork (pos n) ≡ true → (keys : Keys) (shape : Bool → Bool → ℕ → List Column) (sky : Sky) (h : Common)
+    → Gives (flagged n keys shape sky h) (λ d b. networked (d .head) ≡ true)
+unfolding flagged headOf
+flagged-networked n has keys shape sky h =
+    gives-numbered _ _ λ a _.
+    gives-numbered _ _ λ b _.
     gives-numbered _ _ λ flag _.
-    gives-bind (selection-networked (sky .satellites) flag) λ s b some.
-    gives-done some
+    gives-bind (selection-networked keys sky flag) λ s b some.
+    gives-done (rw has some)
 
-alone-networked : (n : ℕ) (over : Sky → List Line) → eqb n 11 ≡ false → (sky : Sky) (h : Common) → Gives (rowsAlone n over sky h) (λ d b. networked (d .head) ≡ true)
-unfolding rowsAlone headOf sameℤ
+alone-networked : (n : ℕ) (over : Sky → List Line) → hasNetwork (pos n) ≡ false → (sky : Sky) (h : Common) → Gives (rowsAlone n over sky h) (λ d b. networked (d .head) ≡ true)
+unfolding rowsAlone headOf
 alone-networked n over not sky h = gives-done (rw not)
 
 kinds-networked : Each Networked 0 kinds
-unfolding kinds alone
+unfolding kinds alone withFlags hasNetwork sameℤ
 kinds-networked =
     then tt (then mask-networked
     (then (alone-networked 2 _ refl) (then (alone-networked 3 _ refl) (then (alone-networked 4 _ refl) (then (alone-networked 5 _ refl)
-    (then tt (then tt (then tt (then tt
-    (then packet-networked (then combined-networked end)))))))))))
+    (then (flagged-networked 6 refl _ _) (then (alone-networked 7 _ refl)
+    (then tt (then tt
+    (then packet-networked (then (flagged-networked 11 refl _ _) end)))))))))))
 
 -- ---- a message
 

@@ -9,7 +9,7 @@ use Rattle.format.specs.Good.{good, isHolding}
 use Rattle.format.specs.Masks.{Held, mask, Lent, stray, lent, heldIn}
 use Rattle.format.specs.Programs.{well, run}
 use Rattle.format.specs.Reading.{bitsFrom, reading, lentAfter}
-use Rattle.format.specs.Table.{Message, Kind, other, free, masked, adopts, alone, kinds, table, underMask, byKind, message}
+use Rattle.format.specs.Table.{Message, Kind, other, free, masked, adopts, alone, withFlags, kinds, table, underMask, byKind, message}
 use Rattle.format.proofs.Makes.{makes-good}
 use Rattle.format.proofs.Steps.{Gives, gives-done, gives-refuse, gives-bind}
 use Rattle.format.proofs.Stops.{reading-ends}
@@ -25,7 +25,7 @@ AdoptsGood n (masked k) = Unit {0}
 AdoptsGood n (adopts k) = Gives (k .program) (λ d b. good (mask (d .made)) ≡ true)
 
 kinds-good : Each AdoptsGood 0 kinds
-unfolding kinds alone
+unfolding kinds alone withFlags
 kinds-good = then tt (then makes-good (then tt (then tt (then tt (then tt (then tt (then tt (then tt (then tt (then tt (then tt end)))))))))))
 
 kind-stays : (n : ℕ) (k : Kind) → AdoptsGood n k → (held : Held) → good held ≡ true → Gives (byKind k held) (λ m b. good (m .after) ≡ true)

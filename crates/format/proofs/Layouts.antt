@@ -2,7 +2,7 @@
 -- Assumes nothing.
 use mathlib.Core.Path.{_≡_, refl, ap, ap₂, _∙_}
 use mathlib.Core.Bool.{Bool, true, false, cond, false≢true}
-use mathlib.Core.List.{List, [], _++_, map}
+use mathlib.Core.List.{List, [], _++_, map, flatMap}
 use Prim.Native.Nat.{ℕ, zero, suc, _+_, _≤_, _<_}
 use native.Mathlib.Omega.{arith}
 use lib.Dec.{eqb}
@@ -14,16 +14,16 @@ use Rattle.bits.specs.Places.{field}
 use Rattle.bits.proofs.BitLists.{length-spell}
 use Rattle.format.specs.declared.Refusal.the-variants.{SubType}
 use Rattle.format.specs.Layouts as Layouts
-use Rattle.format.specs.Layouts.{allCells, allSatellites, selected, five, ofSatellite, ofCell, orbit, clock, codeBias, phaseBias, Layout, never, rowless, body, numberAt, head, masks, eight, layouts, layoutOf, headed, Follows, Means}
-use Rattle.format.specs.Masks.{Mask, Held, nothing, mask, Lent, heldIn, Satellite, Sky, satellites, cells, skyOf}
-use Rattle.format.specs.Messages.{Content, Heading, Common, common, headOf, iodeWidth, orbitShape, clockShape, codeShape, phaseShape, combinedShape, packetShape, packetLines, packetHeading, packet, satelliteLines, cellLines, overSatellites, overCells, rowsAlone, flagged, selection, systems, maskMessage}
+use Rattle.format.specs.Layouts.{allCells, allSatellites, selected, five, ofSatellite, ofCell, orbit, clock, codeBias, phaseBias, biases, accuracy, combinedRows, biasRows, Layout, never, rowless, body, numberAt, head, masks, eight, layouts, layoutOf, headed, Follows, Means}
+use Rattle.format.specs.Masks.{Mask, Held, nothing, mask, Lent, heldIn, Satellite, Cell, Sky, satellites, cells, cellsOn, skyOf}
+use Rattle.format.specs.Messages.{Content, Heading, Common, common, headOf, iodeWidth, orbitShape, clockShape, codeShape, phaseShape, biasShape, accuracyShape, combinedShape, packetShape, packetLines, packetHeading, packet, satelliteLines, cellLines, overSatellites, overCells, rowsAlone, Keys, bySatellite, byCell, linesOf, flagged, selection, systems, maskMessage}
 use Rattle.format.specs.Programs.{Program}
 use Rattle.format.specs.Reading.{accepted, bitsFrom, reading}
 use Rattle.format.specs.Rows.{Column, Line, absent, rowsOf}
 use Rattle.format.specs.Spelling.{putRows, putPacket, putFlagged, putMask}
-use Rattle.format.specs.Table.{Message, Kind, MaskedKind, other, free, masked, adopts, alone, kinds, table, keeping, byKind, message}
+use Rattle.format.specs.Table.{Message, Kind, MaskedKind, other, free, masked, adopts, alone, withFlags, kinds, table, keeping, byKind, message}
 use Rattle.format.proofs.Bodies.{All, none, more, all-map, sure}
-use Rattle.format.proofs.Lines.{all-satellites, selected-pick, all-cells, packet-parts, satellite-rows, cell-rows, combined-columns}
+use Rattle.format.proofs.Lines.{all-satellites, selected-pick, all-cells, packet-parts, satellite-rows, cell-rows, bias-columns, combined-columns}
 use Rattle.format.proofs.Rowed.{Fit, Fits, rowed}
 use Rattle.format.proofs.Runs.{taken-le}
 use Rattle.format.proofs.Stands.{Stand, stand-front, stand-back, stand-number, stand-flag, stand-taken}
@@ -114,7 +114,7 @@ masked-means n layout k at law (mask m) =
     let from : 37 + length b ≡ 16 + length (a ++ b) = rw length-append (omega (arith, it .0)) in
     (at bytes start (mask m) ∙ ap (λ (c : Bool). cond c (layout bytes start m) never) own ∙ here .0 ∙ ap (λ (p : ℕ). body (eight (d .head)) p (d .lines)) from, here .1))
 
--- 2, 3, 4 and 5: the head alone
+-- 2, 3, 4, 5 and 7: the head alone
 alone-laid : (n : ℕ) (over : Sky → List Line) (lines : Mask → List Line) → ((m : Mask) → lines m ≡ over (skyOf m)) → ((m : Mask) → All Fits (over (skyOf m)))
     → LaidUnder n (λ bytes start m. Layouts.alone bytes start (lines m)) (record { program = rowsAlone n over; spelling = putRows over })
 unfolding rowsAlone Layouts.alone
@@ -158,31 +158,39 @@ packet-means held =
       packet-fits 1 (suc size),
     ))
 
--- ---- 11
+-- ---- 6 and 11
 
 -- the network ID, the satellites that the selection selects, and where the body begins behind it; all of them, at once, when the network flag is 0
-selection-laid : (m : Mask) (flag : ℕ) → flag < 2
-    → Gives (selection (satellites (m .systems)) flag) (λ s b.
-    (bytes : List ℕ) (start : ℕ) (row : Satellite → Line) (front : ℤ → List ℤ) → Stand bytes start 40 b
+selection-laid : (keys : Keys) (m : Mask) (flag : ℕ) → flag < 2
+    → Gives (selection keys (skyOf m) flag) (λ s b.
+    (bytes : List ℕ) (start : ℕ) (of : List Satellite → List Line) (front : ℤ → List ℤ) → Stand bytes start 40 b
     → cond (eqb flag 1)
-    (body (front (numberAt bytes start 40 5)) (45 + length (allSatellites m)) (map row (selected bytes (start + 45) m)))
-    (body (front absent) 40 (map row (allSatellites m)))
-    ≡ body (front (s .network)) (40 + length b) (map row (s .chosen)))
-unfolding selection
-selection-laid m zero small = gives-done λ bytes start row front s. ap (λ (sats : List Satellite). body (front absent) 40 (map row sats)) (all-satellites m)
-selection-laid m (suc zero) small =
+    (body (front (numberAt bytes start 40 5)) (45 + length (allSatellites m)) (of (selected bytes (start + 45) m)))
+    (body (front absent) 40 (of (allSatellites m)))
+    ≡ body (front (s .network)) (40 + length b) (of (s .chosen)))
+unfolding selection skyOf
+selection-laid keys m zero small = gives-done λ bytes start of front s. ap (λ (sats : List Satellite). body (front absent) 40 (of sats)) (all-satellites m)
+selection-laid keys m (suc zero) small =
     gives-numbered _ _ λ network n.
     gives-require _ _ _ λ _.
     gives-taking _ _ λ bits whole.
-    gives-done λ bytes start row front s.
+    gives-require _ _ _ λ _.
+    gives-done λ bytes start of front s.
     let chosen = selected-pick m bits whole (stand-front bits [] (stand-back (spell 5 network) _ 5 (length-spell 5 network) s)) in
     let from : 45 + length (allSatellites m) ≡ 40 + length (spell 5 network ++ (bits ++ [])) =
     rw (all-satellites m) (simp (length-append, length-spell) (omega arith)) in
     let said = stand-number 5 network _ n s in
-    λ i. body (front (pos (said i))) (from i) (map row (chosen i))
-selection-laid m (suc (suc flag)) small = absurd (omega arith)
+    λ i. body (front (pos (said i))) (from i) (of (chosen i))
+selection-laid keys m (suc (suc flag)) small = absurd (omega arith)
 
--- the columns of 11, whatever its flags
+-- the columns, whatever the flags
+bias-fit : (codes phases : Bool) (system : ℕ) → Fit (biasShape codes phases system)
+unfolding biasShape sure
+bias-fit true true system = (refl, refl)
+bias-fit true false system = (refl, refl)
+bias-fit false true system = (refl, refl)
+bias-fit false false system = (refl, refl)
+
 combined-fit : (orbits clocks : Bool) (system : ℕ) → Fit (combinedShape orbits clocks system)
 unfolding combinedShape sure
 combined-fit true true system = (refl, refl)
@@ -190,24 +198,44 @@ combined-fit true false system = (refl, refl)
 combined-fit false true system = (refl, refl)
 combined-fit false false system = (refl, refl)
 
-flagged-laid : LaidUnder 11 Layouts.flagged (record { program = flagged 11 combinedShape; spelling = putFlagged combinedShape })
-unfolding flagged Layouts.flagged skyOf satelliteLines
-flagged-laid m h =
-    gives-numbered _ _ λ orbits o.
-    gives-numbered _ _ λ clocks c.
+-- the rows to come of some satellites are the lines of a sub type's keys, in its shape by the flags
+record Rows (keys : Keys) (shape : Bool → Bool → ℕ → List Column) (rows : Bool → Bool → Mask → List Satellite → List Line) : Type 0 where
+  same : (a b : Bool) (m : Mask) (sats : List Satellite) → rows a b m sats ≡ linesOf keys (shape a b) (skyOf m) sats
+  fits : (a b : Bool) (m : Mask) (sats : List Satellite) → All Fits (linesOf keys (shape a b) (skyOf m) sats)
+
+flagged-laid : (n : ℕ) {keys : Keys} {shape : Bool → Bool → ℕ → List Column} {rows : Bool → Bool → Mask → List Satellite → List Line} → Rows keys shape rows
+    → LaidUnder n (λ bytes start. Layouts.flagged bytes start rows) (record { program = flagged n keys shape; spelling = putFlagged keys shape })
+unfolding flagged Layouts.flagged
+flagged-laid n {keys} {shape} {rows} it m h =
+    gives-numbered _ _ λ x o.
+    gives-numbered _ _ λ y c.
     gives-numbered _ _ λ flag f.
-    gives-bind (selection-laid m flag f) λ s b it.
+    gives-bind (selection-laid keys m flag f) λ s b laid.
     gives-done λ bytes start front at.
-    let second = stand-back (spell 1 orbits) _ 1 (length-spell 1 orbits) at in
-    let third = stand-back (spell 1 clocks) _ 1 (length-spell 1 clocks) second in
+    let second = stand-back (spell 1 x) _ 1 (length-spell 1 x) at in
+    let third = stand-back (spell 1 y) _ 1 (length-spell 1 y) second in
     let fourth = stand-front b [] (stand-back (spell 1 flag) _ 1 (length-spell 1 flag) third) in
-    let from : 40 + length b ≡ 37 + length (spell 1 orbits ++ (spell 1 clocks ++ (spell 1 flag ++ (b ++ [])))) = simp (length-append, length-spell) (omega arith) in
-    let said = front (pos orbits) (pos clocks) (s .network) in
-    let rows = satellite-rows _ _ (combined-columns (eqb orbits 1) (eqb clocks 1)) (s .chosen) in (
-      rw (stand-number 1 orbits _ o at, stand-number 1 clocks _ c second, stand-flag orbits _ o at, stand-flag clocks _ c second, stand-flag flag _ f third)
-          (it bytes start _ (head bytes start (pos orbits) (pos clocks)) fourth ∙ (λ i. body (said i) (from i) (rows i))),
-      all-map _ (s .chosen) (λ sat. combined-fit (eqb orbits 1) (eqb clocks 1) (sat .system)),
+    let from : 40 + length b ≡ 37 + length (spell 1 x ++ (spell 1 y ++ (spell 1 flag ++ (b ++ [])))) = simp (length-append, length-spell) (omega arith) in
+    let said = front (pos x) (pos y) (s .network) in
+    let lines = it .same (eqb x 1) (eqb y 1) m (s .chosen) in (
+      rw (stand-number 1 x _ o at, stand-number 1 y _ c second, stand-flag x _ o at, stand-flag y _ c second, stand-flag flag _ f third)
+          (laid bytes start (rows (eqb x 1) (eqb y 1) m) (head bytes start (pos x) (pos y)) fourth ∙ (λ i. body (said i) (from i) (lines i))),
+      it .fits (eqb x 1) (eqb y 1) m (s .chosen),
     )
+
+bias-laid : Rows byCell biasShape biasRows
+unfolding biasRows linesOf cellLines skyOf
+bias-laid = record {
+  same = λ a b m sats. ap (λ (cs : List Cell). map (ofCell (biases a b)) (flatMap (cellsOn cs) sats)) (all-cells m) ∙ cell-rows (biasShape a b) (biases a b) (bias-columns a b) (flatMap (cellsOn (cells (m .systems))) sats);
+  fits = λ a b m sats. all-map _ (flatMap (cellsOn (cells (m .systems))) sats) (λ c. bias-fit a b (c .satellite .system));
+}
+
+combined-laid : Rows bySatellite combinedShape combinedRows
+unfolding combinedRows linesOf satelliteLines
+combined-laid = record {
+  same = λ a b m sats. satellite-rows _ _ (combined-columns a b) sats;
+  fits = λ a b m sats. all-map _ sats (λ s. combined-fit a b (s .system));
+}
 
 -- ---- the table
 
@@ -232,7 +260,7 @@ unfolding byKind layoutOf layouts Follows
 mask-means held = gives-bind mask-laid λ d b it. gives-done λ bytes start sub s. rw (it bytes start sub (stand-front b [] s)) (refl, refl)
 
 kinds-mean : Each MeansAt 0 kinds
-unfolding kinds alone layoutOf layouts five orbit clock codeBias phaseBias orbitShape clockShape codeShape phaseShape iodeWidth sure
+unfolding kinds alone withFlags layoutOf layouts five orbit clock codeBias phaseBias accuracy orbitShape clockShape codeShape phaseShape accuracyShape iodeWidth sure
 kinds-mean =
     then (other-means 0)
     (then mask-means
@@ -240,9 +268,11 @@ kinds-mean =
     (then (masked-means 3 _ _ (λ bytes start held. refl) (satellites-laid 3 clockShape clock (λ _. refl) (λ _. (refl, refl))))
     (then (masked-means 4 _ _ (λ bytes start held. refl) (cells-laid 4 codeShape codeBias (λ _. refl) (λ _. (refl, refl))))
     (then (masked-means 5 _ _ (λ bytes start held. refl) (cells-laid 5 phaseShape phaseBias (λ _. refl) (λ _. (refl, refl))))
-    (then (other-means 6) (then (other-means 7) (then (other-means 8) (then (other-means 9)
+    (then (masked-means 6 _ _ (λ bytes start held. refl) (flagged-laid 6 bias-laid))
+    (then (masked-means 7 _ _ (λ bytes start held. refl) (satellites-laid 7 accuracyShape accuracy (λ _. refl) (λ _. (refl, refl))))
+    (then (other-means 8) (then (other-means 9)
     (then packet-means
-    (then (masked-means 11 Layouts.flagged _ (λ bytes start held. refl) flagged-laid) Tables.end)))))))))))
+    (then (masked-means 11 _ _ (λ bytes start held. refl) (flagged-laid 11 combined-laid)) Tables.end)))))))))))
 
 -- ---- a message, and a reading
 

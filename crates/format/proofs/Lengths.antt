@@ -1,23 +1,24 @@
 -- The bits that a message took are as many as its head and the masks fix, and 37 at the least. Assumes nothing.
 use mathlib.Core.Path.{_≡_, refl, sym, ap, ap₂, _∙_}
 use mathlib.Core.Bool.{Bool, true, false, cond}
-use mathlib.Core.List.{List, [], _∷_, _++_, append-nil, map}
+use mathlib.Core.List.{List, [], _∷_, _++_, append-nil, map, flatMap}
 use Prim.Native.Nat.{ℕ, zero, suc, _+_, _*_, _≤_}
 use native.Mathlib.Nat.{zero-add, add-comm, add-assoc, mul-zero, mul-suc}
 use native.Mathlib.Omega.{arith}
 use lib.Dec.{eqb}
 use lib.IntN.{ℤ, pos, natAbs}
-use lib.ListN.{length, getD, drop, length-append}
+use lib.ListN.{length, getD, drop, length-append, length-map}
 use Rattle.bits.proofs.BitLists.{length-spell}
 use Rattle.format.specs.declared.Refusal.the-variants.{SubType}
-use Rattle.format.specs.Lengths.{total, orbitBits, combinedBits, lengths, maskOr, lengthOf}
-use Rattle.format.specs.Masks.{System, Mask, Held, nothing, mask, Satellite, Cell, satellites, cells, skyOf, Sky}
-use Rattle.format.specs.Messages.{Content, Heading, overSatellites, overCells, Common, common, headOf, satelliteLines, cellLines, iodeWidth, orbitShape, clockShape, codeShape, phaseShape, combinedShape, packetShape, packetLines, packet, rowsAlone, flagged, selection, system, systems, maskMessage, packetHeading}
+use Rattle.format.specs.Lengths.{total, orbitBits, combinedBits, biasBits, flaggedBits, lengths, maskOr, lengthOf}
+use Rattle.format.specs.Masks.{System, Mask, Held, nothing, mask, Satellite, Cell, satellites, cells, cellsOn, skyOf, Sky}
+use Rattle.format.specs.Messages.{Content, Heading, overSatellites, overCells, Common, common, headOf, satelliteLines, cellLines, iodeWidth, orbitShape, clockShape, codeShape, phaseShape, biasShape, accuracyShape, combinedShape, packetShape, packetLines, packet, rowsAlone, Keys, bySatellite, byCell, linesOf, flagged, selection, system, systems, maskMessage, packetHeading}
 use Rattle.format.specs.Programs.{Program}
 use Rattle.format.specs.Rows.{Line, Column, gap, plain, counts, absent, bodyWidth, shapeWidth, widthOf, rowsOf}
 use Rattle.format.specs.Same.{sameℤ}
 use Rattle.format.specs.Spelling.{put, putCommon, putRows, putFlagged, putPacket, putSystem, putMask}
-use Rattle.format.specs.Table.{Kind, MaskedKind, other, free, masked, adopts, table, message, keeping, byKind, kinds, alone}
+use Rattle.format.specs.Table.{Kind, MaskedKind, other, free, masked, adopts, table, message, keeping, byKind, kinds, alone, withFlags}
+use Rattle.format.proofs.Bodies.{rows-count}
 use Rattle.format.proofs.Makes.{common-gives, system-gives}
 use Rattle.format.proofs.MakesBack.{good-system}
 use Rattle.format.proofs.Tables.{Each, end, then, in-table, gives-message, keeping-gives, under-nothing, under-gives}
@@ -114,22 +115,50 @@ combined-rows orbit clock (s ∷ ss) l =
     ap₂ (λ (m n : ℕ). m + n) (sym (combined-width (eqb orbit 1) (eqb clock 1) (s .system)))
     (combined-rows orbit clock ss (drop (shapeWidth (combinedShape (eqb orbit 1) (eqb clock 1) (s .system))) l))
 
-selection-long : (sats : List Satellite) (flag : ℕ) → Gives (selection sats flag) (λ s b. length b ≡ cond (sameℤ (s .network) absent) 0 (5 + length sats))
+-- a bias row's, and all of them together: as many as there are rows
+bias-width : (code phase : Bool) (system : ℕ) → shapeWidth (biasShape code phase system) ≡ cond code 11 0 + cond phase 17 0
+unfolding shapeWidth biasShape widthOf
+bias-width true true system = refl
+bias-width true false system = refl
+bias-width false true system = refl
+bias-width false false system = refl
+
+bias-rows :
+    (code phase : ℕ) (cs : List Cell) (l : List Bool)
+    → biasBits (pos code) (pos phase) * length (rowsOf (cellLines (biasShape (eqb code 1) (eqb phase 1)) cs) l) ≡ bodyWidth (cellLines (biasShape (eqb code 1) (eqb phase 1)) cs)
+unfolding cellLines biasBits sameℤ
+bias-rows code phase cs l =
+    let shape : ℕ → List Column = biasShape (eqb code 1) (eqb phase 1) in
+    ap (λ (n : ℕ). biasBits (pos code) (pos phase) * n) (rows-count (cellLines shape cs) l ∙ length-map cs _)
+    ∙ sym (cell-width shape cs ∙ total-same _ _ cs (λ c. bias-width (eqb code 1) (eqb phase 1) (c .satellite .system)))
+
+selection-long : (keys : Keys) (sky : Sky) (flag : ℕ)
+    → Gives (selection keys sky flag) (λ s b. length b ≡ cond (sameℤ (s .network) absent) 0 (5 + length (sky .satellites)))
 unfolding selection sameℤ
-selection-long sats zero = gives-done refl
-selection-long sats (suc one) =
+selection-long keys sky zero = gives-done refl
+selection-long keys sky (suc one) =
     gives-numbered _ _ λ network _.
     gives-require _ _ _ λ _.
     gives-taking _ _ λ bits e.
+    gives-require _ _ _ λ _.
     gives-done (simp (length-append, length-spell) (omega arith))
 
-combined-long : (m : Mask) (h : Common) → Gives (flagged 11 combinedShape (skyOf m) h) (LongWith 37 11 (mask m))
-unfolding flagged skyOf headOf lengthOf lengths maskOr
+bias-long : (m : Mask) (h : Common) → Gives (flagged 6 byCell biasShape (skyOf m) h) (LongWith 37 6 (mask m))
+unfolding flagged linesOf skyOf headOf lengthOf lengths flaggedBits maskOr
+bias-long m h =
+    gives-numbered _ _ λ code _.
+    gives-numbered _ _ λ phase _.
+    gives-numbered _ _ λ flag _.
+    gives-bind (selection-long byCell (skyOf m) flag) λ s b long.
+    gives-done (refl, λ l whole. (simp (length-append, length-spell) (omega (arith, long, bias-rows code phase (flatMap (cellsOn (cells (m .systems))) (s .chosen)) l)), omega arith))
+
+combined-long : (m : Mask) (h : Common) → Gives (flagged 11 bySatellite combinedShape (skyOf m) h) (LongWith 37 11 (mask m))
+unfolding flagged linesOf skyOf headOf lengthOf lengths flaggedBits maskOr
 combined-long m h =
     gives-numbered _ _ λ orbit _.
     gives-numbered _ _ λ clock _.
     gives-numbered _ _ λ flag _.
-    gives-bind (selection-long (satellites (m .systems)) flag) λ s b long.
+    gives-bind (selection-long bySatellite (skyOf m) flag) λ s b long.
     gives-done (refl, λ l whole. (simp (length-append, length-spell) (omega (arith, long, combined-rows orbit clock (s .chosen) l)), omega arith))
 
 -- a mask's systems, one after the other
@@ -214,23 +243,29 @@ over-satellites : (shape : ℕ → List Column) (bits : ℕ → ℕ) → ((syste
 unfolding overSatellites skyOf
 over-satellites shape bits each m = ap (λ (k : ℕ). 37 + k) (satellite-width shape (satellites (m .systems)) ∙ total-each _ _ (satellites (m .systems)) (λ s. each (s .system)))
 
+over-alike : (shape : ℕ → List Column) (bits : ℕ) → ((system : ℕ) → shapeWidth (shape system) ≡ bits) → (m : Mask)
+    → 37 + bodyWidth (overSatellites shape (skyOf m)) ≡ 37 + bits * length (satellites (m .systems))
+over-alike shape bits each m = over-satellites shape (λ _. bits) each m ∙ ap (λ (k : ℕ). 37 + k) (total-same _ bits (satellites (m .systems)) (λ s. refl))
+
 over-cells : (shape : ℕ → List Column) (bits : ℕ) → ((system : ℕ) → shapeWidth (shape system) ≡ bits) → (m : Mask)
     → 37 + bodyWidth (overCells shape (skyOf m)) ≡ 37 + bits * length (cells (m .systems))
 unfolding overCells skyOf
 over-cells shape bits each m = ap (λ (k : ℕ). 37 + k) (cell-width shape (cells (m .systems)) ∙ total-same _ bits (cells (m .systems)) (λ c. each (c .satellite .system)))
 
 kinds-long : Each LongAt 0 kinds
-unfolding kinds lengths shapeWidth clockShape codeShape phaseShape widthOf
+unfolding kinds withFlags lengths shapeWidth clockShape codeShape phaseShape accuracyShape widthOf
 kinds-long =
     then (other-long 0)
     (then mask-at
     (then (alone-at 2 (overSatellites orbitShape) λ m c. over-satellites orbitShape orbitBits orbit-width m)
-    (then (alone-at 3 (overSatellites clockShape) λ m c. over-satellites clockShape (λ _. 15) (λ _. refl) m ∙ ap (λ (k : ℕ). 37 + k) (total-same _ 15 (satellites (m .systems)) (λ s. refl)))
+    (then (alone-at 3 (overSatellites clockShape) λ m c. over-alike clockShape 15 (λ _. refl) m)
     (then (alone-at 4 (overCells codeShape) λ m c. over-cells codeShape 11 (λ _. refl) m)
     (then (alone-at 5 (overCells phaseShape) λ m c. over-cells phaseShape 17 (λ _. refl) m)
-    (then (other-long 6) (then (other-long 7) (then (other-long 8) (then (other-long 9)
+    (then (masked-long 6 (record { program = flagged 6 byCell biasShape; spelling = putFlagged byCell biasShape }) bias-long)
+    (then (alone-at 7 (overSatellites accuracyShape) λ m c. over-alike accuracyShape 6 (λ _. refl) m)
+    (then (other-long 8) (then (other-long 9)
     (then packet-at
-    (then (masked-long 11 (record { program = flagged 11 combinedShape; spelling = putFlagged combinedShape }) combined-long) end)))))))))))
+    (then (masked-long 11 (record { program = flagged 11 bySatellite combinedShape; spelling = putFlagged bySatellite combinedShape }) combined-long) end)))))))))))
 
 message-lengths : (held : Held) → Gives (message held) (λ m b. Long (length b) (m .after) (m .content))
 message-lengths held =

@@ -9,9 +9,9 @@ use native.Mathlib.Omega.{arith}
 use lib.IntN.{pos}
 use lib.ListN.{length, drop, getD, length-map}
 use lib.Seq.{drop-drop, getD-drop}
-use Rattle.format.specs.Layouts.{numbers, those, places, namedBy, allSatellites, counting, cellsFrom, allCells, isSet, selected, five, ofSatellite, ofCell, ofPart, orbit, clock, combined}
+use Rattle.format.specs.Layouts.{numbers, those, places, namedBy, allSatellites, counting, cellsFrom, allCells, isSet, selected, five, ofSatellite, ofCell, ofPart, orbit, clock, codeBias, phaseBias, biases, combined}
 use Rattle.format.specs.Masks.{System, Mask, Satellite, Cell, placesFrom, pick, satellitesOf, pairsOf, cellsOf, satellites, cells}
-use Rattle.format.specs.Messages.{satelliteLines, cellLines, combinedShape, iodeWidth, packetShape, packetLines}
+use Rattle.format.specs.Messages.{satelliteLines, cellLines, biasShape, combinedShape, iodeWidth, packetShape, packetLines}
 use Rattle.format.specs.Rows.{Column, Line, absent}
 use Rattle.format.proofs.Picks.{pick-nil, pick-map, pick-append}
 use Rattle.format.proofs.Stands.{Stand, stand-bit}
@@ -143,6 +143,13 @@ module _ (shape : ℕ → List Column) where
     keys = pos (c .satellite .system) ∷ pos (c .satellite .number) ∷ pos (c .signal) ∷ [];
     shape = same (c .satellite .system) i;
   }) cs
+
+pub bias-columns : (codes phases : Bool) (system : ℕ) → five (biases codes phases) ≡ biasShape codes phases system
+unfolding five biases codeBias phaseBias biasShape
+bias-columns true true system = refl
+bias-columns true false system = refl
+bias-columns false true system = refl
+bias-columns false false system = refl
 
 pub combined-columns : (orbits clocks : Bool) (system : ℕ) → five (combined orbits clocks system) ≡ combinedShape orbits clocks system
 unfolding five combined orbit clock combinedShape iodeWidth

@@ -14,11 +14,11 @@ use Rattle.format.specs.declared.Refusal.the-variants.{Short, SubType, N
 use Rattle.format.specs.Answers.{numberOf}
 use Rattle.format.specs.Masks as Masks
 use Rattle.format.specs.Masks.{Held, nothing, mask, Sky, Satellite}
-use Rattle.format.specs.Messages.{BothMasks, Common, Heading, body, bodied, common, selection, flagged, packet, rowsAlone, systemId, systemSignals, systemMasks, fewCells, flaggedCells, systemCells, system, systems, maskMessage}
+use Rattle.format.specs.Messages.{BothMasks, Common, Heading, body, bodied, common, Keys, selection, flagged, packet, rowsAlone, systemId, systemSignals, systemMasks, fewCells, flaggedCells, systemCells, system, systems, maskMessage}
 use Rattle.format.specs.Missing.{Reason}
 use Rattle.format.specs.Programs.{Program, done, refuse, field, _>>=_, _>>_, taking, numbered, require, Ended, well, badly, later, run}
 use Rattle.format.specs.Rows.{Column, Line}
-use Rattle.format.specs.Table.{Kind, other, free, masked, adopts, alone, kinds, table, gate, underMask, keeping, byKind, opening, message, messageBy}
+use Rattle.format.specs.Table.{Kind, other, free, masked, adopts, alone, withFlags, kinds, table, gate, underMask, keeping, byKind, opening, message, messageBy}
 use Rattle.format.proofs.Runs.{run-field, run-short, later-badly, not-well}
 use Rattle.format.proofs.Tables.{Each, end, then, in-table}
 
@@ -64,10 +64,10 @@ bodied-reasoned : {p : Program Heading} → Reasoned p → Reasoned (bodied p)
 unfolding bodied body
 bodied-reasoned it = bind _ it λ d. bind _ (asks λ b. made) λ rows. made
 
-selection-reasoned : (sats : List Satellite) (flag : ℕ) → Reasoned (selection sats flag)
+selection-reasoned : (keys : Keys) (sky : Sky) (flag : ℕ) → Reasoned (selection keys sky flag)
 unfolding selection numberOf
-selection-reasoned sats zero = made
-selection-reasoned sats (suc one) = number _ _ λ _. test _ _ _ (λ e. omega arith) (bits _ _ λ _. made)
+selection-reasoned keys sky zero = made
+selection-reasoned keys sky (suc one) = number _ _ λ _. test _ _ _ (λ e. omega arith) (bits _ _ λ _. test _ _ _ (λ e. omega arith) made)
 
 id-reasoned : (ids : List ℕ) → Reasoned (systemId ids)
 unfolding systemId numberOf
@@ -100,9 +100,9 @@ rows-reasoned : (subType : ℕ) (over : Sky → List Line) (sky : Sky) (h : Comm
 unfolding rowsAlone
 rows-reasoned subType over sky h = made
 
-flagged-reasoned : (subType : ℕ) (shape : Bool → Bool → ℕ → List Column) (sky : Sky) (h : Common) → Reasoned (flagged subType shape sky h)
+flagged-reasoned : (subType : ℕ) (keys : Keys) (shape : Bool → Bool → ℕ → List Column) (sky : Sky) (h : Common) → Reasoned (flagged subType keys shape sky h)
 unfolding flagged
-flagged-reasoned subType shape sky h = number _ _ λ _. number _ _ λ _. number _ _ λ flag. bind _ (selection-reasoned _ flag) λ s. made
+flagged-reasoned subType keys shape sky h = number _ _ λ _. number _ _ λ _. number _ _ λ flag. bind _ (selection-reasoned keys sky flag) λ s. made
 
 packet-reasoned : Reasoned packet
 unfolding packet
@@ -113,13 +113,14 @@ unfolding maskMessage
 mask-reasoned = bind _ (common-reasoned 20) λ h. number _ _ λ count. bind _ (systems-reasoned count _) λ all. made
 
 kinds-reasoned : Each KindReasoned 0 kinds
-unfolding kinds alone KindReasoned
+unfolding kinds alone withFlags KindReasoned
 kinds-reasoned =
     then tt
     (then mask-reasoned
     (then (rows-reasoned _ _) (then (rows-reasoned _ _) (then (rows-reasoned _ _) (then (rows-reasoned _ _)
-    (then tt (then tt (then tt (then tt
-    (then packet-reasoned (then (flagged-reasoned _ _) end)))))))))))
+    (then (flagged-reasoned _ _ _) (then (rows-reasoned _ _)
+    (then tt (then tt
+    (then packet-reasoned (then (flagged-reasoned _ _ _) end)))))))))))
 
 gate-reasoned : (held : Held) (iod : ℕ) → Reasoned (gate held iod)
 unfolding gate numberOf

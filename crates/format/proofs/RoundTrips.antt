@@ -16,12 +16,12 @@ use Rattle.format.specs.declared.Head.{Head}
 use Rattle.format.specs.declared.Refusal.the-variants.{SubType}
 use Rattle.format.specs.Good.{good}
 use Rattle.format.specs.Masks.{Held, nothing, mask, Sky, skyOf}
-use Rattle.format.specs.Messages.{Common, headOf, orbitShape, clockShape, codeShape, phaseShape, overSatellites, overCells, combinedShape}
+use Rattle.format.specs.Messages.{Common, headOf, orbitShape, clockShape, codeShape, phaseShape, biasShape, accuracyShape, overSatellites, overCells, bySatellite, byCell, combinedShape}
 use Rattle.format.specs.Programs.{Ended, well, badly, run}
 use Rattle.format.specs.Rows.{Line}
 use Rattle.format.specs.Same.{sameList, sameℤ, sameHead}
 use Rattle.format.specs.Spelling.{put, putCommon}
-use Rattle.format.specs.Table.{Message, Kind, other, free, masked, adopts, alone, kinds, table, byKind, opening, messageBy, message, kindOf, spellKind, spelledBy, spelled, underMask}
+use Rattle.format.specs.Table.{Message, Kind, other, free, masked, adopts, alone, withFlags, kinds, table, byKind, opening, messageBy, message, kindOf, spellKind, spelledBy, spelled, underMask}
 use Rattle.format.specs.Writing.{endedWith, exact}
 use Rattle.format.proofs.Bodies.{Threes}
 use Rattle.format.proofs.Makes.{common-gives, mask-spelled}
@@ -130,14 +130,16 @@ unfolding Lawful alone headOf
 alone-lawful n over threes sky distinct h = gives-so (alone-spelled n over sky (threes sky) h) λ d b it. (rw (it .0), it .1)
 
 kinds-lawful : Each Lawful 0 kinds
-unfolding kinds Lawful overSatellites overCells
+unfolding kinds withFlags Lawful overSatellites overCells
 kinds-lawful =
     then tt (then mask-spelled
     (then (alone-lawful 2 (overSatellites orbitShape) (λ sky. satellite-threes orbitShape (sky .satellites)))
     (then (alone-lawful 3 (overSatellites clockShape) (λ sky. satellite-threes clockShape (sky .satellites)))
     (then (alone-lawful 4 (overCells codeShape) (λ sky. cell-threes codeShape (sky .cells)))
     (then (alone-lawful 5 (overCells phaseShape) (λ sky. cell-threes phaseShape (sky .cells)))
-    (then tt (then tt (then tt (then tt (then packet-spelled (then (flagged-spelled 11 combinedShape) end)))))))))))
+    (then (flagged-spelled 6 byCell biasShape)
+    (then (alone-lawful 7 (overSatellites accuracyShape) (λ sky. satellite-threes accuracyShape (sky .satellites)))
+    (then tt (then tt (then packet-spelled (then (flagged-spelled 11 bySatellite combinedShape) end)))))))))))
 
 pub table-lawful : (n : ℕ) → Lawful n (table n)
 unfolding Lawful

@@ -10,7 +10,7 @@ use lib.IntN.{ℤ, pos}
 use lib.ListN.{length, take, getD, replicate}
 use Rattle.bits.specs.Places.{bitAt, field}
 use Rattle.format.specs.declared.Head.{Head}
-use Rattle.format.specs.Masks.{System, Mask, Held, nothing, mask, Satellite, Cell}
+use Rattle.format.specs.Masks.{System, Mask, Held, nothing, mask, Satellite, Cell, cellsOn}
 use Rattle.format.specs.Messages.{Content}
 use Rattle.format.specs.Rows.{Column, gap, plain, counts, Line, absent, widthOf, valueOf, shapeWidth, bodyWidth}
 
@@ -91,9 +91,23 @@ codeBias = counts 11 ∷ []
 unfoldable pub phaseBias : List Column
 phaseBias = counts 15 ∷ plain 2 ∷ []
 
+-- 6: code bias in v1 if the code flag is 1, phase bias and discontinuity indicator in v2 and v3 if the phase flag is 1. 7: SSR URA 6
+unfoldable pub biases : Bool → Bool → List Column
+biases codes phases = cond codes codeBias (gap ∷ []) ++ cond phases phaseBias []
+
+unfoldable pub accuracy : ℕ → List Column
+accuracy system = plain 6 ∷ []
+
 -- 11: the four of 2 if the orbit flag is 1, then in v5 the clock if the clock flag is 1
 unfoldable pub combined : Bool → Bool → ℕ → List Column
 combined orbits clocks system = cond orbits (orbit system) (replicate 4 gap) ++ cond clocks (clock system) []
+
+-- the rows to come of some satellites by two flags: one of each; one of each of its cells
+unfoldable pub combinedRows : Bool → Bool → Mask → List Satellite → List Line
+combinedRows a b m sats = map (ofSatellite (combined a b)) sats
+
+unfoldable pub biasRows : Bool → Bool → Mask → List Satellite → List Line
+biasRows a b m sats = map (ofCell (biases a b)) (flatMap (cellsOn (allCells m)) sats)
 
 -- ---- the layouts
 
@@ -113,7 +127,7 @@ module _ (bytes : List ℕ) (start : ℕ) where
   abbrev pub numberAt : ℕ → ℕ → ℤ
   numberAt from w = pos (field bytes (start + from) w)
 
-  -- 2, 3, 4, 5 and 11 share a 37-bit head: number 12, sub type 4, hourly epoch 12, interval 4, indicator 1, IOD SSR 4; a, b, c
+  -- 2 to 7 and 11 share a 37-bit head: number 12, sub type 4, hourly epoch 12, interval 4, indicator 1, IOD SSR 4; a, b, c
   unfoldable pub head : ℤ → ℤ → ℤ → List ℤ
   head a b c = numberAt 12 4 ∷ numberAt 16 12 ∷ numberAt 28 4 ∷ numberAt 32 1 ∷ numberAt 33 4 ∷ a ∷ b ∷ c ∷ []
 
@@ -130,13 +144,14 @@ module _ (bytes : List ℕ) (start : ℕ) where
       body (numberAt 12 4 ∷ absent ∷ absent ∷ numberAt 16 1 ∷ absent ∷ numberAt 17 3 ∷ numberAt 20 2 ∷ absent ∷ []) 22
       (map ofPart (numbers 1 (suc (field bytes (start + 20) 2))))
 
-  -- 11: orbit flag, clock flag, network flag; if this is 1, network ID 5 and a bit for each satellite. One row per selected satellite, all of them when it is 0
-  unfoldable pub flagged : Mask → Layout
-  flagged m =
-      let row = ofSatellite (combined (isSet bytes (start + 37)) (isSet bytes (start + 38))) in
+  -- 6 and 11: two flags, of code and phase or of orbit and clock, and the network flag; if this is 1, network ID 5 and a bit for each satellite. The rows of
+  -- the selected satellites, of all of them when it is 0
+  unfoldable pub flagged : (Bool → Bool → Mask → List Satellite → List Line) → Mask → Layout
+  flagged rows m =
+      let of = rows (isSet bytes (start + 37)) (isSet bytes (start + 38)) m in
       cond (isSet bytes (start + 39))
-      (body (head (numberAt 37 1) (numberAt 38 1) (numberAt 40 5)) (45 + length (allSatellites m)) (map row (selected bytes (start + 45) m)))
-      (body (head (numberAt 37 1) (numberAt 38 1) absent) 40 (map row (allSatellites m)))
+      (body (head (numberAt 37 1) (numberAt 38 1) (numberAt 40 5)) (45 + length (allSatellites m)) (of (selected bytes (start + 45) m)))
+      (body (head (numberAt 37 1) (numberAt 38 1) absent) 40 (of (allSatellites m)))
 
   module _ (held : Held) where
     unfoldable pub headed : (Mask → Layout) → Layout
@@ -151,9 +166,11 @@ module _ (bytes : List ℕ) (start : ℕ) where
         ∷ headed (λ m. alone (map (ofSatellite clock) (allSatellites m)))
         ∷ headed (λ m. alone (map (ofCell codeBias) (allCells m)))
         ∷ headed (λ m. alone (map (ofCell phaseBias) (allCells m)))
-        ∷ never ∷ never ∷ never ∷ never
+        ∷ headed (flagged biasRows)
+        ∷ headed (λ m. alone (map (ofSatellite accuracy) (allSatellites m)))
+        ∷ never ∷ never
         ∷ parts
-        ∷ headed flagged
+        ∷ headed (flagged combinedRows)
         ∷ []
 
     unfoldable pub layoutOf : ℕ → Layout

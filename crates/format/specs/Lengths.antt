@@ -22,8 +22,16 @@ orbitBits system = cond (eqb system 2) 51 49
 unfoldable pub combinedBits : ℤ → ℤ → List ℤ → ℕ
 combinedBits orbit clock row = cond (sameℤ orbit (pos 1)) (orbitBits (natAbs (getD row 0 absent))) 0 + cond (sameℤ clock (pos 1)) 15 0
 
+-- and of sub type 6, the same for each selected cell
+unfoldable pub biasBits : ℤ → ℤ → ℕ
+biasBits code phase = cond (sameℤ code (pos 1)) 11 0 + cond (sameℤ phase (pos 1)) 17 0
+
+-- before these: 40, and 5 + Nsat with a network
+unfoldable pub flaggedBits : ℤ → ℕ → ℕ
+flaggedBits network sats = 40 + cond (sameℤ network absent) 0 (5 + sats)
+
 -- 49 plus 61 and the cell bits per system; 37 + 49 per satellite (51 for Galileo); 37 + 15 Nsat; 37 + 11 cells; 37 + 17 cells; 22 + 40(size + 1);
--- for 11, 40 + (5 + Nsat with a network) + the selected fields
+-- for 11, 40 + (5 + Nsat with a network) + the selected fields. Document 02, Ask 1: for 6 the same with its own fields; 37 + 6 Nsat
 unfoldable pub lengths : Mask → Content → List ℕ
 lengths m c =
     let sats = satellites (m .systems) in
@@ -34,9 +42,11 @@ lengths m c =
     ∷ (37 + 15 * length sats)
     ∷ (37 + 11 * length (cells (m .systems)))
     ∷ (37 + 17 * length (cells (m .systems)))
-    ∷ 0 ∷ 0 ∷ 0 ∷ 0
+    ∷ (flaggedBits (h .c) (length sats) + biasBits (h .a) (h .b) * length (c .rows))
+    ∷ (37 + 6 * length sats)
+    ∷ 0 ∷ 0
     ∷ (22 + 40 * suc (natAbs (h .b)))
-    ∷ (40 + (cond (sameℤ (h .c) absent) 0 (5 + length sats) + total (combinedBits (h .a) (h .b)) (c .rows)))
+    ∷ (flaggedBits (h .c) (length sats) + total (combinedBits (h .a) (h .b)) (c .rows))
     ∷ []
 
 -- the mask is the one held after the message; sub type 10 needs none

@@ -1,7 +1,8 @@
 -- Masks, and the satellites and cells that they name, in order.
-use mathlib.Core.Bool.{Bool, true, false, cond}
+use mathlib.Core.Bool.{Bool, true, false, cond, _&&_}
 use mathlib.Core.List.{List, [], _∷_, map, flatMap}
 use Prim.Native.Nat.{ℕ, suc}
+use lib.Dec.{eqb}
 
 -- one system of a mask message: the cell mask is empty where the cell flag is 0
 pub record System : Type 0 where
@@ -70,6 +71,14 @@ satellites systems = flatMap satellitesOf systems
 
 unfoldable pub cells : List System → List Cell
 cells systems = flatMap cellsOf systems
+
+-- of some cells those of one satellite
+unfoldable pub sameSatellite : Satellite → Satellite → Bool
+sameSatellite s t = eqb (s .system) (t .system) && eqb (s .number) (t .number)
+
+unfoldable pub cellsOn : List Cell → Satellite → List Cell
+cellsOn [] s = []
+cellsOn (c ∷ cs) s = cond (sameSatellite (c .satellite) s) (c ∷ cellsOn cs s) (cellsOn cs s)
 
 -- what a mask names, in order: a message's rows go over these
 pub record Sky : Type 0 where

@@ -1,15 +1,15 @@
 -- The messages: document 01, "Message layouts", field by field, with what each field can be refused for.
 use mathlib.Core.Bool.{Bool, true, false, cond, not, _&&_}
-use mathlib.Core.List.{List, [], _∷_, _++_, map}
+use mathlib.Core.List.{List, [], _∷_, _++_, map, flatMap}
 use Prim.Native.Nat.{ℕ, zero, suc, _+_, _*_}
-use lib.Dec.{leb, eqb}
+use lib.Dec.{leb, ltb, eqb}
 use lib.IntN.{ℤ, pos}
 use lib.ListN.{length}
 use Rattle.format.specs.declared.Head.{Head}
 use Rattle.format.specs.declared.Refusal.the-variants.{System, Reserved, Size, Network}
 use Rattle.format.specs.Assigned.{satellitePlaces, signalPlaces, known, assigned}
 use Rattle.format.specs.Masks as Masks
-use Rattle.format.specs.Masks.{Mask, Sky, Satellite, Cell, placesFrom, pick, satellites, cells}
+use Rattle.format.specs.Masks.{Mask, Sky, Satellite, Cell, placesFrom, pick, satellites, cells, cellsOn}
 use Rattle.format.specs.Programs.{Program, done, field, _>>=_, _>>_, taking, numbered, require}
 use Rattle.format.specs.Rows.{Column, gap, plain, counts, Line, absent, bodyWidth, rowsOf}
 
@@ -45,7 +45,16 @@ unfoldable pub cellLines : (ℕ → List Column) → List Cell → List Line
 cellLines shape cs =
     map (λ c. record { keys = pos (c .satellite .system) ∷ pos (c .satellite .number) ∷ pos (c .signal) ∷ []; shape = shape (c .satellite .system) }) cs
 
--- ---- the head that sub types 2, 3, 4, 5 and 11 share
+-- which of the two, and the lines of some satellites: one of each, or one of each of its cells
+pub data Keys : Type 0 where
+  bySatellite : Keys
+  byCell : Keys
+
+unfoldable pub linesOf : Keys → (ℕ → List Column) → Sky → List Satellite → List Line
+linesOf bySatellite shape sky sats = satelliteLines shape sats
+linesOf byCell shape sky sats = cellLines shape (flatMap (cellsOn (sky .cells)) sats)
+
+-- ---- the head that sub types 2 to 7 and 11 share
 
 pub record Common : Type 0 where
   pub epoch : ℕ
@@ -83,6 +92,14 @@ codeShape system = counts 11 ∷ gap ∷ gap ∷ gap ∷ gap ∷ []
 unfoldable pub phaseShape : ℕ → List Column
 phaseShape system = counts 15 ∷ plain 2 ∷ gap ∷ gap ∷ gap ∷ []
 
+-- code bias, phase bias and its discontinuity indicator, as the flags allow
+unfoldable pub biasShape : Bool → Bool → ℕ → List Column
+biasShape code phase system = cond code (counts 11) gap ∷ cond phase (counts 15) gap ∷ cond phase (plain 2) gap ∷ gap ∷ gap ∷ []
+
+-- SSR URA
+unfoldable pub accuracyShape : ℕ → List Column
+accuracyShape system = plain 6 ∷ gap ∷ gap ∷ gap ∷ gap ∷ []
+
 -- the four of sub type 2, then the clock in v5, as the flags allow
 unfoldable pub combinedShape : Bool → Bool → ℕ → List Column
 combinedShape orbit clock system =
@@ -91,7 +108,7 @@ combinedShape orbit clock system =
 unfoldable pub packetShape : List Column
 packetShape = plain 8 ∷ plain 8 ∷ plain 8 ∷ plain 8 ∷ plain 8 ∷ []
 
--- ---- 2, 3, 4 and 5: the head, then a row for each satellite or cell; over which of them and in which shape, the table says
+-- ---- 2, 3, 4, 5 and 7: the head, then a row for each satellite or cell; over which of them and in which shape, the table says
 
 unfoldable pub overSatellites : (ℕ → List Column) → Sky → List Line
 overSatellites shape sky = satelliteLines shape (sky .satellites)
@@ -102,28 +119,38 @@ overCells shape sky = cellLines shape (sky .cells)
 unfoldable pub rowsAlone : ℕ → (Sky → List Line) → Sky → Common → Program Heading
 rowsAlone subType over sky h = done (record { head = headOf subType h absent absent absent; lines = over sky })
 
--- ---- 11: flags, perhaps a network with its selection, then the selected satellites' fields
+-- ---- 6 and 11: flags, perhaps a network with its selection, then the rows of the selected satellites
+
+-- a selection for cells names no satellite without one (document 02, Ask 1)
+unfoldable pub celled : List Cell → List Satellite → Bool
+celled cells [] = true
+celled cells (s ∷ ss) = ltb 0 (length (cellsOn cells s)) && celled cells ss
+
+unfoldable pub nameable : Keys → Sky → List Satellite → Bool
+nameable bySatellite sky sats = true
+nameable byCell sky sats = celled (sky .cells) sats
 
 pub record Selected : Type 0 where
   pub network : ℤ
   pub chosen : List Satellite
 
-unfoldable pub selection : List Satellite → ℕ → Program Selected
-selection sats zero = done (record { network = absent; chosen = sats })
-selection sats (suc one) = do
+unfoldable pub selection : Keys → Sky → ℕ → Program Selected
+selection keys sky zero = done (record { network = absent; chosen = sky .satellites })
+selection keys sky (suc one) = do
   network ← numbered 5
   require (not (eqb network 0)) Network
-  bits ← taking (length sats)
-  done (record { network = pos network; chosen = pick bits sats })
+  bits ← taking (length (sky .satellites))
+  require (nameable keys sky (pick bits (sky .satellites))) Network
+  done (record { network = pos network; chosen = pick bits (sky .satellites) })
 
 -- two flags that say which columns there are
-unfoldable pub flagged : ℕ → (Bool → Bool → ℕ → List Column) → Sky → Common → Program Heading
-flagged subType shape sky h = do
+unfoldable pub flagged : ℕ → Keys → (Bool → Bool → ℕ → List Column) → Sky → Common → Program Heading
+flagged subType keys shape sky h = do
   a ← numbered 1
   b ← numbered 1
   flag ← numbered 1
-  s ← selection (sky .satellites) flag
-  done (record { head = headOf subType h (pos a) (pos b) (s .network); lines = satelliteLines (shape (eqb a 1) (eqb b 1)) (s .chosen) })
+  s ← selection keys sky flag
+  done (record { head = headOf subType h (pos a) (pos b) (s .network); lines = linesOf keys (shape (eqb a 1) (eqb b 1)) sky (s .chosen) })
 
 -- ---- 10: a packet's part, a row to 40 bits
 

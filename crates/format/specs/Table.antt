@@ -9,9 +9,9 @@ use Rattle.bits.specs.BitLists.{spell}
 use Rattle.format.specs.declared.Head.{Head}
 use Rattle.format.specs.declared.Refusal.the-variants.{Number, SubType, NoMask, OtherIssue}
 use Rattle.format.specs.Masks.{Mask, Held, nothing, mask, Sky, skyOf}
-use Rattle.format.specs.Messages.{Content, Heading, bodied, Common, common, Adopted, maskMessage, rowsAlone, overSatellites, overCells, orbitShape, clockShape, codeShape, phaseShape, combinedShape, flagged, packet}
+use Rattle.format.specs.Messages.{Content, Heading, bodied, Common, common, Adopted, maskMessage, rowsAlone, overSatellites, overCells, Keys, bySatellite, byCell, orbitShape, clockShape, codeShape, phaseShape, biasShape, accuracyShape, combinedShape, flagged, packet}
 use Rattle.format.specs.Programs.{Program, done, refuse, _>>=_, _>>_, numbered, require}
-use Rattle.format.specs.Rows.{Line}
+use Rattle.format.specs.Rows.{Column, Line}
 use Rattle.format.specs.Spelling.{put, putCommon, putRows, putFlagged, putPacket, putMask}
 
 -- a message, with what is held after it
@@ -44,6 +44,10 @@ pub data Kind : Type 0 where
 unfoldable pub alone : ℕ → (Sky → List Line) → Kind
 alone subType over = masked (record { program = rowsAlone subType over; spelling = putRows over })
 
+-- rows behind flags
+unfoldable pub withFlags : ℕ → Keys → (Bool → Bool → ℕ → List Column) → Kind
+withFlags subType keys shape = masked (record { program = flagged subType keys shape; spelling = putFlagged keys shape })
+
 unfoldable pub kinds : List Kind
 kinds =
     other
@@ -52,9 +56,11 @@ kinds =
     ∷ alone 3 (overSatellites clockShape)
     ∷ alone 4 (overCells codeShape)
     ∷ alone 5 (overCells phaseShape)
-    ∷ other ∷ other ∷ other ∷ other
+    ∷ withFlags 6 byCell biasShape
+    ∷ alone 7 (overSatellites accuracyShape)
+    ∷ other ∷ other
     ∷ free (record { program = packet; spelling = putPacket })
-    ∷ masked (record { program = flagged 11 combinedShape; spelling = putFlagged combinedShape })
+    ∷ withFlags 11 bySatellite combinedShape
     ∷ []
 
 unfoldable pub table : ℕ → Kind

@@ -1,5 +1,5 @@
 -- Writing one message: what head, rows and mask spell, if that reads back to exactly these.
-use mathlib.Core.Bool.{Bool, true, false, not, _&&_}
+use mathlib.Core.Bool.{Bool, true, false, cond, not, _&&_}
 use mathlib.Core.List.{List, [], _∷_}
 use Prim.Native.Nat.{ℕ, zero, suc, _+_, _*_, min}
 use lib.Dec.{leb, eqb}
@@ -60,6 +60,10 @@ ofIssue (masked k) (mask m) iod = sameℤ iod (pos (m .iod))
 ofIssue (adopts k) nothing iod = true
 ofIssue (adopts k) (mask m) iod = sameℤ iod (pos (m .iod))
 
+-- sub types with a network
+unfoldable pub hasNetwork : ℤ → Bool
+hasNetwork subType = cond (sameℤ subType (pos 6)) true (sameℤ subType (pos 11))
+
 -- How writing ends: with the bits written, or with the refusal of the first test that fails.
 pub data Written : Type 0 where
   wrote : List Bool → Written
@@ -80,7 +84,7 @@ writing holding h rows count bytes start =
     ∷ record { holds = isOurs kind; else = SubType }
     ∷ record { holds = hasMask kind held; else = NoMask }
     ∷ record { holds = ofIssue kind held (h .iod); else = OtherIssue }
-    ∷ record { holds = not (sameℤ (h .subtype) (pos 11) && sameℤ (h .c) (pos 0)); else = Network }
+    ∷ record { holds = not (hasNetwork (h .subtype) && sameℤ (h .c) (pos 0)); else = Network }
     ∷ record { holds = leb (8 * count) (length rows) && exact held h (rowsIn count rows); else = Value }
     ∷ record { holds = leb (start + length bits) (limit bytes); else = Room }
     ∷ [])

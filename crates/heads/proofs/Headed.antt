@@ -1,5 +1,5 @@
 -- Where crate format's programs of what a message says before its body end, each by what the code took. Assumes nothing.
-use Rattle.bits.proofs.Words.{_≡_, _∙_, Bool, true, false, not, List, [], _∷_, ℕ, _+_, _-_, _/_, _%_, _≤_, _<_, arith, eqb, length, getD, pos}
+use Rattle.bits.proofs.Words.{_≡_, ap, _∙_, Bool, true, false, not, List, [], _∷_, ℕ, _+_, _-_, _/_, _%_, _≤_, _<_, arith, eqb, length, getD, pos}
 use borrow.Author.Tests.{eq-eqb, ne-eqb, le-ltb}
 use Rattle.bits.specs.BitLists.{spell}
 use Rattle.bits.specs.declared.read.Taken.the-variants as Taken
@@ -10,15 +10,16 @@ use Rattle.format.proofs.Together.{together, partsOf, fields-whole, fields-shor
 use Rattle.format.specs.declared.Head.{Head}
 use Rattle.format.specs.declared.Refusal.the-variants.{Short, Network}
 use Rattle.format.specs.Ends.{Within, endFrom}
-use Rattle.format.specs.Masks.{Satellite, Sky, pick}
+use Rattle.format.specs.Masks.{Sky, pick}
 use Rattle.format.specs.Messages as Messages
-use Rattle.format.specs.Messages.{Selected, selection, packet, packetHeading, flagged, satelliteLines}
+use Rattle.format.specs.Messages.{Selected, Keys, nameable, selection, packet, packetHeading, flagged, linesOf}
 use Rattle.format.specs.Programs.{Program, done, _>>=_, _>>_, taking, numbered, require, well, badly, later, run}
 use Rattle.format.specs.Rows.{Column}
 use Rattle.heads.specs.declared.CommonHead.{CommonHead}
 use Rattle.heads.specs.declared.heading.Under.{Under}
 use Rattle.heads.specs.Heads.{commonOf}
 use Rattle.heads.specs.Headings.{headWith, networked, rowed, networkBy, afterFlags}
+use Rattle.table.specs.Kinds.{keysBy}
 use Rattle.table.specs.Shapes.{shapesFrom}
 
 -- ---- three fields, of which the code has a fourth of no bits
@@ -55,16 +56,16 @@ module _ {bs : List ℕ} {end place : ℕ} (at : Within bs end place) where
     -- with the flags one by one
     abbrev after-three : List ℕ → Program Messages.Heading
     after-three ns =
-        selection (sky .satellites) (getD ns 2 0)
+        selection (keysBy (u .layout)) sky (getD ns 2 0)
         >>= (λ s.
         done
         (record {
           head = headWith (u .subtype) h (pos (getD ns 0 0)) (pos (getD ns 1 0)) (s .network);
-          lines = satelliteLines (shapesFrom (u .layout .shape) (eqb (getD ns 0 0) 1) (eqb (getD ns 1 0) 1)) (s .chosen);
+          lines = linesOf (keysBy (u .layout)) (shapesFrom (u .layout .shape) (eqb (getD ns 0 0) 1) (eqb (getD ns 1 0) 1)) sky (s .chosen);
         }))
 
     abbrev flags : Program Messages.Heading
-    flags = flagged (u .subtype) (shapesFrom (u .layout .shape)) sky (commonOf h)
+    flags = flagged (u .subtype) (keysBy (u .layout)) (shapesFrom (u .layout .shape)) sky (commonOf h)
 
     pub flags-short : {m : ℕ} → takenAt bs end place 3 ≡ Taken.Short m → endFrom flags bs end place ≡ badly Short (shortBy (1 ∷ 1 ∷ 1 ∷ 0 ∷ []) (end - place))
     unfolding flagged headWith together bitsOf numbered _>>=_
@@ -79,38 +80,59 @@ module _ {bs : List ℕ} {end place : ℕ} (at : Within bs end place) where
 
   -- ---- a network and its selection
 
-  module _ (sats : List Satellite) (h : Head) (shape : ℕ → List Column) where
-    -- what is left after the network, by whether it is one
+  module _ (keys : Keys) (sky : Sky) (h : Head) (shape : ℕ → List Column) where
+    abbrev many : ℕ
+    many = length (sky .satellites)
+
+    abbrev networks : Program Messages.Heading
+    networks = networkBy keys sky h shape
+
+    -- what is left after the selection, by whether it may name whom it does, and after the network, by whether it is one
+    abbrev named : ℕ → List Bool → Bool → Program Selected
+    named network bits may = require may Network >> done (record { network = pos network; chosen = pick bits (sky .satellites) })
+
     abbrev with-bits : ℕ → List Bool → Program Selected
-    with-bits network bits = done (record { network = pos network; chosen = pick bits sats })
+    with-bits network bits = named network bits (nameable keys sky (pick bits (sky .satellites)))
 
     abbrev after-network : ℕ → Bool → Program Messages.Heading
-    after-network network some = (require some Network >> (taking (length sats) >>= with-bits network)) >>= rowed h shape
+    after-network network some = (require some Network >> (taking many >>= with-bits network)) >>= rowed keys sky h shape
 
-    pub network-short : {m : ℕ} → takenAt bs end place 5 ≡ Taken.Short m → endFrom (networkBy sats h shape) bs end place ≡ badly Short m
+    pub network-short : {m : ℕ} → takenAt bs end place 5 ≡ Taken.Short m → endFrom networks bs end place ≡ badly Short m
     unfolding networkBy selection numbered _>>=_
     network-short e = number-short at 5 e (λ n. after-network n (not (eqb n 0)))
 
     module _ {n : ℕ} (e : takenAt bs end place 5 ≡ Taken.Whole n) where
-      by-network : (b : Bool) → eqb n 0 ≡ b → endFrom (networkBy sats h shape) bs end place ≡ endFrom (after-network n (not b)) bs end (place + 5)
+      by-network : (b : Bool) → eqb n 0 ≡ b → endFrom networks bs end place ≡ endFrom (after-network n (not b)) bs end (place + 5)
       unfolding networkBy selection numbered _>>=_
       by-network b is = number-whole at 5 e (λ n. after-network n (not (eqb n 0))) ∙ rw is
 
-      pub network-none : n ≡ 0 → endFrom (networkBy sats h shape) bs end place ≡ badly Network 0
+      pub network-none : n ≡ 0 → endFrom networks bs end place ≡ badly Network 0
       unfolding require _>>_ _>>=_ endFrom run later
       network-none nought = by-network true (eq-eqb n 0 nought)
 
       module _ (some : n ≡ 0 → ⊥) where
-        pub network-cut : end - (place + 5) < length sats → endFrom (networkBy sats h shape) bs end place ≡ badly Short (length sats - (end - (place + 5)))
+        pub network-cut : end - (place + 5) < many → endFrom networks bs end place ≡ badly Short (many - (end - (place + 5)))
         unfolding require _>>_ taking _>>=_
-        network-cut short = by-network false (ne-eqb n 0 some) ∙ bits-cut (after-field at 5 e) (length sats) (λ b. with-bits n b >>= rowed h shape) short
+        network-cut short = by-network false (ne-eqb n 0 some) ∙ bits-cut (after-field at 5 e) many (λ b. with-bits n b >>= rowed keys sky h shape) short
 
-        pub network-there : length sats ≤ end - (place + 5)
-            → endFrom (networkBy sats h shape) bs end place
-            ≡ well
-            (record { head = networked h (pos n); lines = satelliteLines shape (pick (spell (length sats) (field bs (place + 5) (length sats))) sats) })
-            (place + 5 + length sats)
-        unfolding require _>>_ taking rowed _>>=_
-        network-there room =
-            by-network false (ne-eqb n 0 some)
-            ∙ bits-there (after-field at 5 e) (length sats) (λ b. with-bits n b >>= rowed h shape) (omega (arith, after-field at 5 e)) ∙ done-end _ _ _ _
+        -- where the selection is there
+        module _ (room : many ≤ end - (place + 5)) where
+          abbrev bits : List Bool
+          bits = spell many (field bs (place + 5) many)
+
+          behind : (may : Bool) → nameable keys sky (pick bits (sky .satellites)) ≡ may
+              → endFrom networks bs end place ≡ endFrom (named n bits may >>= rowed keys sky h shape) bs end (place + 5 + many)
+          unfolding require _>>_ taking _>>=_
+          behind may is =
+              by-network false (ne-eqb n 0 some)
+              ∙ bits-there (after-field at 5 e) many (λ b. with-bits n b >>= rowed keys sky h shape) (omega (arith, after-field at 5 e))
+              ∙ ap (λ (b : Bool). endFrom (named n bits b >>= rowed keys sky h shape) bs end (place + 5 + many)) is
+
+          pub network-bare : nameable keys sky (pick bits (sky .satellites)) ≡ false → endFrom networks bs end place ≡ badly Network 0
+          unfolding require _>>_ _>>=_ endFrom run later
+          network-bare bare = behind false bare
+
+          pub network-there : nameable keys sky (pick bits (sky .satellites)) ≡ true
+              → endFrom networks bs end place ≡ well (record { head = networked h (pos n); lines = linesOf keys shape sky (pick bits (sky .satellites)) }) (place + 5 + many)
+          unfolding require _>>_ rowed _>>=_
+          network-there may = behind true may ∙ done-end _ _ _ _

@@ -1,6 +1,6 @@
 -- What a message says before its body: what the code's answer means to whoever sees so many satellites, and the programs that it answers to.
 use mathlib.Core.Path.{_≡_}
-use mathlib.Core.Bool.{Bool, cond}
+use mathlib.Core.Bool.{Bool, true, cond}
 use mathlib.Core.List.{List}
 use Prim.Native.Nat.{ℕ, _+_, _-_, _*_, _/_, _%_, _^_, _≤_}
 use lib.Dec.{eqb}
@@ -9,11 +9,13 @@ use lib.ListN.{length}
 use Rattle.bits.specs.Places.{field}
 use Rattle.format.specs.declared.Head.{Head}
 use Rattle.format.specs.declared.Refusal.the-variants.{NoMask, OtherIssue}
-use Rattle.format.specs.Masks.{Sky, Satellite}
+use Rattle.format.specs.Masks.{Sky}
 use Rattle.format.specs.Messages as Messages
-use Rattle.format.specs.Messages.{Selected, selection, common, satelliteLines}
+use Rattle.format.specs.Messages.{Selected, Keys, selection, common, linesOf}
 use Rattle.format.specs.Programs.{Program, done, refuse, _>>=_, _>>_, require, Ended, well, badly}
 use Rattle.format.specs.Rows.{Column}
+use Rattle.format.proofs.Selections.{Distinct}
+use Rattle.holding.specs.Bounds.{narrow}
 use Rattle.holding.specs.Held.{View}
 use Rattle.heads.specs.declared.CommonHead.{CommonHead}
 use Rattle.heads.specs.declared.heading.Heading.{Heading}
@@ -21,12 +23,12 @@ use Rattle.heads.specs.declared.heading.Heading.the-variants.{Rows, Refu
 use Rattle.heads.specs.declared.heading.Under.{Under}
 use Rattle.heads.specs.Heads.{commonOf}
 use Rattle.table.specs.declared.Body.{Body}
-use Rattle.table.specs.declared.Keys.the-variants.{Satellites, Parts}
+use Rattle.table.specs.declared.Keys.the-variants.{Parts}
 use Rattle.table.specs.declared.Kind.{Kind}
 use Rattle.table.specs.declared.Kind.the-variants.{Other, Mask, Packet, Masked}
 use Rattle.table.specs.declared.Layout.{Layout}
 use Rattle.table.specs.Bodies.{linesIn, Fits}
-use Rattle.table.specs.Kinds.{keysFor, programBy}
+use Rattle.table.specs.Kinds.{keysFor, keysBy, programBy}
 use Rattle.table.specs.Shapes.{shapesFrom}
 
 -- the eight numbers, from the common head
@@ -37,11 +39,15 @@ headWith subType h a b c = Messages.headOf subType (commonOf h) a b c
 unfoldable pub chosenAt : List ℕ → ℕ → ℕ → ℕ
 chosenAt bs place n = field bs place n * 2 ^ (64 - n)
 
--- a view of n satellites
-pub record Shows (v : View) (n : ℕ) : Type 0 where
+-- a view of n satellites, no two of them the same, with these strips
+pub record Shows (v : View) (n : ℕ) (own : List ℕ) : Type 0 where
   pub count : length (v .satellites) ≡ n
   pub few : n ≤ 64
-  pub strips : length (v .strips) ≤ 64
+  pub apart : Distinct (v .satellites)
+  pub strips : v .strips ≡ own
+  pub covered : n ≤ length own
+  pub most : length own ≤ 64
+  pub thin : narrow 16 own ≡ true
 
 -- what an answer means: a heading that ended at a place, or a refusal
 unfoldable pub saidBy : View → Heading → Ended Messages.Heading
@@ -64,19 +70,20 @@ pub record Bodied (b : Body) (r : Heading) : Type 0 where
 
 -- ---- bodies: their keys and the number of their shape
 
--- the satellites that n bits at a place choose
-unfoldable pub chosenBody : List ℕ → ℕ → ℕ → ℕ → Body
-chosenBody bs place n shape = record { keys = Satellites (chosenAt bs place n); shape = shape }
+-- of the satellites that n bits at a place choose
+unfoldable pub chosenBody : List ℕ → ℕ → ℕ → Bool → ℕ → Body
+chosenBody bs place n cells shape = record { keys = keysFor cells (chosenAt bs place n); shape = shape }
 
 -- by three flags of a message from a start on: the last says whether there is a selection
-unfoldable pub flaggedBody : List ℕ → ℕ → ℕ → ℕ → ℕ → Body
-flaggedBody bs start n shape flags =
-    cond (eqb (flags % 2) 0) (record { keys = Satellites (2 ^ 64 - 1); shape = shape + flags / 2 }) (chosenBody bs (start + 40 + 5) n (shape + flags / 2))
+unfoldable pub flaggedBody : List ℕ → ℕ → ℕ → Layout → ℕ → Body
+flaggedBody bs start n l flags =
+    cond (eqb (flags % 2) 0) (record { keys = keysFor (l .cells) (2 ^ 64 - 1); shape = l .shape + flags / 2 })
+    (chosenBody bs (start + 40 + 5) n (l .cells) (l .shape + flags / 2))
 
 -- of a sub type that is read under the mask
 unfoldable pub maskedBody : List ℕ → ℕ → ℕ → Layout → Body
 maskedBody bs start n l =
-    cond (l .flagged) (flaggedBody bs start n (l .shape) (field bs (start + 37) 3)) (record { keys = keysFor (l .cells) (2 ^ 64 - 1); shape = l .shape })
+    cond (l .flagged) (flaggedBody bs start n l (field bs (start + 37) 3)) (record { keys = keysFor (l .cells) (2 ^ 64 - 1); shape = l .shape })
 
 -- of a packet's part
 unfoldable pub packetBody : List ℕ → ℕ → Body
@@ -91,27 +98,27 @@ bodyFor (Masked l) bs start n = maskedBody bs start n l
 
 -- ---- programs
 
--- the head with its network, and the rows of the satellites chosen
+-- the head with its network, and the rows of the satellites chosen, over their keys
 unfoldable pub networked : Head → ℤ → Head
 networked h network =
     record { subtype = h .subtype; epoch = h .epoch; interval = h .interval; indicator = h .indicator; iod = h .iod; a = h .a; b = h .b; c = network }
 
-unfoldable pub rowed : Head → (ℕ → List Column) → Selected → Program Messages.Heading
-rowed h shape s = done (record { head = networked h (s .network); lines = satelliteLines shape (s .chosen) })
+unfoldable pub rowed : Keys → Sky → Head → (ℕ → List Column) → Selected → Program Messages.Heading
+rowed keys sky h shape s = done (record { head = networked h (s .network); lines = linesOf keys shape sky (s .chosen) })
 
 -- a network and its selection
-unfoldable pub networkBy : List Satellite → Head → (ℕ → List Column) → Program Messages.Heading
-networkBy sats h shape = selection sats 1 >>= rowed h shape
+unfoldable pub networkBy : Keys → Sky → Head → (ℕ → List Column) → Program Messages.Heading
+networkBy keys sky h shape = selection keys sky 1 >>= rowed keys sky h shape
 
 -- behind the three flags
 unfoldable pub afterFlags : Under → CommonHead → ℕ → Sky → Program Messages.Heading
 afterFlags u h flags sky =
-    selection (sky .satellites) (flags % 2)
+    selection (keysBy (u .layout)) sky (flags % 2)
     >>= (λ s.
     done
     (record {
       head = headWith (u .subtype) h (pos (flags / 4)) (pos (flags / 2 % 2)) (s .network);
-      lines = satelliteLines (shapesFrom (u .layout .shape) (eqb (flags / 4) 1) (eqb (flags / 2 % 2) 1)) (s .chosen);
+      lines = linesOf (keysBy (u .layout)) (shapesFrom (u .layout .shape) (eqb (flags / 4) 1) (eqb (flags / 2 % 2) 1)) sky (s .chosen);
     }))
 
 -- the gate after IOD SSR: 6, then 7, by what is held

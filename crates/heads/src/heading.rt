@@ -1,19 +1,23 @@
 // What a message says before its body: its head, the keys and the shape of its rows and where the body begins; with
 // every refusal on the way there (document 01, "Reader's order").
 ghost use mathlib.Core.Path.{_≡_};
+ghost use mathlib.Core.Bool.{true, cond};
 ghost use mathlib.Core.List.{List};
 ghost use Prim.Native.Nat.{ℕ, _+_, _^_, _≤_, _<_};
+ghost use lib.ListN.{length, take};
+ghost use Rattle.bits.specs.BitLists.{spell};
 ghost use Rattle.bits.specs.Places.{field};
 ghost use Rattle.format.specs.Ends.{Within, endFrom};
+ghost use Rattle.format.specs.Masks.{pick};
 ghost use Rattle.format.specs.Messages as Messages;
 ghost use Rattle.holding.specs.Held.{View, skyIn};
 ghost use Rattle.heads.specs.Fronts.{Opens, Opened};
 ghost use Rattle.heads.specs.Heads.{commonOf, Small};
 ghost use Rattle.heads.specs.Headings.{headWith, chosenAt, Shows, saidBy, Bodied, chosenBody, flaggedBody, maskedBody, packetBody, bodyFor, networked, networkBy, afterFlags, gatedBy, underBy};
 ghost use Rattle.heads.specs.Sorting.{headingFor};
-ghost use Rattle.table.specs.Kinds.{LaidOut, OfTable};
-ghost use Rattle.rows.specs.Shapes.{Laid};
-ghost use Rattle.rows.specs.Table.{shapeAt, shapeFor};
+ghost use Rattle.table.specs.Bodies.{allSet, FitsKeys};
+ghost use Rattle.table.specs.Kinds.{keysFor, keysBy, LaidOut, OfTable};
+ghost use Rattle.rows.specs.Table.{shapeAt};
 ghost use Rattle.table.specs.Shapes.{shapesFrom};
 use crate::CommonHead;
 use crate::CommonTaken;
@@ -25,6 +29,7 @@ use bits::read::Taken;
 use bits::read::Widths;
 use bits::read::read_field;
 use bits::read::short_by;
+use body::cells::celled;
 use format::ABSENT;
 use format::Head;
 use format::Refusal;
@@ -41,7 +46,8 @@ pub enum Heading {
     Refused(Refusal, usize),
 }
 
-// A sub type that is read under the mask, where a mask of n satellites is held under an issue, or nothing.
+// A sub type that is read under the mask, where a mask of n satellites is held under an issue, or nothing. Their strips
+// are lent beside it.
 pub struct Under {
     pub held: bool,
     pub iod: u8,
@@ -111,12 +117,33 @@ const FLAGGED: usize = HEADED + FLAG_BITS;
 // How many bits a network has.
 const NETWORK: usize = 5;
 
-// A network and its selection of n satellites, behind which rows of a shape begin.
-fn selection(n: usize, f: Front, bytes: &[u8], numbers: Head, shape: usize) -> Heading
-    requires { ⌜ (n ≤ 64) × Laid (shapeFor shape) × Within (now bytes) (f .end) (f .start + 40) × Opens (now bytes) f ⌝ }
-    ensures { λ r. ⌜ ((v : View) → Shows v n → saidBy v r ≡ endFrom (networkBy (v .satellites) numbers (shapeAt shape)) (now (bytes .entry)) (f .end) (f .start + 40)) ⌝ }
-    ensures { λ r. ⌜ Bodied (chosenBody (now (bytes .entry)) (f .start + 40 + 5) n shape) r ⌝ }
+// Whether a selection may name whom it does: for cells, satellites that have one (document 02, Ask 1).
+fn nameable(cells: bool, strips: &[u16], n: usize, chosen: u64) -> bool
+    requires { ⌜ n ≤ length (now strips) ⌝ }
+    ensures { λ r. ⌜ r ≡ cond cells (allSet (pick (spell 64 chosen) (take n (now (strips .entry))))) true ⌝ }
 {
+    if !cells {
+        return true;
+    }
+    celled(&strips[..n], chosen)
+}
+
+// A network and its selection, behind which rows of a shape begin. What the selection can be refused for comes right
+// after it.
+fn selection(
+    under: Under,
+    strips: &[u16],
+    f: Front,
+    bytes: &[u8],
+    numbers: Head,
+    shape: usize,
+) -> Heading
+    requires { ⌜ (under .n ≤ 64) × (under .n ≤ length (now strips)) × ((chosen : ℕ) → FitsKeys (keysFor (under .layout .cells) chosen) shape) × Within (now bytes) (f .end) (f .start + 40) × Opens (now bytes) f ⌝ }
+    ensures { λ r. ⌜ ((v : View) → Shows v (under .n) (now (strips .entry)) → saidBy v r ≡ endFrom (networkBy (keysBy (under .layout)) (skyIn v) numbers (shapeAt shape)) (now (bytes .entry)) (f .end) (f .start + 40)) ⌝ }
+    ensures { λ r. ⌜ Bodied (chosenBody (now (bytes .entry)) (f .start + 40 + 5) (under .n) (under .layout .cells) shape) r ⌝ }
+{
+    let n = under.n;
+    let cells = under.layout.cells;
     let taken = taken(f, FLAGGED, NETWORK);
     match taken {
         Taken::Short(missing) => Heading::Refused(Refusal::Short, missing),
@@ -125,21 +152,33 @@ fn selection(n: usize, f: Front, bytes: &[u8], numbers: Head, shape: usize) -> H
                 return Heading::Refused(Refusal::Network, 0);
             }
             let at = f.start + FLAGGED + NETWORK;
-            if f.end - at < n {
-                return Heading::Refused(Refusal::Short, n - (f.end - at));
+            let left = f.end - at;
+            if left < n {
+                return Heading::Refused(Refusal::Short, n - left);
+            }
+            let word = chosen(bytes, at, n);
+            if !nameable(cells, strips, n, word) {
+                return Heading::Refused(Refusal::Network, 0);
             }
             let head = with_network(numbers, network as i32);
-            let keys = Keys::Satellites(chosen(bytes, at, n));
+            let keys = table::over(cells, word);
             Heading::Rows(head, Body { keys, shape }, at + n)
         }
     }
 }
 
 // By the three flags, of which the first two say which columns the rows have, and the third whether a network follows.
-fn by_flags(under: Under, f: Front, bytes: &[u8], h: CommonHead, flags: u64) -> Heading
-    requires { ⌜ (under .subtype < 16) × (under .n ≤ 64) × (under .layout .shape ≡ 0) × (flags < 8) × Small h × Within (now bytes) (f .end) (f .start + 40) × Opens (now bytes) f ⌝ }
-    ensures { λ r. ⌜ ((v : View) → Shows v (under .n) → saidBy v r ≡ endFrom (afterFlags under h flags (skyIn v)) (now (bytes .entry)) (f .end) (f .start + 40)) ⌝ }
-    ensures { λ r. ⌜ Bodied (flaggedBody (now (bytes .entry)) (f .start) (under .n) (under .layout .shape) flags) r ⌝ }
+fn by_flags(
+    under: Under,
+    strips: &[u16],
+    f: Front,
+    bytes: &[u8],
+    h: CommonHead,
+    flags: u64,
+) -> Heading
+    requires { ⌜ (under .subtype < 16) × (under .n ≤ 64) × (under .n ≤ length (now strips)) × LaidOut (under .layout) × (under .layout .flagged ≡ true) × (flags < 8) × Small h × Within (now bytes) (f .end) (f .start + 40) × Opens (now bytes) f ⌝ }
+    ensures { λ r. ⌜ ((v : View) → Shows v (under .n) (now (strips .entry)) → saidBy v r ≡ endFrom (afterFlags under h flags (skyIn v)) (now (bytes .entry)) (f .end) (f .start + 40)) ⌝ }
+    ensures { λ r. ⌜ Bodied (flaggedBody (now (bytes .entry)) (f .start) (under .n) (under .layout) flags) r ⌝ }
 {
     let shape = under.layout.shape + (flags / 2) as usize;
     let numbers = head(
@@ -150,17 +189,17 @@ fn by_flags(under: Under, f: Front, bytes: &[u8], h: CommonHead, flags: u64) -> 
         ABSENT,
     );
     if flags % 2 != 0 {
-        return selection(under.n, f, bytes, numbers, shape);
+        return selection(under, strips, f, bytes, numbers, shape);
     }
-    let keys = Keys::Satellites(ALL);
+    let keys = table::over(under.layout.cells, ALL);
     Heading::Rows(numbers, Body { keys, shape }, f.start + FLAGGED)
 }
 
 // Flags, and what they say.
-fn flagged(under: Under, f: Front, bytes: &[u8], h: CommonHead) -> Heading
-    requires { ⌜ (under .subtype < 16) × (under .n ≤ 64) × (under .layout .shape ≡ 0) × Small h × Within (now bytes) (f .end) (f .start + 37) × Opens (now bytes) f ⌝ }
-    ensures { λ r. ⌜ ((v : View) → Shows v (under .n) → saidBy v r ≡ endFrom (Messages.flagged (under .subtype) (shapesFrom (under .layout .shape)) (skyIn v) (commonOf h)) (now (bytes .entry)) (f .end) (f .start + 37)) ⌝ }
-    ensures { λ r. ⌜ Bodied (flaggedBody (now (bytes .entry)) (f .start) (under .n) (under .layout .shape) (field (now (bytes .entry)) (f .start + 37) 3)) r ⌝ }
+fn flagged(under: Under, strips: &[u16], f: Front, bytes: &[u8], h: CommonHead) -> Heading
+    requires { ⌜ (under .subtype < 16) × (under .n ≤ 64) × (under .n ≤ length (now strips)) × LaidOut (under .layout) × (under .layout .flagged ≡ true) × Small h × Within (now bytes) (f .end) (f .start + 37) × Opens (now bytes) f ⌝ }
+    ensures { λ r. ⌜ ((v : View) → Shows v (under .n) (now (strips .entry)) → saidBy v r ≡ endFrom (Messages.flagged (under .subtype) (keysBy (under .layout)) (shapesFrom (under .layout .shape)) (skyIn v) (commonOf h)) (now (bytes .entry)) (f .end) (f .start + 37)) ⌝ }
+    ensures { λ r. ⌜ Bodied (flaggedBody (now (bytes .entry)) (f .start) (under .n) (under .layout) (field (now (bytes .entry)) (f .start + 37) 3)) r ⌝ }
 {
     let taken = taken(f, HEADED, FLAG_BITS);
     match taken {
@@ -168,14 +207,14 @@ fn flagged(under: Under, f: Front, bytes: &[u8], h: CommonHead) -> Heading
             Refusal::Short,
             short_by(FLAGS, f.end - (f.start + HEADED)),
         ),
-        Taken::Whole(flags) => by_flags(under, f, bytes, h, flags),
+        Taken::Whole(flags) => by_flags(under, strips, f, bytes, h, flags),
     }
 }
 
 // The gate: nothing held, then another issue; then what follows the common head.
-fn gated(under: Under, f: Front, bytes: &[u8], h: CommonHead) -> Heading
-    requires { ⌜ (under .subtype < 16) × (under .n ≤ 64) × LaidOut (under .layout) × Small h × Within (now bytes) (f .end) (f .start + 37) × Opens (now bytes) f ⌝ }
-    ensures { λ r. ⌜ ((v : View) → Shows v (under .n) → saidBy v r ≡ endFrom (gatedBy under (skyIn v) (commonOf h)) (now (bytes .entry)) (f .end) (f .start + 37)) ⌝ }
+fn gated(under: Under, strips: &[u16], f: Front, bytes: &[u8], h: CommonHead) -> Heading
+    requires { ⌜ (under .subtype < 16) × (under .n ≤ 64) × (under .n ≤ length (now strips)) × LaidOut (under .layout) × Small h × Within (now bytes) (f .end) (f .start + 37) × Opens (now bytes) f ⌝ }
+    ensures { λ r. ⌜ ((v : View) → Shows v (under .n) (now (strips .entry)) → saidBy v r ≡ endFrom (gatedBy under (skyIn v) (commonOf h)) (now (bytes .entry)) (f .end) (f .start + 37)) ⌝ }
     ensures { λ r. ⌜ Bodied (maskedBody (now (bytes .entry)) (f .start) (under .n) (under .layout)) r ⌝ }
 {
     if !under.held {
@@ -185,7 +224,7 @@ fn gated(under: Under, f: Front, bytes: &[u8], h: CommonHead) -> Heading
         return Heading::Refused(Refusal::OtherIssue, 0);
     }
     if under.layout.flagged {
-        return flagged(under, f, bytes, h);
+        return flagged(under, strips, f, bytes, h);
     }
     let numbers = head(under.subtype, h, ABSENT, ABSENT, ABSENT);
     let keys = table::over(under.layout.cells, ALL);
@@ -194,14 +233,14 @@ fn gated(under: Under, f: Front, bytes: &[u8], h: CommonHead) -> Heading
 }
 
 // A sub type that is read under the mask, behind its number and sub type.
-fn masked(under: Under, f: Front, bytes: &[u8]) -> Heading
-    requires { ⌜ (under .subtype < 16) × (under .n ≤ 64) × LaidOut (under .layout) × Within (now bytes) (f .end) (f .start + 16) × Opens (now bytes) f ⌝ }
-    ensures { λ r. ⌜ ((v : View) → Shows v (under .n) → saidBy v r ≡ endFrom (underBy under (skyIn v)) (now (bytes .entry)) (f .end) (f .start + 16)) ⌝ }
+fn masked(under: Under, strips: &[u16], f: Front, bytes: &[u8]) -> Heading
+    requires { ⌜ (under .subtype < 16) × (under .n ≤ 64) × (under .n ≤ length (now strips)) × LaidOut (under .layout) × Within (now bytes) (f .end) (f .start + 16) × Opens (now bytes) f ⌝ }
+    ensures { λ r. ⌜ ((v : View) → Shows v (under .n) (now (strips .entry)) → saidBy v r ≡ endFrom (underBy under (skyIn v)) (now (bytes .entry)) (f .end) (f .start + 16)) ⌝ }
     ensures { λ r. ⌜ Bodied (maskedBody (now (bytes .entry)) (f .start) (under .n) (under .layout)) r ⌝ }
 {
     let common = crate::common(f);
     match common {
-        CommonTaken::Whole(h) => gated(under, f, bytes, h),
+        CommonTaken::Whole(h) => gated(under, strips, f, bytes, h),
         CommonTaken::Short(missing) => Heading::Refused(Refusal::Short, missing),
     }
 }
@@ -248,7 +287,8 @@ pub fn packet(f: Front) -> Heading
     }
 }
 
-// What is held, for a message of a sub type: a mask of n satellites under an issue, or nothing.
+// What is held, for a message of a sub type: a mask of n satellites under an issue, or nothing. Their strips are lent
+// beside it.
 pub struct Seen {
     pub held: bool,
     pub iod: u8,
@@ -257,9 +297,9 @@ pub struct Seen {
 }
 
 // A message of a kind behind its number and sub type. A mask has no body: it is read in its own way.
-pub fn of(kind: Kind, seen: Seen, f: Front, bytes: &[u8]) -> Heading
-    requires { ⌜ (seen .subtype < 16) × (seen .n ≤ 64) × OfTable kind × Within (now bytes) (f .end) (f .start + 16) × Opens (now bytes) f ⌝ }
-    ensures { λ r. ⌜ ((v : View) → Shows v (seen .n) → saidBy v r ≡ endFrom (headingFor kind seen (skyIn v)) (now (bytes .entry)) (f .end) (f .start + 16)) ⌝ }
+pub fn of(kind: Kind, seen: Seen, strips: &[u16], f: Front, bytes: &[u8]) -> Heading
+    requires { ⌜ (seen .subtype < 16) × (seen .n ≤ 64) × (seen .n ≤ length (now strips)) × OfTable kind × Within (now bytes) (f .end) (f .start + 16) × Opens (now bytes) f ⌝ }
+    ensures { λ r. ⌜ ((v : View) → Shows v (seen .n) (now (strips .entry)) → saidBy v r ≡ endFrom (headingFor kind seen (skyIn v)) (now (bytes .entry)) (f .end) (f .start + 16)) ⌝ }
     ensures { λ r. ⌜ Bodied (bodyFor kind (now (bytes .entry)) (f .start) (seen .n)) r ⌝ }
 {
     match kind {
@@ -274,7 +314,7 @@ pub fn of(kind: Kind, seen: Seen, f: Front, bytes: &[u8]) -> Heading
                 subtype: seen.subtype,
                 layout,
             };
-            masked(under, f, bytes)
+            masked(under, strips, f, bytes)
         }
     }
 }

@@ -6,6 +6,7 @@ use lib.Seq.{take-at}
 use Rattle.bits.specs.BitLists.{number}
 use Rattle.format.proofs.MakesBack.{good-system}
 use Rattle.format.proofs.Sames.{and-true}
+use Rattle.format.proofs.Selections.{Distinct, nobody, satellites-distinct}
 use Rattle.format.proofs.Steps.{field-spelled}
 use Rattle.format.specs.Good.{goodSystem, goodSystems, good}
 use Rattle.format.specs.Masks.{System, Mask, Held, nothing, mask, Satellite, satellitesOf, satellites, cells}
@@ -138,6 +139,12 @@ pub sounds : (h : Holding) → sound h ≡ true → Sounds (maskOf h) h
 sounds h e =
     let parts = picture-sound h e in
     rw (parts .1) at (picture-sounds (maskOf h) (parts .0))
+
+-- no two satellites that are held are the same
+pub held-distinct : (g : Held) → good g ≡ true → Distinct (satellitesHeld g)
+unfolding satellitesHeld
+held-distinct nothing fine = nobody
+held-distinct (mask m) fine = satellites-distinct m fine
 
 -- so few satellites and cells are held
 pub few-held : {g : Held} {h : Holding} → Sounds g h → (length (satellitesHeld g) ≤ 64) × (length (cellsHeld g) ≤ 256)

@@ -1,18 +1,16 @@
 -- The lines that code makes: a row's keys of unsigned numbers, and the shape of a system's rows. Assumes nothing.
-use Rattle.bits.proofs.Words.{_≡_, refl, _∙_, Bool, true, false, cond, List, [], _∷_, map, ℕ, suc, arith, ℤ}
+use Rattle.bits.proofs.Words.{_≡_, refl, _∙_, Bool, true, false, cond, List, [], _∷_, map, ℕ, suc, ℤ}
 use Rattle.bits.specs.BitLists.{spell}
 use Rattle.body.specs.Chosen.{alone}
 use Rattle.format.specs.Masks.{placesFrom}
-use Rattle.format.proofs.Tables.{Each, end, then, each-at}
-use Rattle.format.specs.Messages.{iodeWidth, satelliteLines, combinedShape, clockShape, codeShape, phaseShape, packetShape}
+use Rattle.format.specs.Messages.{iodeWidth, satelliteLines}
 use Rattle.format.specs.Rows.{Column}
 use Rattle.holding.specs.Held.{satellitesIn}
 use Rattle.rows.proofs.Columns.{gap-of}
 use Rattle.rows.proofs.Laid.{iode-some, orbit-formed, orbit-columns, bare-columns}
 use Rattle.rows.specs.declared.shape.Shape.{Shape}
-use Rattle.rows.specs.Shapes.{columnFor, columnsOf, columnsIn, shapeWith, orbitOf, FormedShape, Laid, Narrow}
-use Rattle.rows.specs.Table.{Listed, gaps, shapes, listed, shapeAt, shapeIn, shapeFor}
-use Rattle.matching.specs.Matching.{shapeOn, pairColumns, Paired}
+use Rattle.rows.specs.Shapes.{columnsOf, columnsIn, orbitOf, FormedShape, Laid, Narrow}
+use Rattle.matching.specs.Matching.{shapeOn, cellColumns}
 use Rattle.matching.proofs.Matching.{fitsAt}
 
 -- a row was tested by a line that is this one
@@ -48,25 +46,8 @@ module _ (s : Shape) (laid : Laid s) (system : ℕ) where
       go true = orbit-formed (iodeWidth system) (s .v5) (iode-some system refl) (formed .fifth)
       go false = formed
 
--- ---- two columns and gaps behind
+-- ---- three columns and gaps behind
 
-pub pair-columns : (s : Shape) (system : ℕ) → Paired s → pairColumns (s .v1) (s .v2) ≡ columnsIn s system
+pub cell-columns : (s : Shape) (system : ℕ) → Narrow s → cellColumns (s .v1) (s .v2) (s .v3) ≡ columnsIn s system
 unfolding columnsIn
-pair-columns s system two = rw (two .narrow .iode, gap-of (s .v3) (two .third), gap-of (s .v4) (two .narrow .fourth), gap-of (s .v5) (two .narrow .fifth))
-
--- in the table of shapes there is no third column without a fourth
-abbrev ThirdGap : Listed → Type 0
-ThirdGap l = let s = shapeWith (l .iode) (l .columns 0) in s .v4 .width ≡ 0 → s .v3 .width ≡ 0
-
-thick : {A : Type 0} {n : ℕ} → suc n ≡ 0 → A
-thick e = absurd (omega (arith, e))
-
-third-gaps : Each (λ _. ThirdGap) 0 shapes
-unfolding shapes shapeWith columnFor combinedShape clockShape codeShape phaseShape packetShape
-third-gaps =
-    then (λ _. refl) (then (λ _. refl) (then thick (then thick (then (λ _. refl) (then (λ _. refl) (then (λ _. refl)
-    (then thick end)))))))
-
-pub narrow-paired : (i : ℕ) → Narrow (shapeFor i) → Paired (shapeFor i)
-unfolding listed shapeAt shapeIn shapeWith columnFor combinedShape
-narrow-paired i thin = record { narrow = thin; third = each-at gaps third-gaps (λ _ _. refl) i (thin .fourth) }
+cell-columns s system narrow = rw (narrow .iode, gap-of (s .v4) (narrow .fourth), gap-of (s .v5) (narrow .fifth))

@@ -78,8 +78,8 @@ module _ (r : List ℤ) (eight : length r ≡ 8) where
         and-assoc (columnFits (columnOf (s .v3)) (number 5)) (columnFits (columnOf (s .v4)) (number 6)) (columnFits (columnOf (s .v5)) (number 7)),
       )
 
-  -- and where behind two columns there are gaps
-  pub pair-by : (a b : Column) → valuesFit (a ∷ b ∷ gap ∷ gap ∷ gap ∷ []) (drop 3 r)
-      ≡ (columnFits a (number 3) && (columnFits b (number 4) && (sameℤ (number 5) absent && (sameℤ (number 6) absent && sameℤ (number 7) absent))))
+  -- and where behind three columns there are gaps
+  pub cell-by : (a b c : Column) → valuesFit (a ∷ b ∷ c ∷ gap ∷ gap ∷ []) (drop 3 r)
+      ≡ (columnFits a (number 3) && (columnFits b (number 4) && (columnFits c (number 5) && (sameℤ (number 6) absent && sameℤ (number 7) absent))))
   unfolding columnFits
-  pair-by a b = values-by a b gap gap gap
+  cell-by a b c = values-by a b c gap gap

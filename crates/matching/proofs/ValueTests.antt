@@ -157,7 +157,7 @@ row-valued s sat (x ∷ y ∷ z ∷ vs) e =
     let second : y ≡ pos (sat .number) = cc in
     rw (first, second, sameℤ-refl (pos (sat .system)), sameℤ-refl (pos (sat .number)), and-true (sameℤ z absent), own-columns s (sat .system))
 
--- ---- and rows by which a selection was told
+-- ---- and rows by which a selection was told, one for each satellite
 
 -- what is tested apart may be tested in another order
 swap : (a b c : Bool) → (a && (b && c)) ≡ (b && (a && c))
@@ -166,9 +166,9 @@ swap true false c = refl
 swap false true c = refl
 swap false false c = refl
 
-module _ (s : Shape) where
+module _ (s : Shape) (own : Satellite → ℕ) (one : (sat : Satellite) → own sat ≡ 1) where
   abbrev told : List Satellite → List (List ℤ) → List Satellite
-  told sats rows = pick (marks sats rows) sats
+  told sats rows = pick (marks own sats rows) sats
 
   abbrev fit : List Satellite → List (List ℤ) → Bool
   fit sats rows = rowsFit (satelliteLines (columnsIn s) (told sats rows)) rows
@@ -182,10 +182,10 @@ module _ (s : Shape) where
   told-valued [] [] = refl
   told-valued [] (r ∷ rs) = rw (eqb·zero-suc (length rs))
   told-valued (sat ∷ sats) [] = told-valued sats []
-  told-valued (sat ∷ sats) (r ∷ rs) = go (sameList sameℤ (take 2 r) (named sat)) refl (told-valued sats rs) (told-valued sats (r ∷ rs))
+  told-valued (sat ∷ sats) (r ∷ rs) = rw (one sat) (go (sameList sameℤ (take 2 r) (named sat)) refl (told-valued sats rs) (told-valued sats (r ∷ rs)))
     where
       go : (b : Bool) → sameList sameℤ (take 2 r) (named sat) ≡ b → fit sats rs ≡ right sats rs → fit sats (r ∷ rs) ≡ right sats (r ∷ rs)
-          → let picked = pick (b ∷ cond b (marks sats rs) (marks sats (r ∷ rs))) (sat ∷ sats) in
+          → let picked = pick (b ∷ cond b (marks own sats rs) (marks own sats (r ∷ rs))) (sat ∷ sats) in
           rowsFit (satelliteLines (columnsIn s) picked) (r ∷ rs) ≡ (eqb (length picked) (suc (length rs)) && rowsValued (columnsIn s) (r ∷ rs))
       go true e here past =
           ap (λ (b : Bool). b && fit sats rs) (row-valued s sat r (sameList-sound sameℤ sameℤ-sound (take 2 r) (named sat) e))
@@ -195,9 +195,10 @@ module _ (s : Shape) where
       go false e here past = past
 
 -- of a selection of sub type 11
-pub chosen-valued : (v : View) (chosen shape : ℕ) (rows : List (List ℤ)) → pick (spell 64 chosen) (v .satellites) ≡ pick (marks (v .satellites) rows) (v .satellites)
-    → rowsFit (linesOver v (Satellites chosen) shape) rows ≡ (eqb (length (pick (marks (v .satellites) rows) (v .satellites))) (length rows) && rowsValued (columnsIn (shapeFor shape)) rows)
-chosen-valued v chosen shape rows e =
+pub chosen-valued : (v : View) (own : Satellite → ℕ) → ((sat : Satellite) → own sat ≡ 1) → (chosen shape : ℕ) (rows : List (List ℤ))
+    → pick (spell 64 chosen) (v .satellites) ≡ pick (marks own (v .satellites) rows) (v .satellites)
+    → rowsFit (linesOver v (Satellites chosen) shape) rows ≡ (eqb (length (pick (marks own (v .satellites) rows) (v .satellites))) (length rows) && rowsValued (columnsIn (shapeFor shape)) rows)
+chosen-valued v own one chosen shape rows e =
     ap (λ (lines : List Line). rowsFit lines rows) (sym (by-satellites v chosen shape) ∙ alone-chosen (columnsIn (shapeFor shape)) chosen (v .satellites))
     ∙ ap (λ (sats : List Satellite). rowsFit (satelliteLines (columnsIn (shapeFor shape)) sats) rows) e
-    ∙ told-valued (shapeFor shape) (v .satellites) rows
+    ∙ told-valued (shapeFor shape) own one (v .satellites) rows

@@ -12,7 +12,7 @@ use Rattle.format.specs.Rows.{Column, Line, gap}
 use Rattle.rows.specs.declared.row.Key.{Key}
 use Rattle.rows.specs.declared.shape.Column.{Column as CodeColumn}
 use Rattle.rows.specs.declared.shape.Shape.{Shape}
-use Rattle.rows.specs.Shapes.{columnOf, columnsOf, orbitOf, Narrow}
+use Rattle.rows.specs.Shapes.{columnOf, columnsOf, orbitOf}
 use Rattle.rows.specs.Table.{shapeFor}
 use Rattle.table.specs.declared.Body.{Body}
 use Rattle.table.specs.Bodies.{Fits}
@@ -31,17 +31,12 @@ keysOf key = key .system ∷ key .satellite ∷ key .signal ∷ []
 abbrev pub lineOf : Key → Shape → Line
 lineOf key s = record { keys = keysOf key; shape = columnsOf s }
 
--- the same of two columns, with gaps behind
-abbrev pub pairColumns : CodeColumn → CodeColumn → List Column
-pairColumns v1 v2 = columnOf v1 ∷ columnOf v2 ∷ gap ∷ gap ∷ gap ∷ []
+-- the same of a cell: three columns, with gaps behind
+abbrev pub cellColumns : CodeColumn → CodeColumn → CodeColumn → List Column
+cellColumns v1 v2 v3 = columnOf v1 ∷ columnOf v2 ∷ columnOf v3 ∷ gap ∷ gap ∷ []
 
-abbrev pub pairOf : Key → CodeColumn → CodeColumn → Line
-pairOf key v1 v2 = record { keys = keysOf key; shape = pairColumns v1 v2 }
-
--- which shape that is
-pub record Paired (s : Shape) : Type 0 where
-  pub narrow : Narrow s
-  pub third : s .v3 .width ≡ 0
+abbrev pub cellOf : Key → CodeColumn → CodeColumn → CodeColumn → Line
+cellOf key v1 v2 v3 = record { keys = keysOf key; shape = cellColumns v1 v2 v3 }
 
 -- a body whose keys can have its shape, with that shape of the table
 pub record MadeFor (body : Body) (s : Shape) : Type 0 where

@@ -82,7 +82,7 @@ byteAt k bytes = getD bytes k 0
 
 -- what they compute with
 seeing : Unit {0}
-unfolding asking short otherRow otherHead long writeHere placeSaid byteAt Calls.Fixed Calls.BothDone Calls.SaysTheSame Calls.OneHead Calls.OneBody Calls.writes Calls.hostWrites RoundTrips.doneBy RoundTrips.doneIn Useless.ShutsOut Writes.headIn Writes.writtenHanded Stages.answered Writing.writing Writing.doneWriting Writing.bytesAfter Writing.limit Writing.rowsIn Writing.exact Writing.endedWith Writing.isOurs Writing.hasMask Writing.ofIssue Answers.undoneAt Same.sameℤ Same.sameHead Same.sameHeld Table.spelled Table.spelledBy Table.spellKind Table.kindOf Spelling.put Spelling.putPacket Rows.spellRows Rows.spellValues BitLists.setBytes BitLists.setBits Signed.unsigned
+unfolding asking short otherRow otherHead long writeHere placeSaid byteAt Calls.Fixed Calls.BothDone Calls.SaysTheSame Calls.OneHead Calls.OneBody Calls.writes Calls.hostWrites RoundTrips.doneBy RoundTrips.doneIn Useless.ShutsOut Writes.headIn Writes.writtenHanded Stages.answered Writing.writing Writing.doneWriting Writing.bytesAfter Writing.limit Writing.rowsIn Writing.exact Writing.endedWith Writing.isOurs Writing.hasMask Writing.ofIssue Writing.hasNetwork Answers.undoneAt Same.sameℤ Same.sameHead Same.sameHeld Table.spelled Table.spelledBy Table.spellKind Table.kindOf Spelling.put Spelling.putPacket Rows.spellRows Rows.spellValues BitLists.setBytes BitLists.setBits Signed.unsigned
 seeing = tt
 
 -- ---- a writer that shows what the definitions say

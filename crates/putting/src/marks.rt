@@ -1,11 +1,12 @@
-// Sub type 11's selection, "told by which satellites have rows": as a word of 64 bits, and those bits put out.
+// The selection of sub types 6 and 11, told by which satellites have rows: as a word of 64 bits, and those bits put out.
 ghost use mathlib.Core.Path.{_≡_};
-ghost use Prim.Native.Nat.{_*_, _%_, _≤_, min};
+ghost use Prim.Native.Nat.{_*_, _%_, _≤_, _<_, min};
+ghost use lib.Count.{leadingZeros};
 ghost use lib.ListN.{length};
 ghost use Rattle.body.specs.Lent.{Slots};
 ghost use Rattle.format.specs.Writing.{rowsIn};
 ghost use Rattle.holding.specs.Held.{satellitesIn, slotSatellites};
-ghost use Rattle.putting.specs.Marking.{hasRow, toldBy, toldAfter, Tells, markedBy, topField, selectionFields};
+ghost use Rattle.putting.specs.Marking.{ownsOf, markedBy, hasRow, toldBy, toldAfter, ownAt, ownsFrom, Covers, Tells, topField, selectionFields};
 ghost use Rattle.pens.specs.Pens.{penAfter, inkAfter, Ready};
 use body::FIRST;
 use holding::set_places;
@@ -15,7 +16,7 @@ use pens::pen::Pen;
 use pens::pen::push;
 
 // How far a selection is told: where the next row stands, the bit of the next satellite, and the bits of those before it
-// that have a row.
+// that have rows.
 pub struct Told {
     pub at: usize,
     pub next: u64,
@@ -34,11 +35,27 @@ const ROW: usize = 8;
 // How far a mask of 40 bits is moved up, to begin at the highest of 64.
 const UP: usize = 24;
 
-// Whether the row at a place, if one is left, is this satellite's.
-fn has_row(rows: &[i32], at: usize, system: u8, number: usize) -> bool
-    requires { ⌜ (at % 8 ≡ 0) × (length (now rows) % 8 ≡ 0) × (number ≤ 255) ⌝ }
-    ensures { λ r. ⌜ r ≡ hasRow (now (rows .entry)) at (record { system = system; number = number }) ⌝ }
+// How many rows the satellite of a bit has if it is selected: sub type 6 has one for each of its cells (document 02,
+// Ask 1), sub type 11 one. Its strip is the one with as many before it as there are satellites, and bits, before it.
+fn own_rows(strips: &[u16], cells: bool, bit: u64) -> usize
+    requires { ⌜ leadingZeros 64 bit < length (now strips) ⌝ }
+    ensures { λ r. ⌜ r ≡ ownAt cells (now (strips .entry)) bit ⌝ }
+    ensures { λ r. ⌜ r ≤ 64 ⌝ }
 {
+    if !cells {
+        return 1;
+    }
+    set_places::count(strips[set_places::first(bit)] as u64)
+}
+
+// Whether a satellite with so many rows has them at a place: whether the row there, if one is left, is its own.
+fn has_row(rows: &[i32], at: usize, own: usize, system: u8, number: usize) -> bool
+    requires { ⌜ (at % 8 ≡ 0) × (length (now rows) % 8 ≡ 0) × (number ≤ 255) ⌝ }
+    ensures { λ r. ⌜ r ≡ hasRow (now (rows .entry)) at own (record { system = system; number = number }) ⌝ }
+{
+    if own == 0 {
+        return false;
+    }
     if at >= rows.len() {
         return false;
     }
@@ -48,14 +65,14 @@ fn has_row(rows: &[i32], at: usize, system: u8, number: usize) -> bool
     is(rows[at + 1], number as u64)
 }
 
-// One satellite more.
-fn satellite(rows: &[i32], told: Told, system: u8, number: usize) -> Told
-    requires { ⌜ Tells (now rows) told × (number ≤ 255) ⌝ }
-    ensures { λ r. ⌜ r ≡ toldBy (hasRow (now (rows .entry)) (told .at) (record { system = system; number = number })) told ⌝ }
+// One satellite more, with so many rows.
+fn satellite(rows: &[i32], told: Told, system: u8, number: usize, own: usize) -> Told
+    requires { ⌜ Tells (now rows) told × (number ≤ 255) × (own ≤ 64) ⌝ }
+    ensures { λ r. ⌜ r ≡ toldBy (hasRow (now (rows .entry)) (told .at) own (record { system = system; number = number })) own told ⌝ }
 {
     let at = told.at;
     let next = told.next >> 1;
-    if !has_row(rows, at, system, number) {
+    if !has_row(rows, at, own, system, number) {
         return Told {
             at,
             next,
@@ -63,30 +80,38 @@ fn satellite(rows: &[i32], told: Told, system: u8, number: usize) -> Told
         };
     }
     Told {
-        at: at + ROW,
+        at: at + ROW * own,
         next,
         word: told.word + told.next,
     }
 }
 
 // The satellites of one system, whose mask begins at the highest of 64 bits.
-fn slot(id: u8, mask: u64, rows: &[i32], told: Told) -> Told
-    requires { ⌜ Tells (now rows) told ⌝ }
-    ensures { λ r. ⌜ r ≡ toldAfter (now (rows .entry)) (satellitesIn 64 id mask) told ⌝ }
+fn slot(id: u8, mask: u64, strips: &[u16], cells: bool, rows: &[i32], told: Told) -> Told
+    requires { ⌜ Tells (now rows) told × Covers (now strips) told (satellitesIn 64 id mask) ⌝ }
+    ensures { λ r. ⌜ (let sats = satellitesIn 64 id mask in r ≡ toldAfter (now (rows .entry)) (ownsFrom cells (now (strips .entry)) told sats) sats told) ⌝ }
 {
     let mut left = mask;
     let mut on = told;
     while left > 0 {
-        on = satellite(rows, on, id, set_places::first(left) + 1);
+        let own = own_rows(strips, cells, on.next);
+        on = satellite(rows, on, id, set_places::first(left) + 1, own);
         left = set_places::rest(left);
     }
     on
 }
 
-// Which satellites have a row, the rows standing in their order: the first satellite's bit is the highest of 64.
-pub fn marked(ids: &[u8], masks: &[u64], rows: &[i32], count: usize) -> Selected
-    requires { ⌜ Slots (now ids) (now masks) × (length (slotSatellites (now ids) (now masks)) ≤ 64) × (8 * count ≤ length (now rows)) ⌝ }
-    ensures { λ r. ⌜ r ≡ markedBy (slotSatellites (now (ids .entry)) (now (masks .entry))) (rowsIn count (now (rows .entry))) ⌝ }
+// Which satellites have rows, the rows standing in their order: the first satellite's bit is the highest of 64.
+pub fn marked(
+    ids: &[u8],
+    masks: &[u64],
+    strips: &[u16],
+    cells: bool,
+    rows: &[i32],
+    count: usize,
+) -> Selected
+    requires { ⌜ Slots (now ids) (now masks) × (length (slotSatellites (now ids) (now masks)) ≤ 64) × (length (slotSatellites (now ids) (now masks)) ≤ length (now strips)) × (8 * count ≤ length (now rows)) ⌝ }
+    ensures { λ r. ⌜ (let sats = slotSatellites (now (ids .entry)) (now (masks .entry)) in r ≡ markedBy (ownsOf cells (now (strips .entry)) sats) sats (rowsIn count (now (rows .entry)))) ⌝ }
 {
     let end = ROW * count;
     let counted = &rows[..end];
@@ -97,7 +122,7 @@ pub fn marked(ids: &[u8], masks: &[u64], rows: &[i32], count: usize) -> Selected
     };
     let mut i = 0;
     while i < ids.len() {
-        told = slot(ids[i], masks[i] << UP, counted, told);
+        told = slot(ids[i], masks[i] << UP, strips, cells, counted, told);
         i += 1;
     }
     Selected {

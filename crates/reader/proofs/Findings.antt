@@ -1,5 +1,5 @@
 -- What is found at a place of a stretch, all that is lent being good. Assumes nothing.
-use Rattle.bits.proofs.Words.{_≡_, refl, sym, ap, _∙_, Bool, true, false, cond, List, ℕ, zero, suc, _+_, _-_, _≤_, arith, eqb, length, ℤ}
+use Rattle.bits.proofs.Words.{_≡_, refl, sym, ap, subst, _∙_, Bool, true, false, cond, List, ℕ, zero, suc, _+_, _-_, _≤_, arith, eqb, length, ℤ}
 use mathlib.Core.List.{flatten}
 use denote.Enum.Declared.{tagOf}
 use Rattle.bits.specs.Places.{field}
@@ -13,6 +13,7 @@ use Rattle.format.specs.Programs.{Program, Ended, well, badly, run}
 use Rattle.format.specs.Reading.{Outcome, idle, refused, bitsFrom, lentAfter, over, rowsAfter, answerOf}
 use Rattle.format.specs.Table.{Message, opening}
 use Rattle.format.proofs.Ends.{by-end, ended-at}
+use Rattle.format.proofs.Selections.{Distinct}
 use Rattle.heads.specs.declared.heading.Heading.{Heading}
 use Rattle.heads.specs.declared.Opening.the-variants.{SubType}
 use Rattle.heads.specs.declared.Opening.the-variants as Openings
@@ -24,7 +25,7 @@ use Rattle.heads.proofs.Sorted.{kind-ended, adopted-ended}
 use Rattle.holding.specs.declared.Holding.{Holding}
 use Rattle.holding.specs.Held.{skyIn, viewOf}
 use Rattle.holding.specs.Pictures.{maskOf, sound}
-use Rattle.holding.proofs.Sounds.{sounds}
+use Rattle.holding.proofs.Sounds.{sounds, held-distinct}
 use Rattle.reader.specs.declared.message.Found.the-variants.{Mask, Answered}
 use Rattle.reader.specs.Readings.{readAt, readAs, unopenedAt, foundAs, foundBy, foundAt, Begins}
 use Rattle.reader.proofs.message.Found.{the-type}
@@ -85,10 +86,18 @@ module _ (h : Holding) (fine : sound h ≡ true) where
   unfolding skyIn
   sky-seen = let s = sounds h fine in rw (s .slots, s .strips)
 
-  pub shows : Shows (viewOf h) (h .nsat)
+  pub shows : Shows (viewOf h) (h .nsat) (h .strips)
   shows =
       let s = sounds h fine in
-      record { count = ap length (s .slots) ∙ sym (s .nsat); few = s .few-satellites; strips = omega (arith, s .shaped .strips) }
+      record {
+        count = ap length (s .slots) ∙ sym (s .nsat);
+        few = s .few-satellites;
+        apart = subst Distinct (sym (s .slots)) (held-distinct (maskOf h) (s .good-held));
+        strips = refl;
+        covered = omega (arith, s .few-satellites, s .shaped .strips);
+        most = omega (arith, s .shaped .strips);
+        thin = s .shaped .strips-narrow;
+      }
 
   -- any message but a mask, by its heading
   pub sorted-headed : {bs : List ℕ} {end place : ℕ} → Within bs end place → (n : ℕ) → (kindFor n ≡ Kinds.Mask → ⊥)

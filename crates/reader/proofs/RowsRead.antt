@@ -1,7 +1,7 @@
 -- Every row of a message has eight numbers, so the row buffer cut eight by eight gives back its rows; and there are at most 256 of them. Assumes nothing.
 use mathlib.Core.Path.{_≡_, refl, ap, subst, _∙_}
 use mathlib.Core.Bool.{Bool, true, false}
-use mathlib.Core.List.{List, [], _∷_, _++_, append-assoc, flatten}
+use mathlib.Core.List.{List, [], _∷_, _++_, append-assoc, flatten, flatMap}
 use Prim.Native.Nat.{ℕ, zero, suc, _≤_}
 use native.Mathlib.Omega.{arith}
 use lib.Dec.{eqb}
@@ -10,16 +10,17 @@ use lib.ListN.{length, drop, length-append, length-map}
 use lib.Seq.{take-at, drop-at}
 use Rattle.body.proofs.Bodies.{lines-eights, packet-eights}
 use Rattle.format.specs.declared.Refusal.the-variants.{SubType}
-use Rattle.format.specs.Masks.{Held, nothing, mask, Lent, heldIn, Satellite, Cell, Sky, skyOf}
-use Rattle.format.specs.Messages.{Heading, Common, common, overSatellites, overCells, satelliteLines, cellLines, orbitShape, clockShape, codeShape, phaseShape, combinedShape, packet, packetHeading, rowsAlone, flagged, selection, maskMessage}
+use Rattle.format.specs.Masks.{Held, nothing, mask, Lent, heldIn, Satellite, Cell, Sky, skyOf, cellsOn}
+use Rattle.format.specs.Messages.{Heading, Common, common, overSatellites, overCells, satelliteLines, cellLines, orbitShape, clockShape, codeShape, phaseShape, biasShape, accuracyShape, combinedShape, packet, packetHeading, rowsAlone, Keys, bySatellite, byCell, linesOf, flagged, selection, maskMessage}
 use Rattle.format.specs.Programs.{Program}
 use Rattle.format.specs.Reading.{accepted, bitsFrom, rowsAfter, over, reading}
 use Rattle.format.specs.Rows.{Column, Line, absent, widthOf, shapeWidth, valuesOf, rowsOf}
 use Rattle.format.specs.Spelling.{putRows, putFlagged, putPacket, putMask}
-use Rattle.format.specs.Table.{Kind, MaskedKind, Message, other, free, masked, adopts, kinds, table, alone, byKind, keeping, message}
+use Rattle.format.specs.Table.{Kind, MaskedKind, Message, other, free, masked, adopts, kinds, table, alone, withFlags, byKind, keeping, message}
 use Rattle.format.specs.Writing.{rowsIn}
 use Rattle.format.proofs.Bodies.{All, none, more, rows-count}
 use Rattle.format.proofs.Picks.{pick-few}
+use Rattle.format.proofs.Selections.{Distinct, distinct-pick, cells-shared}
 use Rattle.format.proofs.Spells.{packet-count}
 use Rattle.format.proofs.Stops.{read-ends, reading-ends}
 use Rattle.format.proofs.Steps.{Gives, gives-so, gives-done, gives-refuse, gives-require, gives-taking, gives-numbered, gives-bind, gives-itself}
@@ -27,7 +28,7 @@ use Rattle.format.proofs.Tables.{Each, end, then, in-table, gives-message, keep
 use Rattle.holding.specs.declared.Holding.{Holding}
 use Rattle.holding.specs.Held.{satellitesHeld, cellsHeld}
 use Rattle.holding.specs.Pictures.{maskOf, sound}
-use Rattle.holding.proofs.Sounds.{sounds, few-held}
+use Rattle.holding.proofs.Sounds.{sounds, few-held, held-distinct}
 use Rattle.reader.specs.Readings.{readAt}
 use Rattle.rows.proofs.RowsAt.{Eights}
 
@@ -83,6 +84,10 @@ cells-lined shape five cs most =
     }
 
 -- whatever the flags say
+bias-five : (code phase : Bool) → Five (biasShape code phase)
+unfolding biasShape
+bias-five code phase system = refl
+
 combined-five : (orbit clock : Bool) → Five (combinedShape orbit clock)
 unfolding combinedShape
 combined-five true clock system = refl
@@ -90,9 +95,9 @@ combined-five false clock system = refl
 
 -- ---- the table
 
--- so few are held
+-- so few are held, no two satellites of them the same
 abbrev Few : Held → Type 0
-Few held = (length (satellitesHeld held) ≤ 64) × (length (cellsHeld held) ≤ 256)
+Few held = (length (satellitesHeld held) ≤ 64) × (length (cellsHeld held) ≤ 256) × Distinct (satellitesHeld held)
 
 record Rowed (held : Held) (rows : List (List ℤ)) : Type 0 where
   eight : Eight rows
@@ -109,7 +114,7 @@ body-rowed : (held : Held) {p : Program Heading} → Gives p (λ d b. Lined (Few
 body-rowed held law = keeping-gives held law λ d b l it whole. record { eight = rows-eight (d .lines) l (it .eights); count = λ few. rw rows-count (it .count few) }
 
 abbrev FewIn : Sky → Type 0
-FewIn sky = (length (sky .satellites) ≤ 64) × (length (sky .cells) ≤ 256)
+FewIn sky = (length (sky .satellites) ≤ 64) × (length (sky .cells) ≤ 256) × Distinct (sky .satellites)
 
 masked-rowed : (n : ℕ) (k : MaskedKind) → ((sky : Sky) (h : Common) → Gives (k .program sky h) (λ d b. Lined (FewIn sky) (d .lines))) → RowedAt n (masked k)
 unfolding byKind satellitesHeld cellsHeld skyOf
@@ -133,26 +138,37 @@ packet-rowed held =
     gives-numbered _ _ λ size small.
     gives-done (record { eights = packet-eights 1 (suc size); count = λ few. omega (arith, packet-count 1 (suc size)) }))
 
-selected : (sats : List Satellite) (flag : ℕ) → Gives (selection sats flag) (λ s _. length (s .chosen) ≤ length sats)
+-- those that are selected are no more, and distinct where all are
+abbrev Some : Sky → List Satellite → Type 0
+Some sky chosen = (length chosen ≤ length (sky .satellites)) × (Distinct (sky .satellites) → Distinct chosen)
+
+selected : (keys : Keys) (sky : Sky) (flag : ℕ) → Gives (selection keys sky flag) (λ s _. Some sky (s .chosen))
 unfolding selection
-selected sats zero = gives-done (omega arith)
-selected sats (suc flag) =
+selected keys sky zero = gives-done (omega arith, λ d. d)
+selected keys sky (suc flag) =
     gives-numbered _ _ λ network _.
     gives-require _ _ _ λ some.
     gives-taking _ _ λ bits _.
-    gives-done (pick-few bits sats)
+    gives-require _ _ _ λ named.
+    gives-done (pick-few bits (sky .satellites), distinct-pick bits)
 
-combined-rowed : (sky : Sky) (h : Common) → Gives (flagged 11 combinedShape sky h) (λ d b. Lined (FewIn sky) (d .lines))
-unfolding flagged
-combined-rowed sky h =
-    gives-numbered _ _ λ orbit _.
-    gives-numbered _ _ λ clock _.
+chosen-lined : (keys : Keys) (shape : ℕ → List Column) → Five shape → (sky : Sky) (chosen : List Satellite) → Some sky chosen → Lined (FewIn sky) (linesOf keys shape sky chosen)
+unfolding linesOf
+chosen-lined bySatellite shape five sky chosen some = satellites-lined shape five chosen (λ few. omega (arith, few .0, some .0))
+chosen-lined byCell shape five sky chosen some =
+    cells-lined shape five (flatMap (cellsOn (sky .cells)) chosen) (λ few. omega (arith, few .1, cells-shared (sky .cells) (some .1 (few .2))))
+
+flagged-rowed : (n : ℕ) (keys : Keys) (shape : Bool → Bool → ℕ → List Column) → ((a b : Bool) → Five (shape a b)) → RowedAt n (withFlags n keys shape)
+unfolding withFlags flagged
+flagged-rowed n keys shape five = masked-rowed n (record { program = flagged n keys shape; spelling = putFlagged keys shape }) λ sky h.
+    gives-numbered _ _ λ a _.
+    gives-numbered _ _ λ b _.
     gives-numbered _ _ λ flag _.
-    gives-bind (selected (sky .satellites) flag) λ s b less.
-    gives-done (satellites-lined (combinedShape (eqb orbit 1) (eqb clock 1)) (combined-five (eqb orbit 1) (eqb clock 1)) (s .chosen) (λ few. omega (arith, few .0)))
+    gives-bind (selected keys sky flag) λ s l some.
+    gives-done (chosen-lined keys (shape (eqb a 1) (eqb b 1)) (five (eqb a 1) (eqb b 1)) sky (s .chosen) some)
 
 kinds-rowed : Each RowedAt 0 kinds
-unfolding kinds overSatellites overCells orbitShape clockShape codeShape phaseShape
+unfolding kinds overSatellites overCells orbitShape clockShape codeShape phaseShape accuracyShape
 kinds-rowed =
     then (other-rowed 0)
     (then mask-rowed
@@ -160,9 +176,11 @@ kinds-rowed =
     (then (alone-rowed 3 (overSatellites clockShape) λ sky. satellites-lined clockShape (λ _. refl) (sky .satellites) (λ few. few .0))
     (then (alone-rowed 4 (overCells codeShape) λ sky. cells-lined codeShape (λ _. refl) (sky .cells) (λ few. few .1))
     (then (alone-rowed 5 (overCells phaseShape) λ sky. cells-lined phaseShape (λ _. refl) (sky .cells) (λ few. few .1))
-    (then (other-rowed 6) (then (other-rowed 7) (then (other-rowed 8) (then (other-rowed 9)
+    (then (flagged-rowed 6 byCell biasShape bias-five)
+    (then (alone-rowed 7 (overSatellites accuracyShape) λ sky. satellites-lined accuracyShape (λ _. refl) (sky .satellites) (λ few. few .0))
+    (then (other-rowed 8) (then (other-rowed 9)
     (then packet-rowed
-    (then (masked-rowed 11 (record { program = flagged 11 combinedShape; spelling = putFlagged combinedShape }) combined-rowed) end)))))))))))
+    (then (flagged-rowed 11 bySatellite combinedShape combined-five) end)))))))))))
 
 message-rowed : (held : Held) → Gives (message held) (λ m b. Rowed held (m .content .rows))
 message-rowed held = gives-message table held λ n _. in-table kinds-rowed other-rowed n held
@@ -175,7 +193,8 @@ few-rows h fine bytes stop start m next =
     (λ e. absurd (let z : _≡_ {A = ℕ} 0 1 = cc in omega arith))
     (λ k taken ran e.
     let same : k ≡ m = cc in
-    subst (λ (x : Message). length (x .content .rows) ≤ 256) same (message-rowed (maskOf h) .gives (bitsFrom bytes stop start) k taken ran .count (few-held (sounds h fine))))
+    subst (λ (x : Message). length (x .content .rows) ≤ 256) same (message-rowed (maskOf h) .gives (bitsFrom bytes stop start) k taken ran
+    .count (let s = sounds h fine in (few-held s .0, few-held s .1, held-distinct (maskOf h) (s .good-held)))))
 
 -- so every row of a message has
 pub message-eight : (held : Held) → Gives (message held) (λ m b. Eight (m .content .rows))

@@ -141,7 +141,7 @@ pub fn find(
                 n: outline.nsat,
                 subtype: n,
             };
-            let heading = heading::of(kind, seen, front, bytes);
+            let heading = heading::of(kind, seen, strips, front, bytes);
             let answer = body_of(outline, ids, masks, strips, heading, bytes, end, rows);
             Found::Answered(answer)
         }

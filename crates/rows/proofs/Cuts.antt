@@ -1,4 +1,4 @@
--- The values of a row, cut out of a window that was halved: one alone, those of a row of two columns, and those of a row of five with the last from
+-- The values of a row, cut out of a window that was halved: one alone, those of a row of two or three columns, and those of a row of five with the last from
 -- elsewhere, or out of their own field; and those of a row of gaps but for one column.
 -- Assumes nothing.
 use Rattle.bits.proofs.Words.{_≡_, refl, sym, ap, ap₂, _∙_, List, [], _∷_, ℕ, _+_, _-_, _*_, _/_, _%_, _^_, _≤_, _<_, arith, ℤ}
@@ -88,6 +88,7 @@ module _ (bs : List ℕ) (at : ℕ) {window : ℕ} (there : window ≡ field bs 
   abbrev pub up : ℕ
   up = window * 2 ^ (at % 8) % 2 ^ 64
 
+  -- and then down by one bit
   pub up-lt : (s : ℕ) → 1 ≤ s → up / 2 ^ s < 2 ^ 63
   up-lt s some =
       let e : up / 2 ^ s ≡ up / 2 / 2 ^ (s - 1) = ap (λ (k : ℕ). up / 2 ^ k) (omega arith) ∙ sym (shr-shr up 1 (s - 1)) in
@@ -104,6 +105,26 @@ module _ (bs : List ℕ) (at : ℕ) {window : ℕ} (there : window ≡ field bs 
       ap (λ (k : ℕ). cutBy c (up / 2 ^ k)) e
       ∙ ap (cutBy c) (shifted window (at % 8) (64 - s) t 64 (omega arith) ∙ ap (λ (k : ℕ). window / 2 ^ t % 2 ^ k) w)
       ∙ ap (valueOf (columnOf c)) (mod-mod (window / 2 ^ t) (64 - s - c .width) (c .width) ∙ ap (λ (x : ℕ). x / 2 ^ t % 2 ^ (c .width)) there ∙ in-window bs first (place - first) (c .width) t (omega arith))
+      ∙ ap (columnAt c bs) back
+
+  -- ---- the window moved down at once
+
+  pub down-small : (s : ℕ) → 1 ≤ s → window / 2 ^ s < 2 ^ 63
+  down-small s some =
+      let e : window / 2 ^ s ≡ window / 2 / 2 ^ (s - 1) = ap (λ (j : ℕ). window / 2 ^ j) (omega arith) ∙ sym (shr-shr window 1 (s - 1)) in
+      omega (arith, e, half-lt (s - 1))
+
+  pub down-lt : (s k : ℕ) → 1 ≤ s → window / 2 ^ s / 2 ^ k < 2 ^ 63
+  down-lt s k some = omega (arith, down-small s some, shr-le (window / 2 ^ s) k)
+
+  -- the column at a place, with s and k bits below it up to the window's last
+  down-cut : (c : CodeColumn) (place s k : ℕ) → at ≤ place → place + c .width + (s + k) ≡ 8 * (at / 8) + 64 → cutBy c (window / 2 ^ s / 2 ^ k) ≡ columnAt c bs place
+  down-cut c place s k after whole =
+      let first : ℕ = 8 * (at / 8) in
+      let back : first + (place - first) ≡ place = omega arith in
+      ap (cutBy c) (shr-shr window s k)
+      ∙ ap (λ (x : ℕ). cutBy c (x / 2 ^ (s + k))) there
+      ∙ ap (valueOf (columnOf c)) (in-window bs first (place - first) (c .width) (s + k) (omega arith))
       ∙ ap (columnAt c bs) back
 
 -- the values of a row
@@ -184,6 +205,21 @@ module _ (bs : List ℕ) (at : ℕ) (h : Shape) where
         values-five (one ∙ up-cut bs at there (h .v1) at (64 - w1) (omega arith) (omega arith) (omega arith))
         (two ∙ up-cut bs at there (h .v2) (at + w1) (64 - w1 - w2) (omega arith) (omega arith) (omega arith))
         (rw (gap-of (h .v3) none))
+        (rw (gap-of (h .v4) (narrow .fourth)))
+        (rw (gap-of (h .v5) (narrow .fifth)))
+
+    -- three from the window moved down, so that s bits are left behind
+    pub values-three : Narrow h → (s : ℕ) → s ≡ 64 - (w1 + (w2 + w3)) - at % 8 → {a b c : ℤ}
+        → a ≡ cutBy (h .v1) (window / 2 ^ s / 2 ^ (w2 + w3))
+        → b ≡ cutBy (h .v2) (window / 2 ^ s / 2 ^ w3)
+        → c ≡ cutBy (h .v3) (window / 2 ^ s)
+        → a ∷ b ∷ c ∷ absent ∷ absent ∷ [] ≡ valuesAt (columnsOf h) bs at
+    unfolding valueOf
+    values-three narrow s below one two three =
+        let room = formed .window in
+        values-five (one ∙ down-cut bs at there (h .v1) at s (w2 + w3) (omega arith) (omega arith))
+        (two ∙ down-cut bs at there (h .v2) (at + w1) s w3 (omega arith) (omega arith))
+        (three ∙ ap (cutBy (h .v3)) (sym (div-one (window / 2 ^ s))) ∙ down-cut bs at there (h .v3) (at + w1 + w2) s 0 (omega arith) (omega arith))
         (rw (gap-of (h .v4) (narrow .fourth)))
         (rw (gap-of (h .v5) (narrow .fifth)))
 

@@ -5,7 +5,7 @@ use mathlib.Core.Logic.{inl, inr}
 use native.Mathlib.Nat.{zero-add}
 use borrow.Author.Tests.{eqb-true}
 use Rattle.format.proofs.Tables.{Each, end, then, each-at, NoneOf, none-of}
-use Rattle.format.specs.Messages.{iodeWidth, clockShape, codeShape, phaseShape, combinedShape, packetShape, named}
+use Rattle.format.specs.Messages.{iodeWidth, clockShape, codeShape, phaseShape, biasShape, accuracyShape, combinedShape, packetShape, named}
 use Rattle.format.specs.Rows.{Column, gap, plain, counts, widthOf, shapeWidth}
 use Rattle.rows.specs.declared.shape.Shape.{Shape}
 use Rattle.rows.specs.Shapes.{columnOf, columnFor, columnsOf, columnsIn, shapeWith, orbitOf, lastOf, FormedShape, Laid, Narrow}
@@ -68,17 +68,24 @@ orbiting fine two =
     }
 
 each : Each Row 0 shapes
-unfolding shapes combinedShape clockShape codeShape phaseShape packetShape widthOf
+unfolding shapes combinedShape clockShape codeShape phaseShape packetShape biasShape accuracyShape widthOf
 each =
     let byte = fine-plain 8 (omega arith) (omega arith) in
+    let c11 = fine-counts 11 (omega arith) (omega arith) in
+    let p2 = fine-plain 2 (omega arith) (omega arith) in
     then (same (five fine-gap fine-gap fine-gap fine-gap fine-gap (omega arith) (omega arith)))
     (then (same (five fine-gap fine-gap fine-gap fine-gap c15 (omega arith) (omega arith)))
     (then (orbiting fine-gap (λ two _. two refl))
     (then (orbiting c15 (λ _ three. three refl))
     (then (same (five c15 fine-gap fine-gap fine-gap fine-gap (omega arith) (omega arith)))
-    (then (same (five (fine-counts 11 (omega arith) (omega arith)) fine-gap fine-gap fine-gap fine-gap (omega arith) (omega arith)))
-    (then (same (five c15 (fine-plain 2 (omega arith) (omega arith)) fine-gap fine-gap fine-gap (omega arith) (omega arith)))
-    (then (same (five byte byte byte byte byte (omega arith) (omega arith))) end)))))))
+    (then (same (five c11 fine-gap fine-gap fine-gap fine-gap (omega arith) (omega arith)))
+    (then (same (five c15 p2 fine-gap fine-gap fine-gap (omega arith) (omega arith)))
+    (then (same (five byte byte byte byte byte (omega arith) (omega arith)))
+    (then (same (five fine-gap fine-gap fine-gap fine-gap fine-gap (omega arith) (omega arith)))
+    (then (same (five fine-gap c15 p2 fine-gap fine-gap (omega arith) (omega arith)))
+    (then (same (five c11 fine-gap fine-gap fine-gap fine-gap (omega arith) (omega arith)))
+    (then (same (five c11 c15 p2 fine-gap fine-gap (omega arith) (omega arith)))
+    (then (same (five (fine-plain 6 (omega arith) (omega arith)) fine-gap fine-gap fine-gap fine-gap (omega arith) (omega arith))) end))))))))))))
 
 row : (i : ℕ) → Row i (listed i)
 unfolding listed combinedShape widthOf
@@ -110,14 +117,15 @@ formed i = formed-at 0 i
 
 -- no other number has a row but the first
 abbrev pub listedNumbers : List ℕ
-listedNumbers = 7 ∷ 6 ∷ 5 ∷ 4 ∷ 3 ∷ 2 ∷ 1 ∷ []
+listedNumbers = 12 ∷ 11 ∷ 10 ∷ 9 ∷ 7 ∷ 6 ∷ 5 ∷ 4 ∷ 3 ∷ 2 ∷ 1 ∷ []
 
 unlisted-rows : Each (λ n l. NoneOf listedNumbers n → gaps ≡ l) 0 shapes
-unfolding shapes named
+unfolding shapes combinedShape biasShape named
 unlisted-rows =
     let known = none-of listedNumbers in
     then (λ _. refl) (then (λ u. absurd (known 1 u refl)) (then (λ u. absurd (known 2 u refl)) (then (λ u. absurd (known 3 u refl)) (then (λ u. absurd (known 4 u refl))
-    (then (λ u. absurd (known 5 u refl)) (then (λ u. absurd (known 6 u refl)) (then (λ u. absurd (known 7 u refl)) end)))))))
+    (then (λ u. absurd (known 5 u refl)) (then (λ u. absurd (known 6 u refl)) (then (λ u. absurd (known 7 u refl)) (then (λ _. refl) (then (λ u. absurd (known 9 u refl))
+    (then (λ u. absurd (known 10 u refl)) (then (λ u. absurd (known 11 u refl)) (then (λ u. absurd (known 12 u refl)) end))))))))))))
 
 unlisted : (i : ℕ) → NoneOf listedNumbers i → gaps ≡ listed i
 unfolding listed
@@ -186,9 +194,25 @@ laid (suc (suc (suc (suc i)))) few = absurd (omega arith)
 pub narrow-laid : {s : Shape} → Narrow s → Laid s
 narrow-laid {s} n = laid-bare s (n .iode) (n .fourth) (inl (n .fifth))
 
--- gaps, the clock's own message, and those of cells
-pub narrows : Narrow (shapeFor 0) × Narrow (shapeFor 4) × Narrow (shapeFor 5) × Narrow (shapeFor 6)
-unfolding shapes listed shapeAt shapeIn shapeWith columnFor combinedShape clockShape codeShape phaseShape
+-- two columns at most, the first one of them
+two-narrow : {s : Shape} → s .iode ≡ false → s .v3 .width ≡ 0 → s .v4 .width ≡ 0 → s .v5 .width ≡ 0 → (s .v1 .width ≡ 0 → s .v2 .width ≡ 0) → Narrow s
+two-narrow bare third fourth fifth none = record { iode = bare; fourth = fourth; fifth = fifth; whole = λ _ some. absurd (omega arith); none = λ first _. none first }
+
+-- gaps, the clock's own message, those of cells, and accuracy
+pub narrows : Narrow (shapeFor 0) × Narrow (shapeFor 4) × Narrow (shapeFor 5) × Narrow (shapeFor 6) × Narrow (shapeFor 12)
+unfolding shapes listed shapeAt shapeIn shapeWith columnFor combinedShape clockShape codeShape phaseShape accuracyShape
 narrows =
-    let gaps : Narrow (shapeFor 0) = record { iode = refl; fourth = refl; fifth = refl } in
-    (gaps, record { iode = refl; fourth = refl; fifth = refl }, record { iode = refl; fourth = refl; fifth = refl }, record { iode = refl; fourth = refl; fifth = refl })
+    let gaps : Narrow (shapeFor 0) = two-narrow refl refl refl refl (λ _. refl) in
+    let clock : Narrow (shapeFor 4) = two-narrow refl refl refl refl (λ _. refl) in
+    let code : Narrow (shapeFor 5) = two-narrow refl refl refl refl (λ _. refl) in
+    let phase : Narrow (shapeFor 6) = two-narrow refl refl refl refl (λ e. absurd (omega (arith, e))) in
+    (gaps, clock, code, phase, two-narrow refl refl refl refl (λ _. refl))
+
+-- and by the two flags of biases
+pub biases-narrow : (k : ℕ) → k < 4 → Narrow (shapeFor (8 + k))
+unfolding shapes listed shapeAt shapeIn shapeWith columnFor biasShape
+biases-narrow zero few = two-narrow refl refl refl refl (λ _. refl)
+biases-narrow (suc zero) few = record { iode = refl; fourth = refl; fifth = refl; whole = λ some _. absurd (omega (arith, some)); none = λ _ e. absurd (omega (arith, e)) }
+biases-narrow (suc (suc zero)) few = two-narrow refl refl refl refl (λ e. absurd (omega (arith, e)))
+biases-narrow (suc (suc (suc zero))) few = record { iode = refl; fourth = refl; fifth = refl; whole = λ _ _. refl; none = λ e. absurd (omega (arith, e)) }
+biases-narrow (suc (suc (suc (suc k)))) few = absurd (omega arith)

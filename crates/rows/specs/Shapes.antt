@@ -96,8 +96,11 @@ pub record Laid (s : Shape) : Type 0 where
   pub fourth : s .iode ≡ false → s .v4 .width ≡ 0
   pub others : s .iode ≡ false → (s .v5 .width ≡ 0) ⊎ (s .v1 .width + s .v2 .width + s .v3 .width ≡ 0)
 
--- what a cell's row may be: three columns and two gaps
+-- what a cell's row may be: three columns and two gaps. With the first and the third it is a code bias, a phase bias and its discontinuity indicator
+-- (document 02, Ask 1); without both it has none
 pub record Narrow (s : Shape) : Type 0 where
   pub iode : s .iode ≡ false
   pub fourth : s .v4 .width ≡ 0
   pub fifth : s .v5 .width ≡ 0
+  pub whole : 1 ≤ s .v1 .width → 1 ≤ s .v3 .width → s ≡ shapeWith false (counts 11 ∷ counts 15 ∷ plain 2 ∷ gap ∷ gap ∷ [])
+  pub none : s .v1 .width ≡ 0 → s .v3 .width ≡ 0 → s .v2 .width ≡ 0

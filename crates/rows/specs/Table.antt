@@ -3,7 +3,7 @@ use mathlib.Core.Bool.{Bool, false, true}
 use mathlib.Core.List.{List, [], _∷_}
 use Prim.Native.Nat.{ℕ}
 use lib.ListN.{getD}
-use Rattle.format.specs.Messages.{clockShape, codeShape, phaseShape, combinedShape, packetShape}
+use Rattle.format.specs.Messages.{clockShape, codeShape, phaseShape, biasShape, accuracyShape, combinedShape, packetShape}
 use Rattle.format.specs.Rows.{Column}
 use Rattle.rows.specs.declared.shape.Shape.{Shape}
 use Rattle.rows.specs.Shapes.{shapeWith}
@@ -23,7 +23,8 @@ orbiting columns = record { iode = true; columns = columns }
 abbrev pub gaps : Listed
 gaps = bare (combinedShape false false)
 
--- by the two flags of orbit and clock, of which the third is the orbit's own message too; then clock, code bias, phase bias and packet
+-- by the two flags of orbit and clock, of which the third is the orbit's own message too; then clock, code bias, phase bias and packet; by the two flags of
+-- code and phase biases; accuracy
 unfoldable pub shapes : List Listed
 shapes =
     gaps
@@ -34,6 +35,11 @@ shapes =
     ∷ bare codeShape
     ∷ bare phaseShape
     ∷ bare (λ _. packetShape)
+    ∷ bare (biasShape false false)
+    ∷ bare (biasShape false true)
+    ∷ bare (biasShape true false)
+    ∷ bare (biasShape true true)
+    ∷ bare accuracyShape
     ∷ []
 
 unfoldable pub listed : ℕ → Listed

@@ -127,8 +127,27 @@ fn gaps(row: &mut [i32], key: Key)
     store(row, key, v);
 }
 
-// A row of a cell. Document 01's have at most two columns: those are cut from one window, moved up so that the first of
-// them is highest.
+// A row of three columns (document 02, Ask 1): cut from one window, moved down so that the third of them is lowest.
+fn three(row: &mut [i32], key: Key, bytes: &[u8], at: usize, s: Shape)
+    requires { ⌜ (length (now row) ≡ 8) × FormedShape s × Narrow s × (at + 64 ≤ 8 * length (now bytes)) × (1 ≤ s .v1 .width) ⌝ }
+    ensures { λ _. ⌜ now (row .exit) ≡ key .system ∷ key .satellite ∷ key .signal ∷ valuesAt (columnsOf s) (now (bytes .entry)) at ⌝ }
+{
+    let first = s.v2.width + s.v3.width;
+    let front = s.v1.width + first;
+    let all = window::eight(bytes, at / 8) >> (64 - front - at % 8);
+    let v = Values {
+        v1: shape::value(all >> first, s.v1),
+        v2: shape::value(all >> s.v3.width, s.v2),
+        v3: shape::value(all, s.v3),
+        v4: ABSENT,
+        v5: ABSENT,
+    };
+    store(row, key, v);
+}
+
+// A row of a cell. Most have at most two columns, which are cut from one window moved up so that the first of them is
+// highest. Three are those of a combined bias, whose widths the compiler knows here: such a row costs no more than one of
+// two. A phase bias without a code bias is cut as any other row is.
 pub fn cell(row: &mut [i32], key: Key, bytes: &[u8], at: usize, s: Shape)
     requires { ⌜ (length (now row) ≡ 8) × (at < 2 ^ 32) × FormedShape s × Narrow s × (at + 120 ≤ 8 * length (now bytes)) ⌝ }
     ensures { λ _. ⌜ now (row .exit) ≡ key .system ∷ key .satellite ∷ key .signal ∷ valuesAt (columnsOf s) (now (bytes .entry)) at ⌝ }
@@ -145,10 +164,12 @@ pub fn cell(row: &mut [i32], key: Key, bytes: &[u8], at: usize, s: Shape)
             v5: ABSENT,
         };
         store(row, key, v);
-    } else if s.v1.width + s.v2.width + s.v3.width == 0 {
-        gaps(row, key);
-    } else {
+    } else if s.v1.width > 0 {
+        three(row, key, bytes, at, shapes::both());
+    } else if s.v3.width > 0 {
         wide(row, key, bytes, at, s);
+    } else {
+        gaps(row, key);
     }
 }
 

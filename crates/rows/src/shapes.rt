@@ -1,5 +1,5 @@
-// The table of the rows' shapes (document 01, "What is handed out"), by number: those by the flags of
-// orbit and clock first.
+// The table of the rows' shapes (document 01, "What is handed out"; document 02, Ask 1), by number: those by the flags
+// of orbit and clock first, those by the flags of code and phase biases from BIASES on.
 ghost use mathlib.Core.Path.{_≡_};
 ghost use mathlib.Core.Bool.{false};
 ghost use Prim.Native.Nat.{_≤_};
@@ -34,6 +34,21 @@ pub const PHASE: usize = 6;
 
 // A packet's part.
 pub const PACKET: usize = 7;
+
+// By the two flags of code and phase biases: neither is set.
+pub const BIASES: usize = 8;
+
+// The phase biases' alone.
+const PHASES: usize = 9;
+
+// The code biases' alone.
+const CODES: usize = 10;
+
+// Both.
+const BOTH: usize = 11;
+
+// SSR URA.
+pub const ACCURACY: usize = 12;
 
 // The system whose IODE is longer.
 pub const GALILEO: u8 = 2;
@@ -109,6 +124,25 @@ fn phase() -> Shape
     three(shape::counts(15), shape::plain(2), shape::gap())
 }
 
+// By the flags: phase biases alone, and both.
+fn phases() -> Shape
+    ensures { λ r. ⌜ r ≡ shapeFor 9 ⌝ }
+{
+    three(shape::gap(), shape::counts(15), shape::plain(2))
+}
+
+pub fn both() -> Shape
+    ensures { λ r. ⌜ r ≡ shapeFor 11 ⌝ }
+{
+    three(shape::counts(11), shape::counts(15), shape::plain(2))
+}
+
+fn accuracy() -> Shape
+    ensures { λ r. ⌜ r ≡ shapeFor 12 ⌝ }
+{
+    three(shape::plain(6), shape::gap(), shape::gap())
+}
+
 pub fn packet() -> Shape
     ensures { λ r. ⌜ r ≡ shapeFor 7 ⌝ }
 {
@@ -135,6 +169,10 @@ pub fn shape_of(i: usize) -> Shape
         CODE => code(),
         PHASE => phase(),
         PACKET => packet(),
+        PHASES => phases(),
+        CODES => code(),
+        BOTH => both(),
+        ACCURACY => accuracy(),
         _ => last(shape::gap()),
     }
 }
@@ -152,6 +190,10 @@ pub fn width_in(i: usize, system: u8) -> usize
         CODE => shape::width(code()),
         PHASE => shape::width(phase()),
         PACKET => shape::width(packet()),
+        PHASES => shape::width(phases()),
+        CODES => shape::width(code()),
+        BOTH => shape::width(both()),
+        ACCURACY => shape::width(accuracy()),
         _ => shape::width(last(shape::gap())),
     }
 }

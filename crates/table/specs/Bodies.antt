@@ -1,7 +1,9 @@
 -- Which lines a body has, by what a holding shows: over which keys, and in which shape.
-use mathlib.Core.List.{List}
+use mathlib.Core.Bool.{Bool, true, _&&_}
+use mathlib.Core.List.{List, [], _∷_}
 use mathlib.Core.Path.{_≡_}
 use Prim.Native.Nat.{ℕ, _≤_}
+use lib.Dec.{ltb}
 use Rattle.bits.specs.BitLists.{spell}
 use Rattle.format.specs.Masks.{pick}
 use Rattle.format.specs.Messages.{satelliteLines, cellLines, packetLines}
@@ -22,10 +24,15 @@ linesOver v (Parts n) shape = packetLines 1 n
 unfoldable pub linesIn : View → Body → List Line
 linesIn v body = linesOver v (body .keys) (body .shape)
 
--- A body's shape is one that its keys can have: 256 cells' rows of 17 bits are not longer than 64 satellites' longest. A packet has four parts at most.
+-- strips that each have a signal
+unfoldable pub allSet : List ℕ → Bool
+allSet [] = true
+allSet (x ∷ xs) = ltb 0 x && allSet xs
+
+-- A body's shape is one that its keys can have: the longest row of a cell has 28 bits. A packet has four parts at most.
 unfoldable pub FitsKeys : Keys → ℕ → Type 0
 FitsKeys (Satellites chosen) shape = Laid (shapeFor shape)
-FitsKeys (Cells chosen) shape = Narrow (shapeFor shape) × (shapeWidth (shapeAt shape 0) ≤ 17)
+FitsKeys (Cells chosen) shape = Narrow (shapeFor shape) × (shapeWidth (shapeAt shape 0) ≤ 28)
 FitsKeys (Parts n) shape = (n ≤ 4) × (shape ≡ 7)
 
 abbrev pub Fits : Body → Type 0

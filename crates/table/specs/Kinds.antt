@@ -2,10 +2,11 @@
 use mathlib.Core.Bool.{Bool, true, false, cond}
 use mathlib.Core.List.{List, [], _∷_}
 use mathlib.Core.Path.{_≡_}
-use Prim.Native.Nat.{ℕ}
+use Prim.Native.Nat.{ℕ, _+_, _<_}
 use lib.ListN.{getD}
 use Rattle.format.specs.Masks.{Sky}
-use Rattle.format.specs.Messages.{Heading, Common, rowsAlone, overSatellites, overCells, flagged, packet, maskMessage}
+use Rattle.format.specs.Messages as Messages
+use Rattle.format.specs.Messages.{Heading, Common, rowsAlone, overSatellites, overCells, bySatellite, byCell, flagged, packet, maskMessage}
 use Rattle.format.specs.Programs.{Program}
 use Rattle.format.specs.Rows.{Line}
 use Rattle.format.specs.Spelling.{putRows, putFlagged, putPacket, putMask}
@@ -35,7 +36,9 @@ codeKinds =
     ∷ layout false false 4
     ∷ layout true false 5
     ∷ layout true false 6
-    ∷ Other ∷ Other ∷ Other ∷ Other
+    ∷ layout true true 8
+    ∷ layout false false 12
+    ∷ Other ∷ Other
     ∷ Packet
     ∷ layout false true 0
     ∷ []
@@ -43,10 +46,12 @@ codeKinds =
 unfoldable pub kindFor : ℕ → Kind
 kindFor n = getD codeKinds n Other
 
--- what is known of a layout: with flags it is satellites', from the first shape on; else its shape is one that its keys can have
+-- what is known of a layout: its shape is one that its keys can have, and with flags so are the three behind it; of satellites these are the first four
 pub record LaidOut (l : Layout) : Type 0 where
-  pub with-flags : l .flagged ≡ true → (l .cells ≡ false) × (l .shape ≡ 0)
+  pub small : l .shape < 16
   pub fits : (chosen : ℕ) → FitsKeys (keysFor (l .cells) chosen) (l .shape)
+  pub with-flags : l .flagged ≡ true → (k : ℕ) → k < 4 → (chosen : ℕ) → FitsKeys (keysFor (l .cells) chosen) (l .shape + k)
+  pub four : l .flagged ≡ true → l .cells ≡ false → l .shape ≡ 0
 
 unfoldable pub OfTable : Kind → Type 0
 OfTable Other = Unit {0}
@@ -59,11 +64,15 @@ OfTable (Masked l) = LaidOut l
 unfoldable pub overBy : Layout → Sky → List Line
 overBy l = cond (l .cells) (overCells (shapeAt (l .shape))) (overSatellites (shapeAt (l .shape)))
 
+-- over which keys
+unfoldable pub keysBy : Layout → Messages.Keys
+keysBy l = cond (l .cells) byCell bySatellite
+
 unfoldable pub programBy : ℕ → Layout → Sky → Common → Program Heading
-programBy n l = cond (l .flagged) (flagged n (shapesFrom (l .shape))) (rowsAlone n (overBy l))
+programBy n l = cond (l .flagged) (flagged n (keysBy l) (shapesFrom (l .shape))) (rowsAlone n (overBy l))
 
 unfoldable pub maskedBy : ℕ → Layout → Table.MaskedKind
-maskedBy n l = record { program = programBy n l; spelling = cond (l .flagged) (putFlagged (shapesFrom (l .shape))) (putRows (overBy l)) }
+maskedBy n l = record { program = programBy n l; spelling = cond (l .flagged) (putFlagged (keysBy l) (shapesFrom (l .shape))) (putRows (overBy l)) }
 
 unfoldable pub kindBy : ℕ → Kind → Table.Kind
 kindBy n Other = Table.other

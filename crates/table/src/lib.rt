@@ -1,7 +1,7 @@
 // The table of sub types (document 01, "Message layouts"): what each is to the holding, over which keys its rows go and
 // in which shape. Small numbers all of it, so that it costs nothing to hand on: a shape is its row in the table of shapes.
 ghost use mathlib.Core.Path.{_≡_};
-ghost use mathlib.Core.Bool.{false};
+ghost use mathlib.Core.Bool.{true, false};
 ghost use Rattle.table.specs.declared.Kind.the-variants.{Masked};
 ghost use Rattle.table.specs.Kinds.{kindFor, keysFor};
 use rows::shapes;
@@ -50,6 +50,17 @@ fn alone(cells: bool, shape: usize) -> Kind
     })
 }
 
+// Rows behind flags.
+fn flagged(cells: bool, shape: usize) -> Kind
+    ensures { λ r. ⌜ r ≡ Masked (record { cells = cells; flagged = true; shape = shape }) ⌝ }
+{
+    Kind::Masked(Layout {
+        cells,
+        flagged: true,
+        shape,
+    })
+}
+
 // The sub types whose number is said elsewhere, too: in a head, and to tell a mask.
 pub const MASK: usize = 1;
 
@@ -65,12 +76,10 @@ pub fn kind_of(n: usize) -> Kind
         3 => alone(false, shapes::CLOCK),
         4 => alone(true, shapes::CODE),
         5 => alone(true, shapes::PHASE),
+        6 => flagged(true, shapes::BIASES),
+        7 => alone(false, shapes::ACCURACY),
         PACKET => Kind::Packet,
-        11 => Kind::Masked(Layout {
-            cells: false,
-            flagged: true,
-            shape: shapes::NONE,
-        }),
+        11 => flagged(false, shapes::NONE),
         _ => Kind::Other,
     }
 }

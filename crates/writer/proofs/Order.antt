@@ -11,7 +11,7 @@ use Rattle.format.specs.Same.{sameℤ}
 use Rattle.format.specs.Table as Table
 use Rattle.format.specs.Table.{table, kindOf, spelled}
 use Rattle.format.specs.Tests.{Test, verdict}
-use Rattle.format.specs.Writing.{Written, wrote, refused, rowsIn, exact, isOurs, hasMask, ofIssue, limit, writing}
+use Rattle.format.specs.Writing.{Written, wrote, refused, rowsIn, exact, isOurs, hasMask, ofIssue, hasNetwork, limit, writing}
 use Rattle.holding.specs.Held.{isHeld, issueOf}
 use Rattle.table.proofs.Tabled.{table-means}
 use Rattle.table.specs.declared.Kind.{Kind}
@@ -87,9 +87,8 @@ module _ (g : Held) (h : Head) where
   unfolding isOther
   ours k known e = false≢true (sym known ∙ ap isOther e)
 
-  net : (n : ℕ) (b : Bool) → h .subtype ≡ pos n → eqb n 11 ≡ b → sameℤ (h .subtype) (pos 11) ≡ b
-  unfolding sameℤ
-  net n b typed e = ap (λ (z : ℤ). sameℤ z (pos 11)) typed ∙ e
+  net : (n : ℕ) (b : Bool) → h .subtype ≡ pos n → hasNetwork (pos n) ≡ b → hasNetwork (h .subtype) ≡ b
+  net n b typed e = ap hasNetwork typed ∙ e
 
   gate-kind : (n : ℕ) (k : Kind) → Numbered n k → h .subtype ≡ pos n → gateBy k (isHeld g) (issueOf g) h ≡ verdict Shut Open (gateTests (kindBy n k) g h)
   unfolding gateBy issueGate gateTests verdict isOurs hasMask ofIssue kindBy isHeld issueOf flaggedIn isOther
@@ -97,11 +96,11 @@ module _ (g : Held) (h : Head) where
     where
       go : (g : Held) (k : Kind) → Numbered n k → gateBy k (isHeld g) (issueOf g) h ≡ verdict Shut Open (gateTests (kindBy n k) g h)
       go g Other row = refl
-      go g Packet row = free-gate (sameℤ (h .c) (pos 0)) (sameℤ (h .subtype) (pos 11)) (net n false typed (row .network (ours Packet refl)))
+      go g Packet row = free-gate (sameℤ (h .c) (pos 0)) (hasNetwork (h .subtype)) (net n false typed (row .network (ours Packet refl)))
       go nothing Mask row = refl
-      go (mask m) Mask row = issued (sameℤ (h .iod) (pos (m .iod))) false (sameℤ (h .c) (pos 0)) (sameℤ (h .subtype) (pos 11)) (net n false typed (row .network (ours Mask refl)))
+      go (mask m) Mask row = issued (sameℤ (h .iod) (pos (m .iod))) false (sameℤ (h .c) (pos 0)) (hasNetwork (h .subtype)) (net n false typed (row .network (ours Mask refl)))
       go nothing (Masked l) row = refl
-      go (mask m) (Masked l) row = issued (sameℤ (h .iod) (pos (m .iod))) (l .flagged) (sameℤ (h .c) (pos 0)) (sameℤ (h .subtype) (pos 11)) (net n (l .flagged) typed (row .network (ours (Masked l) refl)))
+      go (mask m) (Masked l) row = issued (sameℤ (h .iod) (pos (m .iod))) (l .flagged) (sameℤ (h .c) (pos 0)) (hasNetwork (h .subtype)) (net n (l .flagged) typed (row .network (ours (Masked l) refl)))
 
   pub gate-means : gateBy (kindAt (h .subtype)) (isHeld g) (issueOf g) h ≡ verdict Shut Open (gateTests (kindOf table (h .subtype)) g h)
   unfolding kindAt kindOf gateBy gateTests verdict isOurs

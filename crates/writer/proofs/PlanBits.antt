@@ -12,6 +12,8 @@ use Rattle.format.specs.Same.{sameℤ}
 use Rattle.format.specs.Spelling.{put, putCommon, putRows, putFlagged}
 use Rattle.format.specs.Table as Table
 use Rattle.format.specs.Table.{table, kindOf, spellKind, spelledBy, spelled}
+use Rattle.format.proofs.Selections.{Distinct}
+use Rattle.holding.specs.Bounds.{narrow}
 use Rattle.holding.specs.Held.{View, skyIn}
 use Rattle.table.proofs.Overs.{alone-lines}
 use Rattle.table.proofs.Tabled.{table-means}
@@ -19,7 +21,7 @@ use Rattle.table.specs.declared.Kind.{Kind}
 use Rattle.table.specs.declared.Kind.the-variants.{Masked}
 use Rattle.table.specs.declared.Layout.{Layout}
 use Rattle.table.specs.Bodies.{linesIn}
-use Rattle.table.specs.Kinds.{kindFor, overBy, maskedBy, kindBy}
+use Rattle.table.specs.Kinds.{kindFor, overBy, keysBy, maskedBy, kindBy}
 use Rattle.table.specs.Shapes.{shapesFrom}
 use Rattle.fitting.specs.Fits.{rowsFit}
 use Rattle.fitting.specs.FitHeads.{Asks, numberFits, commonFits, aloneFits, flaggedFits, askedBy, fitsAs, fits}
@@ -37,6 +39,9 @@ pub record Under (m : Mask) (v : View) (n : ℕ) (l : Layout) (h : Head) : Type 
   pub sky : skyIn v ≡ skyOf m
   pub few : length (v .satellites) ≤ 64
   pub strips : length (v .strips) ≤ 64
+  pub covered : length (v .satellites) ≤ length (v .strips)
+  pub thin : narrow 16 (v .strips) ≡ true
+  pub apart : Distinct (v .satellites)
   pub row : kindFor n ≡ Masked l
   pub typed : h .subtype ≡ pos n
   pub issue : sameℤ (h .iod) (pos (m .iod)) ≡ true
@@ -50,10 +55,10 @@ small-type n k h row ours typed =
 module _ {m : Mask} {v : View} {n : ℕ} {l : Layout} {h : Head} (u : Under m v n l h) (rows : List (List ℤ)) where
   -- its test, and its spelling
   abbrev test : Sky → Head → List (List ℤ) → Bool
-  test = cond (l .flagged) (flaggedFits (shapesFrom (l .shape))) (aloneFits (overBy l))
+  test = cond (l .flagged) (flaggedFits (keysBy l) (shapesFrom (l .shape))) (aloneFits (overBy l))
 
   abbrev spelling : Sky → Head → List (List ℤ) → List Bool
-  spelling = cond (l .flagged) (putFlagged (shapesFrom (l .shape))) (putRows (overBy l))
+  spelling = cond (l .flagged) (putFlagged (keysBy l) (shapesFrom (l .shape))) (putRows (overBy l))
 
   pub under-fits : fits (mask m) h rows ≡ (commonFits 12 h && test (skyOf m) h rows)
   unfolding fits fitsAs asksOf
@@ -95,7 +100,7 @@ module _ {m : Mask} {v : View} {n : ℕ} {l : Layout} {h : Head} (u : Under m v 
   pub alone-fits : fits (mask m) h rows ≡ (aloneHead h && rowsFit lines rows)
   unfolding aloneHead aloneFits
   alone-fits =
-      under-fits u rows ∙ ap (λ (b : Bool). commonFits 12 h && cond b (flaggedFits (shapesFrom (l .shape))) (aloneFits (overBy l)) (skyOf m) h rows) bare
+      under-fits u rows ∙ ap (λ (b : Bool). commonFits 12 h && cond b (flaggedFits (keysBy l) (shapesFrom (l .shape))) (aloneFits (overBy l)) (skyOf m) h rows) bare
       ∙ regroup (commonFits 12 h) (sameℤ (h .a) absent) (sameℤ (h .b) absent) (sameℤ (h .c) absent) (rowsFit (overBy l (skyOf m)) rows)
       ∙ ap (λ (ls : List Line). aloneHead h && rowsFit ls rows) (sym same-lines)
 
@@ -104,5 +109,5 @@ module _ {m : Mask} {v : View} {n : ℕ} {l : Layout} {h : Head} (u : Under m v 
   alone-bits head =
       let common = and-true (commonFits 12 h) _ head .0 in
       let fines = front-fines h (under-type u rows) 12 (omega arith) common in
-      under-bits u rows common ∙ ap (λ (b : Bool). spellFields (frontFields 12 h) ++ cond b (putFlagged (shapesFrom (l .shape))) (putRows (overBy l)) (skyOf m) h rows) bare
+      under-bits u rows common ∙ ap (λ (b : Bool). spellFields (frontFields 12 h) ++ cond b (putFlagged (keysBy l) (shapesFrom (l .shape))) (putRows (overBy l)) (skyOf m) h rows) bare
       ∙ ap₂ (λ (a : List Bool) (ls : List Line). a ++ spellRows ls rows) (sym (pen-bits (frontFields 12 h) start fines (omega arith))) (sym same-lines)

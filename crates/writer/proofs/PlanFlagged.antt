@@ -11,16 +11,17 @@ use Rattle.format.proofs.Sames.{and-true}
 use Rattle.format.specs.declared.Head.{Head}
 use Rattle.format.specs.Lengths.{total}
 use Rattle.format.specs.Masks.{Mask, mask, Satellite, Sky, skyOf, pick}
-use Rattle.format.specs.Messages.{satelliteLines}
+use Rattle.format.specs.Messages.{linesOf}
 use Rattle.format.specs.Rows.{absent, Line, spellRows}
 use Rattle.format.specs.Same.{sameℤ}
-use Rattle.format.specs.Spelling.{put, marks, putSelection, chosenBy, putFlagged, putRows}
+use Rattle.format.specs.Spelling.{put, rowsFor, marks, putSelection, chosenBy, putFlagged, putRows}
 use Rattle.format.specs.Table.{spelled}
 use Rattle.holding.specs.Held.{View, skyIn}
 use Rattle.rows.specs.Table.{shapeAt}
 use Rattle.table.specs.declared.Layout.{Layout}
-use Rattle.table.specs.Bodies.{linesOver, linesIn}
-use Rattle.table.specs.Kinds.{overBy}
+use Rattle.table.specs.Bodies.{linesIn}
+use Rattle.table.specs.Kinds.{overBy, keysBy}
+use Rattle.table.proofs.Overs.{chosen-lines}
 use Rattle.table.specs.Shapes.{shapesFrom}
 use Rattle.putting.specs.declared.marks.Selected.{Selected}
 use Rattle.writer.specs.declared.plan.Plan.{Plan}
@@ -128,10 +129,11 @@ module _ (h : Head) (head : flaggedHead h ≡ true) where
   two-flags = spell-append 1 1 a b b-small ∙ ap₂ _++_ (sym (put-word 1 (h .a) first)) (sym (put-word 1 (h .b) second))
 
   -- and their bits: the two flags, the third, and a network with its selection
-  pub flags-bits : (sats : List Satellite) (rows : List (List ℤ)) (chosen n : ℕ) → (sameℤ (h .c) absent ≡ false → selected n chosen ≡ marks sats rows)
-      → spellFields (flagFields h) ++ selected (cond (sameℤ (h .c) absent) 0 n) chosen ≡ put 1 (h .a) ++ (put 1 (h .b) ++ putSelection sats (h .c) rows)
+  pub flags-bits : (own : Satellite → ℕ) (sats : List Satellite) (rows : List (List ℤ)) (chosen n : ℕ)
+      → (sameℤ (h .c) absent ≡ false → selected n chosen ≡ marks own sats rows)
+      → spellFields (flagFields h) ++ selected (cond (sameℤ (h .c) absent) 0 n) chosen ≡ put 1 (h .a) ++ (put 1 (h .b) ++ putSelection own sats (h .c) rows)
   unfolding flagFields putSelection spellFields
-  flags-bits sats rows chosen n marked = go (sameℤ (h .c) absent) refl
+  flags-bits own sats rows chosen n marked = go (sameℤ (h .c) absent) refl
     where
       alone : spell 3 flags ≡ (put 1 (h .a) ++ put 1 (h .b)) ++ (false ∷ [])
       alone =
@@ -147,13 +149,13 @@ module _ (h : Head) (head : flaggedHead h ≡ true) where
 
       go : (none-there : Bool) → sameℤ (h .c) absent ≡ none-there
           → spellFields (cond none-there (record { width = 3; value = flags } ∷ []) (record { width = 8; value = (flags + 1) * 32 + wordOf (h .c) } ∷ [])) ++ selected (cond none-there 0 n) chosen
-          ≡ put 1 (h .a) ++ (put 1 (h .b) ++ cond none-there (false ∷ []) (true ∷ (put 5 (h .c) ++ marks sats rows)))
+          ≡ put 1 (h .a) ++ (put 1 (h .b) ++ cond none-there (false ∷ []) (true ∷ (put 5 (h .c) ++ marks own sats rows)))
       go true e =
           ap (λ (l : List Bool). (spell 3 flags ++ []) ++ l) (no-selection chosen) ∙ append-nil (spell 3 flags ++ []) ∙ append-nil (spell 3 flags) ∙ alone ∙ append-assoc (put 1 (h .a)) (put 1 (h .b)) (false ∷ [])
       go false e =
           ap₂ _++_ (append-nil (spell 8 ((flags + 1) * 32 + wordOf (h .c))) ∙ networked e) (marked e)
-          ∙ append-assoc (put 1 (h .a) ++ put 1 (h .b)) (true ∷ put 5 (h .c)) (marks sats rows)
-          ∙ append-assoc (put 1 (h .a)) (put 1 (h .b)) (true ∷ (put 5 (h .c) ++ marks sats rows))
+          ∙ append-assoc (put 1 (h .a) ++ put 1 (h .b)) (true ∷ put 5 (h .c)) (marks own sats rows)
+          ∙ append-assoc (put 1 (h .a)) (put 1 (h .b)) (true ∷ (put 5 (h .c) ++ marks own sats rows))
 
 -- all of this is gathered at once
 pub few-bits : (h : Head) → widths (frontFields 12 h ++ flagFields h) ≤ 56
@@ -168,32 +170,37 @@ few-bits h = go (sameℤ (h .c) absent)
 -- ---- all of it
 
 module _ {m : Mask} {v : View} {n : ℕ} {l : Layout} {h : Head} (u : Under m v n l h) (flagged : l .flagged ≡ true) (rows : List (List ℤ)) (start : ℕ) (sel : Selected) (many : ℕ)
-    (choice : pick (spell 64 (sel .word)) (v .satellites) ≡ chosenBy (v .satellites) (h .c) rows) where
+    (choice : pick (spell 64 (sel .word)) (v .satellites) ≡ chosenBy (rowsFor (keysBy l) (skyIn v)) (v .satellites) (h .c) rows) where
   abbrev plan : Plan
-  plan = flaggedPlan h (l .shape) start sel many
+  plan = flaggedPlan h l start sel many
 
-  abbrev sats : List Satellite
-  sats = v .satellites
+  -- the satellites that rows choose under what is seen, and the bits by which they do
+  abbrev chosen : Sky → List Satellite
+  chosen sky = chosenBy (rowsFor (keysBy l) sky) (sky .satellites) (h .c) rows
+
+  abbrev marked-in : Sky → List Bool
+  marked-in sky = marks (rowsFor (keysBy l) sky) (sky .satellites) rows
 
   -- the lines that its test asks for
-  abbrev asked : List Line
-  asked = satelliteLines (shapesFrom (l .shape) (sameℤ (h .a) (pos 1)) (sameℤ (h .b) (pos 1))) (chosenBy (skyOf m .satellites) (h .c) rows)
+  abbrev linesFor : Sky → List Line
+  linesFor sky = linesOf (keysBy l) (shapesFrom (l .shape) (sameℤ (h .a) (pos 1)) (sameℤ (h .b) (pos 1))) sky (chosen sky)
 
-  seen : skyOf m .satellites ≡ sats
-  unfolding skyIn
-  seen = ap (λ (s : Sky). s .satellites) (sym (u .sky))
+  abbrev asked : List Line
+  asked = linesFor (skyOf m)
 
   same-lines : flaggedHead h ≡ true → linesIn v (plan .body) ≡ asked
-  unfolding linesIn linesOver flaggedPlan shapesFrom
+  unfolding linesIn flaggedPlan shapesFrom skyIn
   same-lines head =
       let flags : l .shape + (wordOf (h .a) * 2 + wordOf (h .b)) ≡ l .shape + (digit (sameℤ (h .a) (pos 1)) * 2 + digit (sameℤ (h .b) (pos 1))) =
       ap₂ (λ (x y : ℕ). l .shape + (x * 2 + y)) (sym (flag-digit (h .a) (first h head))) (sym (flag-digit (h .b) (second h head))) in
-      ap₂ (λ (i : ℕ) (ss : List Satellite). satelliteLines (shapeAt i) ss) flags (choice ∙ ap (λ (ss : List Satellite). chosenBy ss (h .c) rows) (sym seen))
+      sym (chosen-lines l v (l .shape + (wordOf (h .a) * 2 + wordOf (h .b))) (sel .word) (u .apart) (u .covered))
+      ∙ ap₂ (λ (i : ℕ) (ss : List Satellite). linesOf (keysBy l) (shapeAt i) (skyIn v) ss) flags choice
+      ∙ ap linesFor (u .sky)
 
   fits-asked : fits (mask m) h rows ≡ (flaggedHead h && rowsFit asked rows)
   unfolding flaggedHead flaggedFits
   fits-asked =
-      under-fits u rows ∙ ap (λ (x : Bool). commonFits 12 h && cond x (flaggedFits (shapesFrom (l .shape))) (aloneFits (overBy l)) (skyOf m) h rows) flagged
+      under-fits u rows ∙ ap (λ (x : Bool). commonFits 12 h && cond x (flaggedFits (keysBy l) (shapesFrom (l .shape))) (aloneFits (overBy l)) (skyOf m) h rows) flagged
       ∙ regroup (commonFits 12 h) (numberFits 1 (h .a)) (numberFits 1 (h .b)) (networkFits (h .c)) (rowsFit asked rows)
 
   pub flagged-unfit : flaggedHead h ≡ false → fits (mask m) h rows ≡ false
@@ -206,7 +213,7 @@ module _ {m : Mask} {v : View} {n : ℕ} {l : Layout} {h : Head} (u : Under m v 
     pub flagged-fines : Fines (frontFields 12 h ++ flagFields h)
     flagged-fines = fines-append (front-fines h (under-type u rows) 12 (omega arith) (flagged-common h head)) (flags-fine h head)
 
-    pub flagged-bits : (sameℤ (h .c) absent ≡ false → selected many (sel .word) ≡ marks sats rows) → spelled (mask m) h rows ≡ planBits v plan rows
+    pub flagged-bits : (sameℤ (h .c) absent ≡ false → selected many (sel .word) ≡ marked-in (skyIn v)) → spelled (mask m) h rows ≡ planBits v plan rows
     unfolding planBits flaggedPlan putFlagged frontFields flagFields total openingField lastField
     flagged-bits marked =
         let front : List Bool = spellFields (frontFields 12 h) in
@@ -215,12 +222,13 @@ module _ {m : Mask} {v : View} {n : ℕ} {l : Layout} {h : Head} (u : Under m v 
         let rest : List Bool = spellRows asked rows in
         let whole : spell (plan .pen .width) (plan .pen .gathered) ≡ front ++ flags =
         pen-bits (frontFields 12 h ++ flagFields h) start flagged-fines (few-bits h) ∙ spell-fields-append (frontFields 12 h) (flagFields h) in
-        let both : flags ++ selection ≡ put 1 (h .a) ++ (put 1 (h .b) ++ putSelection (skyOf m .satellites) (h .c) rows) =
-        flags-bits h head (skyOf m .satellites) rows (sel .word) many (λ e. marked e ∙ ap (λ (ss : List Satellite). marks ss rows) (sym seen)) in
+        let put-selection : List Bool = putSelection (rowsFor (keysBy l) (skyOf m)) (skyOf m .satellites) (h .c) rows in
+        let both : flags ++ selection ≡ put 1 (h .a) ++ (put 1 (h .b) ++ put-selection) =
+        flags-bits h head (rowsFor (keysBy l) (skyOf m)) (skyOf m .satellites) rows (sel .word) many (λ e. marked e ∙ ap marked-in (u .sky)) in
         under-bits u rows (flagged-common h head)
-        ∙ ap (λ (x : Bool). front ++ cond x (putFlagged (shapesFrom (l .shape))) (putRows (overBy l)) (skyOf m) h rows) flagged
+        ∙ ap (λ (x : Bool). front ++ cond x (putFlagged (keysBy l) (shapesFrom (l .shape))) (putRows (overBy l)) (skyOf m) h rows) flagged
         ∙ ap (λ (k : List Bool). front ++ k)
-        (sym (append-assoc (put 1 (h .a)) (put 1 (h .b) ++ putSelection (skyOf m .satellites) (h .c) rows) rest ∙ ap (λ (k : List Bool). put 1 (h .a) ++ k) (append-assoc (put 1 (h .b)) (putSelection (skyOf m .satellites) (h .c) rows) rest))
+        (sym (append-assoc (put 1 (h .a)) (put 1 (h .b) ++ put-selection) rest ∙ ap (λ (k : List Bool). put 1 (h .a) ++ k) (append-assoc (put 1 (h .b)) put-selection rest))
         ∙ ap (λ (k : List Bool). k ++ rest) (sym both) ∙ append-assoc flags selection rest)
         ∙ sym (append-assoc front flags (selection ++ rest))
         ∙ ap₂ (λ (k : List Bool) (ls : List Line). k ++ (selection ++ spellRows ls rows)) (sym whole) (sym (same-lines head))

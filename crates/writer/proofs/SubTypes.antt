@@ -8,12 +8,14 @@ use Rattle.bits.specs.Signed.{unsigned}
 use Rattle.format.proofs.Tables.{Each, end, then, each-at, NoneOf}
 use Rattle.format.specs.Masks.{nothing}
 use Rattle.format.specs.Messages.{combinedShape, orbitShape, overSatellites, overCells}
+use Rattle.format.specs.Same.{sameℤ}
 use Rattle.format.specs.Table as Table
+use Rattle.format.specs.Writing.{hasNetwork}
 use Rattle.rows.specs.Table.{shapes, listed, shapeAt}
-use Rattle.table.proofs.Tabled.{combined-shapes, unlisted-other, ours}
+use Rattle.table.proofs.Tabled.{combined-shapes, bias-shapes, unlisted-other, ours}
 use Rattle.table.specs.declared.Kind.{Kind}
 use Rattle.table.specs.declared.Kind.the-variants.{Other, Mask, Packet, Masked}
-use Rattle.table.specs.Kinds.{codeKinds, kindFor, overBy}
+use Rattle.table.specs.Kinds.{codeKinds, kindFor, overBy, keysBy}
 use Rattle.fitting.specs.FitHeads.{Asks, never, asked, askedBy}
 use Rattle.writer.specs.Kinds.{kindAt, asksOf}
 use Rattle.pens.specs.Numbers.{wordOf}
@@ -26,7 +28,7 @@ unfolding wordOf unsigned kindAt NoneOf
 kind-word (pos n) fits = refl
 kind-word (negsuc n) fits =
     let big : 2 ^ 31 < suc (2 ^ 32 - suc n) = omega (arith, halved fits) in
-    sym (unlisted-other (2 ^ 32 - suc n) (((((((tt, λ e. omega arith), λ e. omega arith), λ e. omega arith), λ e. omega arith), λ e. omega arith), λ e. omega arith), λ e. omega arith))
+    sym (unlisted-other (2 ^ 32 - suc n) (((((((((tt, λ e. omega arith), λ e. omega arith), λ e. omega arith), λ e. omega arith), λ e. omega arith), λ e. omega arith), λ e. omega arith), λ e. omega arith), λ e. omega arith))
 
 -- ---- what they ask
 
@@ -37,8 +39,8 @@ mapped zero (k ∷ ks) = refl
 mapped (suc n) (k ∷ ks) = mapped n ks
 
 asks-listed : map asksOf codeKinds ≡ asked
-unfolding codeKinds asksOf asked overBy overSatellites overCells shapeAt listed shapes orbitShape combinedShape
-asks-listed = rw combined-shapes
+unfolding codeKinds asksOf asked overBy keysBy overSatellites overCells shapeAt listed shapes orbitShape combinedShape
+asks-listed = rw (combined-shapes, bias-shapes)
 
 pub asks-mean : (n : ℕ) → askedBy (pos n) ≡ asksOf (kindFor n)
 unfolding askedBy kindFor
@@ -61,18 +63,18 @@ isOther (Masked l) = false
 
 pub record Numbered (n : ℕ) (k : Kind) : Type 0 where
   pub small : (k ≡ Other → ⊥) → n < 2 ^ 4
-  pub network : (k ≡ Other → ⊥) → eqb n 11 ≡ flaggedIn k
+  pub network : (k ≡ Other → ⊥) → hasNetwork (pos n) ≡ flaggedIn k
 
 numbers : Each Numbered 0 codeKinds
-unfolding codeKinds flaggedIn
+unfolding codeKinds flaggedIn hasNetwork sameℤ
 numbers =
     then (none 0) (then (one 1 Mask (omega arith) refl) (then (one 2 _ (omega arith) refl) (then (one 3 _ (omega arith) refl) (then (one 4 _ (omega arith) refl)
-    (then (one 5 _ (omega arith) refl) (then (none 6) (then (none 7) (then (none 8) (then (none 9) (then (one 10 Packet (omega arith) refl) (then (one 11 _ (omega arith) refl) end)))))))))))
+    (then (one 5 _ (omega arith) refl) (then (one 6 _ (omega arith) refl) (then (one 7 _ (omega arith) refl) (then (none 8) (then (none 9) (then (one 10 Packet (omega arith) refl) (then (one 11 _ (omega arith) refl) end)))))))))))
   where
     none : (n : ℕ) → Numbered n Other
     none n = record { small = λ ours. absurd (ours refl); network = λ ours. absurd (ours refl) }
 
-    one : (n : ℕ) (k : Kind) → n < 2 ^ 4 → eqb n 11 ≡ flaggedIn k → Numbered n k
+    one : (n : ℕ) (k : Kind) → n < 2 ^ 4 → hasNetwork (pos n) ≡ flaggedIn k → Numbered n k
     one n k small network = record { small = λ _. small; network = λ _. network }
 
 pub numbered : (n : ℕ) → Numbered n (kindFor n)

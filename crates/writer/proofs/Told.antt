@@ -1,5 +1,5 @@
 -- The plan of a kind tells what head and rows come to: whether they fit, and their bits. Assumes nothing.
-use Rattle.bits.proofs.Words.{_≡_, refl, sym, ap, _∙_, Bool, true, false, not, cond, _&&_, List, _++_, ℕ, _+_, _-_, _*_, _/_, _^_, _≤_, _<_, arith, eqb, length, ℤ, pos}
+use Rattle.bits.proofs.Words.{_≡_, refl, sym, ap, ap₂, subst, _∙_, Bool, true, false, not, cond, _&&_, List, _++_, map, ℕ, _+_, _-_, _*_, _/_, _^_, _≤_, _<_, arith, eqb, length, ℤ, pos}
 use mathlib.Core.Bool.{false≢true}
 use lib.IntN.{negsuc}
 use Rattle.bits.specs.BitLists.{spell}
@@ -7,29 +7,31 @@ use Rattle.format.proofs.Picks.{pick-all}
 use borrow.Author.Tests.{eq-eqb, eqb-true, not-true}
 use Rattle.matching.proofs.ValueTests.{chosen-valued}
 use Rattle.matching.specs.Values.{rowsValued}
+use Rattle.format.proofs.Lengths.{total-same}
 use Rattle.format.proofs.Sames.{and-true, same-test}
+use Rattle.format.proofs.Selections.{Distinct}
 use Rattle.format.specs.declared.Head.{Head}
 use Rattle.format.specs.declared.Refusal.the-variants.{OtherIssue}
 use Rattle.format.specs.Lengths.{total}
 use Rattle.format.specs.Masks.{Mask, Held, nothing, mask, Satellite, skyOf, pick}
 use Rattle.format.specs.Rows.{absent}
 use Rattle.format.specs.Same.{sameℤ}
-use Rattle.format.specs.Spelling.{marks, chosenBy}
+use Rattle.format.specs.Messages.{bySatellite, byCell}
+use Rattle.format.specs.Spelling.{rowsFor, marks, chosenBy}
 use Rattle.format.specs.Table.{spelled}
-use Rattle.holding.proofs.Sounds.{Sounds, few-held}
+use Rattle.holding.proofs.Sounds.{Sounds, few-held, held-distinct}
 use Rattle.holding.specs.declared.Holding.{Holding}
 use Rattle.holding.specs.Held.{isHeld, issueOf, satellitesHeld, cellsHeld, View, skyIn, slotsOf, viewOf, stripCells}
-use Rattle.rows.proofs.Table.{laid}
 use Rattle.rows.specs.Shapes.{columnsIn}
 use Rattle.rows.specs.Table.{shapeFor}
+use Rattle.table.proofs.Strips.{own-counts}
 use Rattle.table.proofs.Tabled.{tabled}
 use Rattle.table.specs.declared.Kind.{Kind}
 use Rattle.table.specs.declared.Kind.the-variants as Kinds
 use Rattle.table.specs.declared.Kind.the-variants.{Other, Packet, Masked}
 use Rattle.table.specs.declared.Layout.{Layout}
-use Rattle.table.specs.declared.Keys.the-variants.{Satellites}
 use Rattle.table.specs.Bodies.{linesIn, linesOver, FitsKeys}
-use Rattle.table.specs.Kinds.{kindFor, LaidOut, OfTable}
+use Rattle.table.specs.Kinds.{kindFor, keysFor, keysBy, LaidOut, OfTable}
 use Rattle.writer.specs.declared.gate.Gate.{Gate}
 use Rattle.writer.specs.declared.gate.Gate.the-variants.{Open, Shut}
 use Rattle.writer.specs.declared.plan.Plan.{Plan}
@@ -40,13 +42,13 @@ use Rattle.fitting.specs.FitHeads.{commonFits, fits}
 use Rattle.writer.specs.Fronts.{openingField, lastField, frontFields, flagFields, packetFields}
 use Rattle.writer.specs.Kinds.{kindAt, issueGate, gateBy, planBits}
 use Rattle.putting.specs.declared.marks.Selected.{Selected}
-use Rattle.putting.specs.Marking.{marksWord, markedBy}
+use Rattle.putting.specs.Marking.{ownsOf, marksBy, marksWord, markedBy}
 use Rattle.pens.specs.Numbers.{wordOf}
 use Rattle.writer.specs.Plans.{everyone, aloneHead, alonePlan, flaggedHead, flaggedPlan, packetHead, packetPlan}
 use Rattle.writer.specs.Writings.{selectedBy, maskedPlan, planFor}
 use Rattle.writer.specs.Written.{Made, Keyed}
 use Rattle.writer.proofs.FrontBits.{front-fines, pen-fine, pen-place}
-use Rattle.putting.proofs.MarkWords.{word-small, word-picks, word-top}
+use Rattle.putting.proofs.MarkWords.{marks-by, owns-count, told-by, word-small, word-picks, word-top}
 use Rattle.writer.proofs.PlanBits.{Under, under-type, alone-fits, alone-bits}
 use Rattle.writer.proofs.PlanFlagged.{a-small, b-small, few-bits, flagged-unfit, flagged-fits, flagged-fines, flagged-bits}
 use Rattle.writer.proofs.PlanPacket.{packet-unfit, packet-fits, packet-size, packet-fines, packet-bits}
@@ -122,82 +124,117 @@ module _ {m : Mask} {v : View} {n : ℕ} {l : Layout} {h : Head} (u : Under m v 
   abbrev sats : List Satellite
   sats = v .satellites
 
+  -- how many rows each has that is selected, by its strip and under what is seen
+  abbrev owns : List ℕ
+  owns = ownsOf (l .cells) (v .strips) sats
+
+  abbrev own : Satellite → ℕ
+  own = rowsFor (keysBy l) (skyIn v)
+
+  each : length owns ≡ length sats
+  each = owns-count (l .cells) (v .strips) sats (u .covered)
+
+  owned : owns ≡ map own sats
+  unfolding keysBy ownsOf rowsFor skyIn
+  owned = go (l .cells)
+    where
+      go : (b : Bool) → ownsOf b (v .strips) sats ≡ map (rowsFor (cond b byCell bySatellite) (skyIn v)) sats
+      go true = sym (own-counts sats (v .strips) (u .apart) (u .covered) (u .thin))
+      go false = refl
+
+  same-marks : marksBy owns sats rows ≡ marks own sats rows
+  same-marks = ap (λ (ns : List ℕ). marksBy ns sats rows) owned ∙ marks-by own sats rows
+
   abbrev told : Selected
-  told = selectedBy sats (h .c) rows
+  told = selectedBy (l .cells) v (h .c) rows
 
   abbrev chosen : ℕ
   chosen = told .word
 
+  word-chooses : pick (spell 64 (marksWord owns sats rows)) sats ≡ pick (marks own sats rows) sats
+  word-chooses = word-picks owns sats rows each (u .few) ∙ ap (λ (l : List Bool). pick l sats) same-marks
+
   -- a selection's word chooses those of its marks, all of them without a network
-  choice : pick (spell 64 chosen) sats ≡ chosenBy sats (h .c) rows
+  choice : pick (spell 64 chosen) sats ≡ chosenBy own sats (h .c) rows
   unfolding selectedBy chosenBy markedBy
   choice = go (sameℤ (h .c) absent)
     where
-      go : (b : Bool) → pick (spell 64 (cond b every (markedBy sats rows) .word)) sats ≡ cond b sats (pick (marks sats rows) sats)
+      go : (b : Bool) → pick (spell 64 (cond b every (markedBy owns sats rows) .word)) sats ≡ cond b sats (pick (marks own sats rows) sats)
       go true = pick-all sats (u .few)
-      go false = word-picks sats rows (u .few)
+      go false = word-chooses
 
   chosen-small : chosen < 2 ^ 64
   unfolding selectedBy markedBy
   chosen-small = go (sameℤ (h .c) absent)
     where
-      go : (b : Bool) → cond b every (markedBy sats rows) .word < 2 ^ 64
+      go : (b : Bool) → cond b every (markedBy owns sats rows) .word < 2 ^ 64
       go true = omega arith
-      go false = word-small sats rows (u .few)
+      go false = word-small owns sats rows each (u .few)
 
   -- with a network it is told by rows
-  by-rows : sameℤ (h .c) absent ≡ false → told ≡ markedBy sats rows
+  by-rows : sameℤ (h .c) absent ≡ false → told ≡ markedBy owns sats rows
   unfolding selectedBy
-  by-rows some = ap (λ (b : Bool). cond b every (markedBy sats rows)) some
+  by-rows some = ap (λ (b : Bool). cond b every (markedBy owns sats rows)) some
 
-  marked : sameℤ (h .c) absent ≡ false → spell (length sats) (chosen / 2 ^ (64 - length sats)) ≡ marks sats rows
+  marked : sameℤ (h .c) absent ≡ false → spell (length sats) (chosen / 2 ^ (64 - length sats)) ≡ marks own sats rows
   unfolding markedBy
-  marked some = ap (λ (t : Selected). spell (length sats) (t .word / 2 ^ (64 - length sats))) (by-rows some) ∙ word-top sats rows
+  marked some = ap (λ (t : Selected). spell (length sats) (t .word / 2 ^ (64 - length sats))) (by-rows some) ∙ word-top owns sats rows each ∙ same-marks
 
   few-marks : (b : Bool) → cond b 0 (length sats) ≤ 64
   few-marks true = omega arith
   few-marks false = u .few
 
-  -- with a network: that its rows are all that tell the selection, and the rest of each
-  told-rest : sameℤ (h .c) absent ≡ false → (i : ℕ)
-      → rowsFit (linesOver v (Satellites chosen) i) rows ≡ (eqb (told .told) (8 * length rows) && rowsValued (columnsIn (shapeFor i)) rows)
-  unfolding markedBy
-  told-rest some i =
-      ap (λ (t : Selected). rowsFit (linesOver v (Satellites (t .word)) i) rows) (by-rows some)
-      ∙ chosen-valued v (marksWord sats rows) i rows (word-picks sats rows (u .few))
-      ∙ ap (λ (b : Bool). b && rowsValued (columnsIn (shapeFor i)) rows) (eqb-eights (length (pick (marks sats rows) sats)) (length rows))
-      ∙ ap (λ (t : Selected). eqb (t .told) (8 * length rows) && rowsValued (columnsIn (shapeFor i)) rows) (sym (by-rows some))
+  -- with a network, of satellites: that its rows are all that tell the selection, and the rest of each
+  module _ (satellites : l .cells ≡ false) where
+    own-one : (s : Satellite) → own s ≡ 1
+    unfolding keysBy rowsFor
+    own-one s = ap (λ (b : Bool). rowsFor (cond b byCell bySatellite) (skyIn v) s) satellites
 
-  flagged-keyed : (i : ℕ) → (p : Plan) → p .body ≡ record { keys = Satellites chosen; shape = i } → p .told ≡ told .told → p .keyed ≡ not (sameℤ (h .c) absent) → i < 4 → Keyed v p rows
-  unfolding linesIn
-  flagged-keyed i p body far known four =
-      record {
-        four = λ _. rw body four;
-        rest = λ e. rw (body, far) (told-rest (not-true _ (sym known ∙ e)) i);
-      }
+    eights : markedBy owns sats rows .told ≡ 8 * length (pick (marks own sats rows) sats)
+    eights =
+        ap (λ (ns : List ℕ). markedBy ns sats rows .told) owned ∙ told-by own sats rows
+        ∙ ap (λ (k : ℕ). 8 * k) (total-same own 1 (pick (marks own sats rows) sats) own-one ∙ omega arith)
 
-  flagged-well : l .flagged ≡ true → flaggedHead h ≡ true → Well v (mask m) h rows start (flaggedPlan h (l .shape) start told (length sats))
-  unfolding flaggedPlan FitsKeys
+    told-rest : sameℤ (h .c) absent ≡ false → (i : ℕ)
+        → rowsFit (linesOver v (keysFor (l .cells) chosen) i) rows ≡ (eqb (told .told) (8 * length rows) && rowsValued (columnsIn (shapeFor i)) rows)
+    unfolding markedBy keysFor
+    told-rest some i =
+        ap₂ (λ (b : Bool) (t : Selected). rowsFit (linesOver v (keysFor b (t .word)) i) rows) satellites (by-rows some)
+        ∙ chosen-valued v own own-one (marksWord owns sats rows) i rows word-chooses
+        ∙ ap (λ (b : Bool). b && rowsValued (columnsIn (shapeFor i)) rows) (eqb-eights (length (pick (marks own sats rows) sats)) (length rows))
+        ∙ ap (λ (k : ℕ). eqb k (8 * length rows) && rowsValued (columnsIn (shapeFor i)) rows) (sym (ap (λ (t : Selected). t .told) (by-rows some) ∙ eights))
+
+  flagged-keyed : l .flagged ≡ true → flaggedHead h ≡ true → Keyed v (flaggedPlan h l start told (length sats)) rows
+  unfolding flaggedPlan linesIn
+  flagged-keyed flagged head = record {
+    four = λ e.
+        let both = and-true (not (l .cells)) _ e in
+        omega (arith, out .four flagged (not-true _ (both .0)), a-small h head, b-small h head);
+    rest = λ e.
+        let both = and-true (not (l .cells)) _ e in
+        told-rest (not-true _ (both .0)) (not-true _ (both .1)) (l .shape + (wordOf (h .a) * 2 + wordOf (h .b)));
+  }
+
+  flagged-well : l .flagged ≡ true → flaggedHead h ≡ true → Well v (mask m) h rows start (flaggedPlan h l start told (length sats))
+  unfolding flaggedPlan skyIn
   flagged-well flagged head =
       let fines = flagged-fines u flagged rows start told (length sats) choice head in
-      let first = out .with-flags flagged .1 in
-      let shape : ℕ = l .shape + (wordOf (h .a) * 2 + wordOf (h .b)) in
-      let four : shape < 4 = omega (arith, first, a-small h head, b-small h head) in
+      let flags : wordOf (h .a) * 2 + wordOf (h .b) < 4 = omega (arith, a-small h head, b-small h head) in
       record {
         made =
             record {
               pen = pen-fine (frontFields 12 h ++ flagFields h) start fines (few-bits h);
               marked = few-marks (sameℤ (h .c) absent);
               chosen = chosen-small;
-              body = laid shape four;
+              body = out .with-flags flagged _ flags chosen;
             };
         place = pen-place (frontFields 12 h ++ flagFields h) start (few-bits h);
         fit = flagged-fits u flagged rows start told (length sats) choice head;
         bits = λ _. flagged-bits u flagged rows start told (length sats) choice head marked;
-        keyed = flagged-keyed shape (flaggedPlan h (l .shape) start told (length sats)) refl refl refl four;
+        keyed = flagged-keyed flagged head;
       }
 
-  pub masked-told : Tells v (mask m) h rows start (maskedPlan sats l h start rows)
+  pub masked-told : Tells v (mask m) h rows start (maskedPlan v l h start rows)
   unfolding maskedPlan Tells
   masked-told = go (l .flagged) refl
     where
@@ -205,12 +242,12 @@ module _ {m : Mask} {v : View} {n : ℕ} {l : Layout} {h : Head} (u : Under m v 
       alone bare true head = alone-well bare head
       alone bare false head = alone-fits u bare rows start ∙ ap (λ (b : Bool). b && rowsFit (linesIn v (alonePlan h l start .body)) rows) head
 
-      behind-flags : l .flagged ≡ true → (b : Bool) → flaggedHead h ≡ b → Tells v (mask m) h rows start (cond b (Message (flaggedPlan h (l .shape) start told (length sats))) Never)
+      behind-flags : l .flagged ≡ true → (b : Bool) → flaggedHead h ≡ b → Tells v (mask m) h rows start (cond b (Message (flaggedPlan h l start told (length sats))) Never)
       behind-flags flagged true head = flagged-well flagged head
       behind-flags flagged false head = flagged-unfit u flagged rows start told (length sats) choice head
 
       go : (f : Bool) → l .flagged ≡ f
-          → Tells v (mask m) h rows start (cond f (cond (flaggedHead h) (Message (flaggedPlan h (l .shape) start told (length sats))) Never) (cond (aloneHead h) (Message (alonePlan h l start)) Never))
+          → Tells v (mask m) h rows start (cond f (cond (flaggedHead h) (Message (flaggedPlan h l start told (length sats))) Never) (cond (aloneHead h) (Message (alonePlan h l start)) Never))
       go true flagged = behind-flags flagged (flaggedHead h) refl
       go false bare = alone bare (aloneHead h) refl
 
@@ -247,7 +284,7 @@ typed-as h k ours known = go (h .subtype) refl known
     go (negsuc n) typed e = absurd (false≢true (sym ours ∙ ap isOther e))
 
 under-told : (g : Held) (holding : Holding) → Sounds g holding → (h : Head) (rows : List (List ℤ)) (start : ℕ) (l : Layout) → Masked l ≡ kindAt (h .subtype)
-    → gateBy (Masked l) (isHeld g) (issueOf g) h ≡ Open → Tells (viewOf holding) g h rows start (planFor (Masked l) (slotsOf holding) h start rows)
+    → gateBy (Masked l) (isHeld g) (issueOf g) h ≡ Open → Tells (viewOf holding) g h rows start (planFor (Masked l) (viewOf holding) h start rows)
 unfolding gateBy planFor isHeld issueOf OfTable isOther satellitesHeld
 under-told nothing holding s h rows start l known opens = absurd (false≢true (issue-open false 0 h _ opens .0))
 under-told (mask m) holding s h rows start l known opens =
@@ -259,6 +296,9 @@ under-told (mask m) holding s h rows start l known opens =
       sky = sound-sky s;
       few = omega (arith, few, ap length (s .slots));
       strips = omega (arith, s .shaped .strips);
+      covered = omega (arith, few, ap length (s .slots), s .shaped .strips);
+      thin = s .shaped .strips-narrow;
+      apart = subst Distinct (sym (s .slots)) (held-distinct (mask m) (s .good-held));
       row = t .row;
       typed = t .typed;
       issue = issue-open true (m .iod) h _ opens .1;
@@ -266,7 +306,7 @@ under-told (mask m) holding s h rows start l known opens =
     masked-told u out rows start
 
 pub kind-told : (g : Held) (holding : Holding) → Sounds g holding → (h : Head) (rows : List (List ℤ)) (start : ℕ) (k : Kind) → k ≡ kindAt (h .subtype)
-    → (k ≡ Kinds.Mask → ⊥) → gateBy k (isHeld g) (issueOf g) h ≡ Open → Tells (viewOf holding) g h rows start (planFor k (slotsOf holding) h start rows)
+    → (k ≡ Kinds.Mask → ⊥) → gateBy k (isHeld g) (issueOf g) h ≡ Open → Tells (viewOf holding) g h rows start (planFor k (viewOf holding) h start rows)
 unfolding gateBy planFor isOther
 kind-told g holding s h rows start Other known other opens = absurd (let z : _≡_ {A = ℕ} 0 1 = cc in omega arith)
 kind-told g holding s h rows start Kinds.Mask known other opens = absurd (other refl)

@@ -12,7 +12,7 @@ use Rattle.holding.specs.Held.{View}
 use Rattle.table.specs.declared.Kind.{Kind}
 use Rattle.table.specs.declared.Kind.the-variants.{Other, Mask, Packet, Masked}
 use Rattle.table.specs.Bodies.{linesIn}
-use Rattle.table.specs.Kinds.{kindFor, overBy}
+use Rattle.table.specs.Kinds.{kindFor, overBy, keysBy}
 use Rattle.table.specs.Shapes.{shapesFrom}
 use Rattle.writer.specs.declared.gate.Gate.{Gate}
 use Rattle.writer.specs.declared.gate.Gate.the-variants.{Open, Shut}
@@ -29,7 +29,7 @@ unfoldable pub asksOf : Kind → Asks
 asksOf Other = never
 asksOf Mask = ofMask maskFits
 asksOf Packet = freely packetFits
-asksOf (Masked l) = underIssue (cond (l .flagged) (flaggedFits (shapesFrom (l .shape))) (aloneFits (overBy l)))
+asksOf (Masked l) = underIssue (cond (l .flagged) (flaggedFits (keysBy l) (shapesFrom (l .shape))) (aloneFits (overBy l)))
 
 -- the gate: 5, then under the mask, where one is held of so many an issue, 6, 7 and 11
 unfoldable pub issueGate : Bool → ℕ → Head → Gate → Gate

@@ -5,7 +5,7 @@ use Prim.Native.Nat.{ℕ, _+_, _-_, _*_, _^_}
 use Rattle.format.specs.declared.Head.{Head}
 use Rattle.format.specs.Rows.{absent}
 use Rattle.format.specs.Same.{sameℤ}
-use Rattle.table.specs.declared.Keys.the-variants.{Satellites, Parts}
+use Rattle.table.specs.declared.Keys.the-variants.{Parts}
 use Rattle.table.specs.declared.Layout.{Layout}
 use Rattle.table.specs.Kinds.{keysFor}
 use Rattle.writer.specs.declared.plan.Plan.{Plan}
@@ -40,15 +40,16 @@ alonePlan h l start =
 unfoldable pub flaggedHead : Head → Bool
 flaggedHead h = commonFits 12 h && (numberFits 1 (h .a) && (numberFits 1 (h .b) && networkFits (h .c)))
 
-unfoldable pub flaggedPlan : Head → ℕ → ℕ → Selected → ℕ → Plan
-flaggedPlan h shape start selected n =
+-- (rows of cells are tested key by key, whoever told the selection)
+unfoldable pub flaggedPlan : Head → Layout → ℕ → Selected → ℕ → Plan
+flaggedPlan h l start selected n =
     record {
       pen = penAfter (penAt start) (frontFields 12 h ++ flagFields h);
       marked = cond (sameℤ (h .c) absent) 0 n;
       chosen = selected .word;
-      keyed = not (sameℤ (h .c) absent);
+      keyed = not (l .cells) && not (sameℤ (h .c) absent);
       told = selected .told;
-      body = record { keys = Satellites (selected .word); shape = shape + (wordOf (h .a) * 2 + wordOf (h .b)) };
+      body = record { keys = keysFor (l .cells) (selected .word); shape = l .shape + (wordOf (h .a) * 2 + wordOf (h .b)) };
     }
 
 -- ---- a packet's part

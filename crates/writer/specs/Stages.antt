@@ -12,7 +12,7 @@ use Rattle.format.specs.Same.{sameℤ}
 use Rattle.format.specs.Table.{Kind}
 use Rattle.format.specs.Tests.{Test, verdict}
 use Rattle.format.specs.Writing as Written
-use Rattle.format.specs.Writing.{isOurs, hasMask, ofIssue, limit}
+use Rattle.format.specs.Writing.{isOurs, hasMask, ofIssue, hasNetwork, limit}
 use Rattle.writer.specs.declared.gate.Gate.{Gate}
 use Rattle.writer.specs.declared.gate.Gate.the-variants.{Open, Shut}
 use Rattle.writer.specs.declared.Writing.{Writing}
@@ -24,7 +24,7 @@ gateTests kind held h =
     record { holds = isOurs kind; else = SubType }
     ∷ record { holds = hasMask kind held; else = NoMask }
     ∷ record { holds = ofIssue kind held (h .iod); else = OtherIssue }
-    ∷ record { holds = not (sameℤ (h .subtype) (pos 11) && sameℤ (h .c) (pos 0)); else = Network }
+    ∷ record { holds = not (hasNetwork (h .subtype) && sameℤ (h .c) (pos 0)); else = Network }
     ∷ []
 
 -- those behind it, for a message of some bits

@@ -1,6 +1,6 @@
 -- Which plan a message has by the kind of its sub type, and what writing comes to past the gate.
 use mathlib.Core.Path.{_≡_}
-use mathlib.Core.Bool.{cond, _&&_}
+use mathlib.Core.Bool.{Bool, cond, _&&_}
 use mathlib.Core.List.{List}
 use Prim.Native.Nat.{ℕ, _*_, _≤_}
 use lib.Dec.{leb}
@@ -16,7 +16,7 @@ use Rattle.format.specs.Writing.{rowsIn, exact}
 use Rattle.body.specs.Lent.{Slots}
 use Rattle.holding.specs.declared.Holding.{Holding}
 use Rattle.holding.specs.declared.Outline.{Outline}
-use Rattle.holding.specs.Held.{slotSatellites}
+use Rattle.holding.specs.Held.{View, slotSatellites}
 use Rattle.holding.specs.Pictures.{maskOf}
 use Rattle.table.specs.declared.Kind.{Kind}
 use Rattle.table.specs.declared.Kind.the-variants.{Other, Mask, Packet, Masked}
@@ -25,7 +25,7 @@ use Rattle.writer.specs.declared.planning.Asked.{Asked}
 use Rattle.writer.specs.declared.planning.Planned.{Planned}
 use Rattle.writer.specs.declared.planning.Planned.the-variants.{Message, Never}
 use Rattle.putting.specs.declared.marks.Selected.{Selected}
-use Rattle.putting.specs.Marking.{markedBy}
+use Rattle.putting.specs.Marking.{ownsOf, markedBy}
 use Rattle.writer.specs.declared.gate.Gate.the-variants.{Open}
 use Rattle.writer.specs.Kinds.{kindAt, gateBy}
 use Rattle.writer.specs.Plans.{everyone, aloneHead, alonePlan, flaggedHead, flaggedPlan, packetHead, packetPlan}
@@ -37,28 +37,34 @@ use Rattle.writer.specs.Stages.{behind}
 abbrev pub slotsIn : Outline → List ℕ → List Satellite
 slotsIn o masks = slotSatellites (take (o .count) (o .ids)) masks
 
+-- what they show with the strips that are lent, too
+abbrev pub viewIn : Outline → List ℕ → List ℕ → View
+viewIn o masks strips = record { satellites = slotsIn o masks; strips = strips }
+
 -- as a sound holding has them
-pub record Slotted (o : Outline) (masks : List ℕ) : Type 0 where
+pub record Slotted (o : Outline) (masks strips : List ℕ) : Type 0 where
   pub counted : o .count ≤ length (o .ids)
   pub slots : Slots (take (o .count) (o .ids)) masks
   pub few : length (slotsIn o masks) ≤ 64
   pub many : length (slotsIn o masks) ≡ o .nsat
+  pub covered : length (slotsIn o masks) ≤ length strips
 
--- the satellites that a network selects: those that have a row; all of them without one, which no row tells
-unfoldable pub selectedBy : List Satellite → ℤ → List (List ℤ) → Selected
-selectedBy sats network rows = cond (sameℤ network absent) (record { word = everyone; told = 0 }) (markedBy sats rows)
+-- the satellites that a network selects: those that have rows, of cells or of their own; all of them without one, which no row tells
+unfoldable pub selectedBy : Bool → View → ℤ → List (List ℤ) → Selected
+selectedBy cells v network rows =
+    cond (sameℤ network absent) (record { word = everyone; told = 0 }) (markedBy (ownsOf cells (v .strips) (v .satellites)) (v .satellites) rows)
 
-unfoldable pub maskedPlan : List Satellite → Layout → Head → ℕ → List (List ℤ) → Planned
-maskedPlan sats l h start rows =
+unfoldable pub maskedPlan : View → Layout → Head → ℕ → List (List ℤ) → Planned
+maskedPlan v l h start rows =
     cond (l .flagged)
-    (cond (flaggedHead h) (Message (flaggedPlan h (l .shape) start (selectedBy sats (h .c) rows) (length sats))) Never)
+    (cond (flaggedHead h) (Message (flaggedPlan h l start (selectedBy (l .cells) v (h .c) rows) (length (v .satellites)))) Never)
     (cond (aloneHead h) (Message (alonePlan h l start)) Never)
 
-unfoldable pub planFor : Kind → List Satellite → Head → ℕ → List (List ℤ) → Planned
-planFor Other sats h start rows = Never
-planFor Mask sats h start rows = Never
-planFor Packet sats h start rows = cond (packetHead h) (Message (packetPlan h start)) Never
-planFor (Masked l) sats h start rows = maskedPlan sats l h start rows
+unfoldable pub planFor : Kind → View → Head → ℕ → List (List ℤ) → Planned
+planFor Other v h start rows = Never
+planFor Mask v h start rows = Never
+planFor Packet v h start rows = cond (packetHead h) (Message (packetPlan h start)) Never
+planFor (Masked l) v h start rows = maskedPlan v l h start rows
 
 -- ---- past the gate
 

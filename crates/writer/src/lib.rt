@@ -49,7 +49,7 @@ fn past(
     if asked.count > rows.len() / ROW {
         return Writing::Refused(Refusal::Value);
     }
-    let planned = planning::of(outline, masks, asked, rows);
+    let planned = planning::of(outline, masks, strips, asked, rows);
     let Planned::Message(plan) = planned else {
         return Writing::Refused(Refusal::Value);
     };

@@ -93,21 +93,22 @@ fn marks_of(network: i32, n: usize) -> usize
     if is_absent(network) { 0 } else { n }
 }
 
-// Their plan, the first of four shapes being for neither flag.
-pub fn flagged(head: Head, shape: usize, start: usize, selected: Selected, n: usize) -> Plan
-    requires { ⌜ (flaggedHead head ≡ true) × (shape ≤ 255) ⌝ }
-    ensures { λ r. ⌜ r ≡ flaggedPlan head shape start selected n ⌝ }
+// Their plan, the first of four shapes being for neither flag. Rows of cells are tested key by key, whoever told the
+// selection.
+pub fn flagged(head: Head, layout: Layout, start: usize, selected: Selected, n: usize) -> Plan
+    requires { ⌜ (flaggedHead head ≡ true) × (layout .shape ≤ 255) ⌝ }
+    ensures { λ r. ⌜ r ≡ flaggedPlan head layout start selected n ⌝ }
 {
     let flags = word(head.a) * 2 + word(head.b);
     Plan {
         pen: front::flagged(head, start),
         marked: marks_of(head.c, n),
         chosen: selected.word,
-        keyed: !is_absent(head.c),
+        keyed: !layout.cells & !is_absent(head.c),
         told: selected.told,
         body: Body {
-            keys: Keys::Satellites(selected.word),
-            shape: shape + (flags as usize),
+            keys: table::over(layout.cells, selected.word),
+            shape: layout.shape + (flags as usize),
         },
     }
 }

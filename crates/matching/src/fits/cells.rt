@@ -6,8 +6,8 @@ ghost use Rattle.body.specs.Chosen.{satelliteOf, cellsIn, striped, chosenLines}
 ghost use Rattle.body.specs.Lent.{Slots};
 ghost use Rattle.format.specs.Messages.{cellLines};
 ghost use Rattle.holding.specs.Held.{satellitesIn, slotSatellites};
-ghost use Rattle.rows.specs.Shapes.{columnsIn, FormedShape};
-ghost use Rattle.matching.specs.Matching.{matchedAt, stripsPassedAt, Paired};
+ghost use Rattle.rows.specs.Shapes.{columnsIn, FormedShape, Narrow};
+ghost use Rattle.matching.specs.Matching.{matchedAt, stripsPassedAt};
 use crate::fits::Matched;
 use crate::fits::line;
 use body::FIRST;
@@ -33,7 +33,7 @@ pub enum Passed {
 // How far the rows from a number on fit the lines of one satellite's cells, by its strip, which begins at the highest
 // of 64 bits.
 fn satellite(sat: Satellite, word: u64, s: Shape, rows: &[i32], from: usize) -> Matched
-    requires { ⌜ (sat .number < 2 ^ 31) × FormedShape s × Paired s × (from ≤ length (now rows)) ⌝ }
+    requires { ⌜ (sat .number < 2 ^ 31) × FormedShape s × Narrow s × (from ≤ length (now rows)) ⌝ }
     ensures { λ r. ⌜ r ≡ matchedAt (cellLines (columnsIn s) (cellsIn 64 (satelliteOf sat) word)) (now (rows .entry)) from ⌝ }
 {
     let system = sat.system as i32;
@@ -47,7 +47,7 @@ fn satellite(sat: Satellite, word: u64, s: Shape, rows: &[i32], from: usize) -> 
             satellite,
             signal: set_places::first(left) as i32,
         };
-        if !line::pair_fits(own, k, key, s.v1, s.v2) {
+        if !line::cell_fits(own, k, key, s.v1, s.v2, s.v3) {
             return Matched::Not;
         }
         left = set_places::rest(left);
@@ -59,7 +59,7 @@ fn satellite(sat: Satellite, word: u64, s: Shape, rows: &[i32], from: usize) -> 
 // How far the rows fit the lines of one system's cells: the strips, in their order, of the satellites that are chosen.
 // Its mask and the selection each begin at the highest of 64 bits.
 fn slot(id: u8, word: u64, strips: &[u16], tested: Tested, rows: &[i32]) -> Passed
-    requires { ⌜ (length (satellitesIn 64 id word) ≤ length (now strips)) × FormedShape (tested .shape) × Paired (tested .shape) × (tested .from ≤ length (now rows)) ⌝ }
+    requires { ⌜ (length (satellitesIn 64 id word) ≤ length (now strips)) × FormedShape (tested .shape) × Narrow (tested .shape) × (tested .from ≤ length (now rows)) ⌝ }
     ensures { λ r. ⌜ r ≡ stripsPassedAt (tested .chosen) (striped (columnsIn (tested .shape)) (satellitesIn 64 id word) (now (strips .entry))) (now (rows .entry)) (tested .from) ⌝ }
 {
     let s = tested.shape;
@@ -94,7 +94,7 @@ pub fn reach(
     chosen: u64,
     rows: &[i32],
 ) -> Matched
-    requires { ⌜ Slots (now ids) (now masks) × (length (slotSatellites (now ids) (now masks)) ≤ length (now strips)) × FormedShape s × Paired s ⌝ }
+    requires { ⌜ Slots (now ids) (now masks) × (length (slotSatellites (now ids) (now masks)) ≤ length (now strips)) × FormedShape s × Narrow s ⌝ }
     ensures { λ r. ⌜ r ≡ matchedAt (chosenLines chosen (striped (columnsIn s) (slotSatellites (now (ids .entry)) (now (masks .entry))) (now (strips .entry)))) (now (rows .entry)) 0 ⌝ }
 {
     let mut marks = chosen;

@@ -9,7 +9,7 @@ ghost use Rattle.format.specs.Rows.{absent};
 ghost use Rattle.format.specs.Same.{sameList, sameℤ};
 ghost use Rattle.rows.specs.Shapes.{columnOf, columnsOf, Formed, FormedShape};
 ghost use Rattle.fitting.specs.Fits.{columnFits, valuesFit, rowFits};
-ghost use Rattle.matching.specs.Matching.{keysOf, lineOf, pairColumns, pairOf};
+ghost use Rattle.matching.specs.Matching.{keysOf, lineOf, cellColumns, cellOf};
 use bits::signed;
 use format::ABSENT;
 use rows::row::Key;
@@ -102,10 +102,22 @@ pub fn fits(rows: &[i32], k: usize, key: Key, s: Shape) -> bool
     valued(row, s)
 }
 
-// Whether a row's values fit two columns, and nothing stands behind.
-fn paired(row: &[i32], v1: Column, v2: Column) -> bool
-    requires { ⌜ (length (now row) ≡ 8) × Formed v1 × Formed v2 ⌝ }
-    ensures { λ r. ⌜ r ≡ valuesFit (pairColumns v1 v2) (drop 3 (now (row .entry))) ⌝ }
+// Whether a row's third value fits its column, which of cells only those with a code bias beside a phase bias have
+// (document 02, Ask 1). The compiler tests that outside the loop over rows.
+fn third(row: &[i32], c: Column) -> bool
+    requires { ⌜ (length (now row) ≡ 8) × Formed c ⌝ }
+    ensures { λ r. ⌜ r ≡ columnFits (columnOf c) (getD (now (row .entry)) 5 (pos 0)) ⌝ }
+{
+    if c.width == 0 {
+        return absent_at(row, 5);
+    }
+    column_fits(row[5], c)
+}
+
+// Whether a row's values fit a cell's three columns, and nothing stands behind.
+fn cell_valued(row: &[i32], v1: Column, v2: Column, v3: Column) -> bool
+    requires { ⌜ (length (now row) ≡ 8) × Formed v1 × Formed v2 × Formed v3 ⌝ }
+    ensures { λ r. ⌜ r ≡ valuesFit (cellColumns v1 v2 v3) (drop 3 (now (row .entry))) ⌝ }
 {
     if !column_fits(row[3], v1) {
         return false;
@@ -113,7 +125,7 @@ fn paired(row: &[i32], v1: Column, v2: Column) -> bool
     if !column_fits(row[4], v2) {
         return false;
     }
-    if !absent_at(row, 5) {
+    if !third(row, v3) {
         return false;
     }
     if !absent_at(row, 6) {
@@ -122,11 +134,11 @@ fn paired(row: &[i32], v1: Column, v2: Column) -> bool
     absent_at(row, 7)
 }
 
-// The same as `fits` for a row of two columns, as biases have them (document 01, "What is handed out"): a function of
-// its own, so that cells are tested in a loop that looks at no other column.
-pub fn pair_fits(rows: &[i32], k: usize, key: Key, v1: Column, v2: Column) -> bool
-    requires { ⌜ (k ≤ length (now rows)) × Formed v1 × Formed v2 ⌝ }
-    ensures { λ r. ⌜ r ≡ (leb (k + 8) (length (now (rows .entry))) && rowFits (pairOf key v1 v2) (take 8 (drop k (now (rows .entry))))) ⌝ }
+// The same as `fits` for a cell's row, which has at most three columns (document 01, "What is handed out", and document
+// 02, Ask 1): a function of its own, so that cells are tested in a loop that looks at no other column.
+pub fn cell_fits(rows: &[i32], k: usize, key: Key, v1: Column, v2: Column, v3: Column) -> bool
+    requires { ⌜ (k ≤ length (now rows)) × Formed v1 × Formed v2 × Formed v3 ⌝ }
+    ensures { λ r. ⌜ r ≡ (leb (k + 8) (length (now (rows .entry))) && rowFits (cellOf key v1 v2 v3) (take 8 (drop k (now (rows .entry))))) ⌝ }
 {
     let rest = &rows[k..];
     if rest.len() < 8 {
@@ -136,5 +148,5 @@ pub fn pair_fits(rows: &[i32], k: usize, key: Key, v1: Column, v2: Column) -> bo
     if !keyed(row, key) {
         return false;
     }
-    paired(row, v1, v2)
+    cell_valued(row, v1, v2, v3)
 }

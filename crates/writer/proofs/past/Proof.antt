@@ -43,10 +43,10 @@ module _ (s : tie.Start) where
       let t = sounds holding (s .pre .0) in
       sym (ap₂ (λ (b : Bool) (n : ℕ). gateBy (s .args .asked .kind) b n (s .args .asked .head)) (t .held) (t .iod)) ∙ s .pre .1 .opens
 
-  slotted : Slotted (s .args .outline) (s .args .masks .now)
+  slotted : Slotted (s .args .outline) (s .args .masks .now) (s .args .strips .now)
   slotted =
       let l = lends holding (s .pre .0) in
-      record { counted = counted holding (s .pre .0); slots = l .slots; few = l .satellites; many = many holding (s .pre .0) }
+      record { counted = counted holding (s .pre .0); slots = l .slots; few = l .satellites; many = many holding (s .pre .0); covered = l .covered }
 
 whole : (c : tie.Else1) → let s = c .before .before .before .before .before in 8 * s .args .asked .count ≤ length (s .args .rows .now)
 whole c = omega arith

@@ -11,10 +11,10 @@ use Rattle.holding.specs.Held.{skyIn}
 -- the common head, where it is there
 module _ (c : tie.After-known-told) where
   abbrev s : tie.Start
-  s = c .before .before .before .before .before
+  s = c .before .before .before .before .before .before
 
-  whole : Read (s .pre .3) 12 (c .before .common2 .given .0 .0)
-  whole = common-whole (s .pre .3) 12 (omega arith) (sym (c .before .before .before .common .ensures _ (s .pre .4)) ∙ c .before .common2 .given .1)
+  whole : Read (s .pre .4) 12 (c .before .common2 .given .0 .0)
+  whole = common-whole (s .pre .4) 12 (omega arith) (sym (c .before .before .before .common .ensures _ (s .pre .5)) ∙ c .before .common2 .given .1)
 
 returns : tie.Need-returns
 unfolding underBy
@@ -23,18 +23,18 @@ returns c =
     let x = s p .args in
     let next : x .f .start + 37 ≡ x .f .start + 16 + 21 = omega arith in
     let said = rw next at (c .gated .ensures .0) in
-    (λ v shows. said v shows ∙ sym (then-well (s p .pre .3) (common 12) (gatedBy (x .under) (skyIn v)) (whole p .ran)), c .gated .ensures .1)
+    (λ v shows. said v shows ∙ sym (then-well (s p .pre .4) (common 12) (gatedBy (x .under) (skyIn v)) (whole p .ran)), c .gated .ensures .1)
 
 returns-2 : tie.Need-returns-2
 unfolding underBy saidBy FitsHeading HasBody
 returns-2 c =
     let took = c .before .before .before in
-    let s = took .before .before in
-    let cut = common-short (s .pre .3) 12 (sym (took .common .ensures _ (s .pre .4)) ∙ c .before .common3 .given .1) in
-    (λ v shows. sym (then-badly (s .pre .3) (common 12) (gatedBy (s .args .under) (skyIn v)) cut), record { fits = tt; this = tt })
+    let s = took .before .before .before in
+    let cut = common-short (s .pre .4) 12 (sym (took .common .ensures _ (s .pre .5)) ∙ c .before .common3 .given .1) in
+    (λ v shows. sym (then-badly (s .pre .4) (common 12) (gatedBy (s .args .under) (skyIn v)) cut), record { fits = tt; this = tt })
 
 pub masked-spec : {M : Type 1} → statement M
 masked-spec =
     tie.close
-    (tie.spec (λ c κs. let p = c .before .pre in (record { bytes = _; opens = p .4 }, p .3 .room)) (λ c. search needs)
-    (λ c κs. let p = s c .pre in (p .0, p .1, p .2, whole c .small, onward (p .3) (omega (arith, whole c .after)), p .4)) (λ c. search needs) returns returns-2)
+    (tie.spec (λ c κs. let p = c .before .before .pre in (record { bytes = _; opens = p .5 }, p .4 .room)) (λ c. search needs)
+    (λ c κs. let p = s c .pre in (p .0, p .1, p .2, p .3, whole c .small, onward (p .4) (omega (arith, whole c .after)), p .5)) (λ c. search needs) returns returns-2)

@@ -11,7 +11,6 @@ use Rattle.table.specs.declared.Keys.{Keys}
 use Rattle.table.specs.Bodies.{linesIn, linesOver}
 use Rattle.matching.specs.declared.fits.Matched.{Matched}
 use Rattle.matching.specs.Matching.{matchedAt}
-use Rattle.matching.proofs.Lines.{narrow-paired}
 use Rattle.matching.proofs.fits.reach.Statement.{statement}
 use Rattle.matching.proofs.fits.reach.Tie as tie
 
@@ -42,7 +41,7 @@ reach-requires-2 : tie.Need-reach-requires-2
 reach-requires-2 c κs =
     let k = c .before in
     let s = k .before .before .before .before .before .before .before in
-    (s .pre .0 .slots, s .pre .0 .covered, made-formed 0 _ (made s), rw (made s) (narrow-paired _ (cells-fit (body s) (s .pre .1 .fits) (k .keys2 .given .1) .0)))
+    (s .pre .0 .slots, s .pre .0 .covered, made-formed 0 _ (made s), rw (made s) (cells-fit (body s) (s .pre .1 .fits) (k .keys2 .given .1) .0))
 
 returns : tie.Need-returns
 returns c =

@@ -108,7 +108,8 @@ of-requires : tie.Need-of-requires
 of-requires c κs =
     let k = c .before in
     let after = subst (λ (f : Front). Within (bs (t k)) (f .end) (f .start + 16)) (sym (is (t k))) (told k .after) in
-    (told k .small, sounds (hold (s (t k))) (s (t k) .pre .0 .held) .few-satellites, rw (of-table k) (tabled (n k)), after, opens (t k))
+    let fine = sounds (hold (s (t k))) (s (t k) .pre .0 .held) in
+    (told k .small, fine .few-satellites, omega (arith, fine .few-satellites, fine .shaped .strips), rw (of-table k) (tabled (n k)), after, opens (t k))
 
 module _ (c : tie.After-of) where
   abbrev k : tie.After-kind-of

@@ -48,7 +48,7 @@ module _ (s : tie.Start) where
   abbrev fit : Bool
   fit = rowsFit (linesIn view (s .args .plan .body)) rows
 
-  narrow : bodyWidth (linesIn view (s .args .plan .body)) ≤ 4544
+  narrow : bodyWidth (linesIn view (s .args .plan .body)) ≤ 7168
   narrow = few-in (lends holding (s .pre .0)) (s .args .plan .body) (s .pre .1 .body) .bits
 
 returns : tie.Need-returns
@@ -85,7 +85,7 @@ module _ (c : tie.After-row-bits) where
       plan-long (view (st e)) (st e .args .plan) (st e .pre .1) (st e .args .rows .now) (count (st e)) (whole (st e)) (right e)
       ∙ ap (λ (n : ℕ). st e .args .plan .pen .width + st e .args .plan .marked + n) (sym known)
 
-  few : c .row-bits .result ≤ 4544
+  few : c .row-bits .result ≤ 7168
   few = omega (arith, known, narrow (st e))
 
 row-bits-requires : tie.Need-row-bits-requires

@@ -16,5 +16,5 @@ unfolding planFor
 of-spec =
     tie.close
     (tie.spec (λ c. search needs) (λ c. search needs) (λ c. search needs) (λ c κs. search needs) (λ c. search needs)
-    (λ c κs. let s = c .before .before .before .before in let known = c .before .kind .given in (s .pre .0, laid (known .0 .0) (rw (known .1) at (s .pre .1)), s .pre .2))
+    (λ c κs. let s = c .before .before .before .before .before in let known = c .before .kind .given in (s .pre .0, laid (known .0 .0) (rw (known .1) at (s .pre .1)), s .pre .2))
     (λ c. rw (c .enum-told .given .1)) (λ c. rw (c .enum-told2 .given .1)) (λ c. rw (c .before .enum-told3 .given .1) (c .packet .ensures)) (λ c. rw (c .before .before .kind .given .1) (c .masked .ensures)))

@@ -12,7 +12,7 @@ use Rattle.format.specs.Masks.{Satellite}
 use Rattle.format.specs.Messages.{cellLines}
 use Rattle.format.specs.Rows.{Column, Line}
 use Rattle.rows.specs.Shapes.{columnsIn}
-use Rattle.matching.proofs.Lines.{tested-by, pair-columns}
+use Rattle.matching.proofs.Lines.{tested-by, cell-columns}
 use Rattle.matching.proofs.Matching.{fitsAt, fits-behind, Tests, tests-start, tests-at, row-fits, row-fails, tests-end}
 use Rattle.matching.proofs.fits.cells.satellite.Statement.{statement}
 use Rattle.matching.proofs.fits.cells.satellite.Tie as tie
@@ -58,14 +58,14 @@ module _ (c : tie.After-first Inv-loop μ-loop) where
   near : c .first .result < 2 ^ 31
   near = omega (arith, fewer _ refl .inside, c .first .ensures)
 
-tested : (c : tie.After-pair-fits Inv-loop μ-loop) → let f = c .before in c .pair-fits .result ≡ fitsAt (line f) (start f .args .rows .now) (start f .args .from + f .before .before .loop .k)
+tested : (c : tie.After-cell-fits Inv-loop μ-loop) → let f = c .before in c .cell-fits .result ≡ fitsAt (line f) (start f .args .rows .now) (start f .args .from + f .before .before .loop .k)
 tested c =
     let f = c .before in
     let x = start f in
     let id = x .args .sat .system in
     let numbers : List ℤ = x .args .rows .now in
     tested-by _ (columns f id) (take (length numbers - x .args .from) (drop (x .args .from) numbers)) (f .before .before .loop .k) (key id id (omega arith) refl)
-    (key (x .args .sat .number) (x .args .sat .number) (x .pre .0) refl) (key (f .first .result) (leadingZeros 64 (left f)) (near f) (f .first .ensures)) (pair-columns (x .args .s) id (x .pre .2)) (c .pair-fits .ensures)
+    (key (x .args .sat .number) (x .args .sat .number) (x .pre .0) refl) (key (f .first .result) (leadingZeros 64 (left f)) (near f) (f .first .ensures)) (cell-columns (x .args .s) id (x .pre .2)) (c .cell-fits .ensures)
     ∙ ap (λ (l : List ℤ). fitsAt (line f) l (f .before .before .loop .k)) (lent (x .args .from) numbers)
     ∙ fits-behind (line f) numbers (x .args .from) (f .before .before .loop .k) (x .pre .3)
 
@@ -76,7 +76,7 @@ loop-again c =
     let f = t .before in
     let r = c .rest in (
       omega (arith, fewer f (r .result) (r .ensures) .fewer, f .before .before .loop .inv .0),
-      tests-at (row-fits (f .before .before .loop .inv .1) (line f) _ (both f (r .result) (r .ensures)) (t .pair-fits .result) (tested t) (not-false _ (e .if1 .left))) _
+      tests-at (row-fits (f .before .before .loop .inv .1) (line f) _ (both f (r .result) (r .ensures)) (t .cell-fits .result) (tested t) (not-false _ (e .if1 .left))) _
           (omega arith),
     )
 
@@ -86,8 +86,8 @@ satellite-spec =
     tie.close
     (tie.spec Inv-loop μ-loop (λ c. search needs) (λ c. record { sfits = c .before .before .pre .0 }) (λ c. search needs) (λ c. search needs) (λ c. search needs) (λ c. search needs)
     (λ c. let x = c .before .before .before in (omega arith, tests-at (tests-start (x .pre .3)) _ (omega arith))) (λ c κs. search needs)
-    (λ c. record { sfits = near c }) (λ c κs. (omega (arith, c .before .before .loop .inv .1 .within, many c), start c .pre .1 .first, start c .pre .1 .second))
-    (λ c. let t = c .before in let f = t .before in row-fails (f .before .before .loop .inv .1) (line f) _ (both f _ refl) (t .pair-fits .result) (tested t) (not-true _ (c .if1 .taken)))
+    (λ c. record { sfits = near c }) (λ c κs. (omega (arith, c .before .before .loop .inv .1 .within, many c), start c .pre .1 .first, start c .pre .1 .second, start c .pre .1 .third))
+    (λ c. let t = c .before in let f = t .before in row-fails (f .before .before .loop .inv .1) (line f) _ (both f _ refl) (t .cell-fits .result) (tested t) (not-true _ (c .if1 .taken)))
     (λ c κs. search needs) (λ c. let f = c .before .before .before in omega (arith, f .before .before .loop .inv .1 .within, start f .good .1 .1 .1 .0))
     (λ c. fewer (c .before .before .before) (c .rest .result) (c .rest .ensures) .fewer) loop-again
     (λ c. let x = c .before .before .before .before .before in omega (arith, c .before .loop .inv .1 .within, x .good .1 .1 .1 .0))

@@ -1,4 +1,4 @@
--- `matching::fits::line::pair_fits` meets its contract. Assumes nothing.
+-- `matching::fits::line::cell_fits` meets its contract. Assumes nothing.
 use Rattle.bits.proofs.Words.{_≡_, sym, ap, _∙_, true, List, ℕ, _+_, _-_, arith, needs, leb, length, take, drop, ℤ}
 use borrow.Author.Tests.{not-true, not-false, le-leb, lt-leb}
 use lib.ListN.{length-drop}
@@ -7,8 +7,8 @@ use Rattle.body.proofs.Going.{lent}
 use Rattle.format.specs.Same.{sameList, sameℤ}
 use Rattle.fitting.specs.Fits.{rowFits}
 use Rattle.matching.specs.Matching.{keysOf}
-use Rattle.matching.proofs.fits.line.pair_fits.Statement.{statement}
-use Rattle.matching.proofs.fits.line.pair_fits.Tie as tie
+use Rattle.matching.proofs.fits.line.cell_fits.Statement.{statement}
+use Rattle.matching.proofs.fits.line.cell_fits.Tie as tie
 
 -- how many numbers there are from the k-th on
 many : (s : tie.Start) → length (take (length (s .args .rows .now) - s .args .k) (drop (s .args .k) (s .args .rows .now))) ≡ length (s .args .rows .now) - s .args .k
@@ -47,11 +47,11 @@ unfolding rowFits
 returns-3 c =
     let f = c .before in
     let e = f .before .before .before in
-    rw (there e, sym (keys (f .before)) ∙ not-false _ (f .if2 .left), ← (same e)) (c .paired .ensures)
+    rw (there e, sym (keys (f .before)) ∙ not-false _ (f .if2 .left), ← (same e)) (c .cell-valued .ensures)
 
-pub pair-fits-spec : {M : Type 1} → statement M
-pair-fits-spec =
+pub cell-fits-spec : {M : Type 1} → statement M
+cell-fits-spec =
     tie.close
     (tie.spec (λ c. search needs) (λ c. search needs) (λ c. search needs) (λ c. search needs)
     (λ c. let s = c .before .before in rw (lt-leb (s .args .k + 8) (length (s .args .rows .now)) (omega (arith, c .if1 .taken, many s, s .pre .0)))) (λ c. sym (eight (c .before)))
-    (λ c κs. eight (c .before)) returns-2 (λ c κs. let e = c .before .before .before in (eight e, start e .pre .1, start e .pre .2)) returns-3)
+    (λ c κs. eight (c .before)) returns-2 (λ c κs. let e = c .before .before .before in (eight e, start e .pre .1, start e .pre .2, start e .pre .3)) returns-3)

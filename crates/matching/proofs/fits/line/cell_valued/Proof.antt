@@ -1,12 +1,12 @@
--- `matching::fits::line::paired` meets its contract. Assumes nothing.
+-- `matching::fits::line::cell_valued` meets its contract. Assumes nothing.
 use Rattle.bits.proofs.Words.{_≡_, sym, _∙_, Bool, true, ℕ, arith, needs, getD, pos}
 use borrow.Author.Tests.{not-true, not-false}
 use Rattle.rows.specs.declared.shape.Column.{Column as CodeColumn}
 use Rattle.rows.specs.Shapes.{columnOf}
 use Rattle.fitting.specs.Fits.{columnFits}
-use Rattle.matching.proofs.RowTests.{read-fits, pair-by}
-use Rattle.matching.proofs.fits.line.paired.Statement.{statement}
-use Rattle.matching.proofs.fits.line.paired.Tie as tie
+use Rattle.matching.proofs.RowTests.{read-fits, cell-by}
+use Rattle.matching.proofs.fits.line.cell_valued.Statement.{statement}
+use Rattle.matching.proofs.fits.line.cell_valued.Tie as tie
 
 -- whether a column fits its value
 abbrev fits : tie.Start → CodeColumn → ℕ → Bool
@@ -35,14 +35,14 @@ module _ (e : tie.Else2) where
 returns : tie.Need-returns
 returns c =
     let s = c .before .before .before in
-    rw (pair-by (s .args .row .now) (s .pre .0) (columnOf (s .args .v1)) (columnOf (s .args .v2)), sym (first (c .before)) ∙ not-true _ (c .if1 .taken))
+    rw (cell-by (s .args .row .now) (s .pre .0) (columnOf (s .args .v1)) (columnOf (s .args .v2)) (columnOf (s .args .v3)), sym (first (c .before)) ∙ not-true _ (c .if1 .taken))
 
 returns-2 : tie.Need-returns-2
 returns-2 c =
     let d = c .before .before .before in
     let s = d .before .before .before in
     rw (
-      pair-by (s .args .row .now) (s .pre .0) (columnOf (s .args .v1)) (columnOf (s .args .v2)),
+      cell-by (s .args .row .now) (s .pre .0) (columnOf (s .args .v1)) (columnOf (s .args .v2)) (columnOf (s .args .v3)),
       sym (first (d .before)) ∙ not-false _ (d .if1 .left),
       sym (second (c .before)) ∙ not-true _ (c .if2 .taken),
     )
@@ -51,7 +51,7 @@ returns-3 : tie.Need-returns-3
 returns-3 c =
     let e = c .before .before in
     let s = start e in
-    rw (pair-by (s .args .row .now) (s .pre .0) (columnOf (s .args .v1)) (columnOf (s .args .v2)), one e, two e, sym (c .before .absent-at .ensures) ∙ not-true _ (c .if3 .taken))
+    rw (cell-by (s .args .row .now) (s .pre .0) (columnOf (s .args .v1)) (columnOf (s .args .v2)) (columnOf (s .args .v3)), one e, two e, sym (c .before .third .ensures) ∙ not-true _ (c .if3 .taken))
 
 returns-4 : tie.Need-returns-4
 returns-4 c =
@@ -59,11 +59,11 @@ returns-4 c =
     let e = f .before .before in
     let s = start e in
     rw (
-      pair-by (s .args .row .now) (s .pre .0) (columnOf (s .args .v1)) (columnOf (s .args .v2)),
+      cell-by (s .args .row .now) (s .pre .0) (columnOf (s .args .v1)) (columnOf (s .args .v2)) (columnOf (s .args .v3)),
       one e,
       two e,
-      sym (f .before .absent-at .ensures) ∙ not-false _ (f .if3 .left),
-      sym (c .before .absent-at2 .ensures) ∙ not-true _ (c .if4 .taken),
+      sym (f .before .third .ensures) ∙ not-false _ (f .if3 .left),
+      sym (c .before .absent-at .ensures) ∙ not-true _ (c .if4 .taken),
     )
 
 returns-5 : tie.Need-returns-5
@@ -73,16 +73,16 @@ returns-5 c =
     let e = f .before .before in
     let s = start e in
     rw (
-      pair-by (s .args .row .now) (s .pre .0) (columnOf (s .args .v1)) (columnOf (s .args .v2)),
+      cell-by (s .args .row .now) (s .pre .0) (columnOf (s .args .v1)) (columnOf (s .args .v2)) (columnOf (s .args .v3)),
       one e,
       two e,
-      sym (f .before .absent-at .ensures) ∙ not-false _ (f .if3 .left),
-      sym (g .before .absent-at2 .ensures) ∙ not-false _ (g .if4 .left),
+      sym (f .before .third .ensures) ∙ not-false _ (f .if3 .left),
+      sym (g .before .absent-at .ensures) ∙ not-false _ (g .if4 .left),
     )
-    (c .absent-at3 .ensures)
+    (c .absent-at2 .ensures)
 
-pub paired-spec : {M : Type 1} → statement M
-paired-spec =
+pub cell-valued-spec : {M : Type 1} → statement M
+cell-valued-spec =
     tie.close
-    (tie.spec (λ c. search needs) (λ c κs. search needs) returns (λ c. search needs) (λ c κs. search needs) returns-2 (λ c κs. omega (arith, start c .pre .0)) returns-3
+    (tie.spec (λ c. search needs) (λ c κs. search needs) returns (λ c. search needs) (λ c κs. search needs) returns-2 (λ c κs. search needs) returns-3
     (λ c κs. omega (arith, start (c .before .before) .pre .0)) returns-4 (λ c κs. omega (arith, start (c .before .before .before .before) .pre .0)) returns-5)
