@@ -32,7 +32,7 @@ pub fn service(head: &Head, rows: &[&[i32]]) -> Bits {
     Ok(bits)
 }
 
-/// Sub types 2, 3, 4 and 5: a, b and c are absent.
+/// Sub types 2, 3, 4, 5 and 7: a, b and c are absent.
 pub fn correction(mask: &Mask, head: &Head, rows: &[&[i32]]) -> Bits {
     let mut bits = opening(head, 12)?;
     require(head[5..].iter().all(|&column| column == ABSENT))?;
@@ -40,33 +40,45 @@ pub fn correction(mask: &Mask, head: &Head, rows: &[&[i32]]) -> Bits {
     Ok(bits)
 }
 
-/// Sub type 11: without a network every satellite has its row; with one the
-/// rows themselves tell the selection.
-pub fn combined(mask: &Mask, head: &Head, rows: &[&[i32]]) -> Bits {
+/// Sub types 6 and 11: without a network every satellite has its rows; with one
+/// the rows themselves tell the selection.
+pub fn selected(mask: &Mask, head: &Head, rows: &[&[i32]]) -> Bits {
     let mut bits = opening(head, 12)?;
     put_unsigned(&mut bits, head[5], 1)?;
     put_unsigned(&mut bits, head[6], 1)?;
+    let layout = |satellites: &[(u8, usize)]| {
+        layout::selected(head[0] as u64, mask, satellites, [head[5] == 1, head[6] == 1])
+    };
     let mut selected = mask.satellites();
     let network = head[7] != ABSENT;
     push(&mut bits, u64::from(network), 1);
     if network {
         put_unsigned(&mut bits, head[7], 5)?;
-        let selection = selection(&selected, rows);
+        let selection = selection(&selected, rows, |satellite| layout(&[satellite]).len());
         bits.extend(&selection);
         let mut chosen = selection.into_iter();
         selected.retain(|_| chosen.next() == Some(true));
     }
-    put_rows(&mut bits, &layout::combined(&selected, head[5] == 1, head[6] == 1), rows)?;
+    put_rows(&mut bits, &layout(&selected), rows)?;
     Ok(bits)
 }
 
-/// For each satellite of the mask whether the next row not yet used names it.
-/// A row that names none, or one out of order, is left over and so refused.
-fn selection(satellites: &[(u8, usize)], rows: &[&[i32]]) -> Vec<bool> {
-    let mut left = rows.iter().peekable();
+/// For each satellite of the mask whether the next row not yet used names it; all
+/// rows that such a satellite must have are used then. A row that names none, one
+/// out of order, or in sub type 6 one without a cell, is left over and so refused.
+fn selection(
+    satellites: &[(u8, usize)],
+    rows: &[&[i32]],
+    rows_of: impl Fn((u8, usize)) -> usize,
+) -> Vec<bool> {
+    let mut left = rows;
     let mut named = |&(id, place): &(u8, usize)| {
         let key = [i32::from(id), place as i32 + 1];
-        left.next_if(|row| row[..2] == key).is_some()
+        let named = left.first().map_or(false, |row| row[..2] == key);
+        if named {
+            left = left.get(rows_of((id, place))..).unwrap_or_default();
+        }
+        named
     };
     satellites.iter().map(&mut named).collect()
 }

@@ -60,14 +60,15 @@
 pub mod texts;
 pub mod writes;
 
-use std::collections::BTreeSet;
+use std::collections::{BTreeMap, BTreeSet};
 use std::io::{self, Write};
 
-use super::answer::{Stop, SHORT, STOPS};
+use super::answer::{Stop, NETWORK, SHORT, STOPS};
 use super::bits::Fields;
 use super::generate::{bench, cuts, filled, plain, single, stretches, sweeps, Case};
 use super::holding::Holding;
 use super::host::{self, Answer, MESSAGE};
+use super::pencil;
 use super::random::Random;
 use super::walk::walk;
 use super::COLUMNS;
@@ -82,14 +83,28 @@ pub struct Answers {
     /// Each sub type with each number of missing bits that occurred with it; no
     /// sub type where the stretch ends before it.
     pub pairs: BTreeSet<(Option<u64>, usize)>,
+    /// How often each field was refused with 3, and with 11, by the pencil's names.
+    pub fields: Refused,
 }
+
+/// A refusal's number and the name of the field, and how often it occurred.
+pub type Refused = BTreeMap<(u8, String), usize>;
 
 impl Answers {
     /// Counts idle or a refusal of what stands at the place.
-    fn stopped(&mut self, case: &Case, number: u8, place: usize, missing: usize) {
+    fn stopped(&mut self, case: &Case, stop: Stop, holding: &Holding) {
+        let Stop { number, place, missing } = stop;
         self.stops[usize::from(number)] += 1;
-        if number == SHORT {
-            self.pairs.insert((sub_type(case, place), missing));
+        let field = match number {
+            SHORT => {
+                self.pairs.insert((sub_type(case, place), missing));
+                pencil::short(case, place, holding).map(|short| short.0)
+            }
+            NETWORK => Some(pencil::refused_network(case, place, holding)),
+            _ => None,
+        };
+        if let Some(field) = field {
+            *self.fields.entry((number, field)).or_default() += 1;
         }
     }
 }
@@ -198,7 +213,10 @@ fn put_readings(
         put_reading(&mut readings, &answer, &rows, &holding);
         match answer.number {
             MESSAGE => answers.accepted += 1,
-            stop => answers.stopped(case, stop, answer.place, answer.missing),
+            number => {
+                let stop = Stop { number, place: answer.place, missing: answer.missing };
+                answers.stopped(case, stop, &host::decode(&holding));
+            }
         }
         place = answer.place;
         count += 1;
@@ -223,7 +241,7 @@ fn put_walk(output: &mut impl Write, answers: &mut Answers, case: &Case) -> io::
     let walk = walk(&lent, &case.bytes, case.bit_length, &mut rows, |_, _, _| {});
     host::put(&walk.holding, &mut holding);
     let Stop { number, place, missing } = walk.stop;
-    answers.stopped(case, number, place, missing);
+    answers.stopped(case, walk.stop, &walk.holding);
     answers.accepted += walk.messages;
     let mut record = Vec::new();
     put_lent(&mut record, case);

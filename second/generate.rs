@@ -9,6 +9,7 @@
 //! - `holdings`: lent holdings, good, damaged, cut and longer than they need be;
 //! - `sweeps`: what one message and one holding can be damaged in, all of it;
 //! - `cuts`: good messages and a stretch, cut at every length;
+//! - `shorts`: messages that end inside a field, each as often;
 //! - `single`: cases of one reading;
 //! - `stretches`: cases of one stretch, the mask kept from stretch to stretch;
 //! - `strays`: lent bytes that are no holding, kind by kind;
@@ -18,7 +19,7 @@
 //! - `texts`, `text_sweeps`: cases of saving, loading and lines of input;
 //! - `inputs`: whole inputs of the listing program;
 //! - `spoils`, `writes`: cases of one write, and what can be wrong with them;
-//! - `changes`: every single change of what a good message means;
+//! - `changes`, `selections`: every single change of what a good message means;
 //! - `rounds`: messages to be read, written back and read again.
 
 pub mod bench;
@@ -33,6 +34,8 @@ pub mod masks;
 pub mod messages;
 pub mod rounds;
 pub mod saved_lines;
+pub mod selections;
+pub mod shorts;
 pub mod single;
 pub mod spoils;
 pub mod strays;

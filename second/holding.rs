@@ -119,6 +119,23 @@ impl Mask {
         self.systems.iter().flat_map(of).collect()
     }
 
+    /// The cells of these satellites, in the order sent.
+    pub fn cells_of(&self, satellites: &[(u8, usize)]) -> Vec<(u8, usize, usize)> {
+        let mut cells = self.cells();
+        cells.retain(|&(id, place, _)| satellites.contains(&(id, place)));
+        cells
+    }
+
+    /// The satellites without a cell: all their bits of a cell mask are zero, or
+    /// their system has no signal.
+    pub fn bare_satellites(&self) -> Vec<(u8, usize)> {
+        let cells = self.cells();
+        let has_cell = |satellite| cells.iter().any(|&(id, place, _)| (id, place) == satellite);
+        let mut bare = self.satellites();
+        bare.retain(|&satellite| !has_cell(satellite));
+        bare
+    }
+
     pub fn names(&self, id: u8) -> bool {
         self.systems.iter().any(|system| system.id == id)
     }

@@ -1,6 +1,7 @@
 //! The rows of each sub type, column by column (document 01, "Message layouts"
-//! and "What is handed out"). Reader and writer share this one description:
-//! the fields of a row stand in the message in the order of its columns.
+//! and "What is handed out"; of sub types 6 and 7 document 02, Ask 1, by Tables
+//! 4.1.2-20 and 4.1.2-22 of source document 002). Reader and writer share this one
+//! description: the fields of a row stand in the message in the order of its columns.
 
 use super::holding::{Mask, GALILEO};
 use super::{ABSENT, COLUMNS};
@@ -22,6 +23,10 @@ pub type Row = [Column; COLUMNS];
 
 const NONE: Column = Fixed(ABSENT);
 const CLOCK: Column = Signed(15);
+const CODE_BIAS: Column = Signed(11);
+const PHASE_BIAS: Column = Signed(15);
+const DISCONTINUITY: Column = Unsigned(2);
+const URA: Column = Unsigned(6);
 
 impl Column {
     pub fn width(&self) -> usize {
@@ -37,21 +42,37 @@ pub fn width(rows: &[Row]) -> usize {
     rows.iter().flatten().map(Column::width).sum()
 }
 
-/// The rows of sub types 2 and 3, one per satellite, and of 4 and 5, one per cell.
+/// The rows of sub types 2, 3 and 7, one per satellite, and of 4 and 5, one per cell.
 pub fn correction(sub_type: u64, mask: &Mask) -> Vec<Row> {
+    let satellites = mask.satellites();
     match sub_type {
-        2 => combined(&mask.satellites(), true, false),
-        3 => mask.satellites().into_iter().map(clock_row).collect(),
-        4 => cell_rows(mask, [Signed(11), NONE]),
-        5 => cell_rows(mask, [Signed(15), Unsigned(2)]),
+        2 => orbit_clock_rows(&satellites, [true, false]),
+        3 => satellite_rows(&satellites, CLOCK),
+        4 => cell_rows(&mask.cells(), [CODE_BIAS, NONE, NONE]),
+        5 => cell_rows(&mask.cells(), [PHASE_BIAS, DISCONTINUITY, NONE]),
+        7 => satellite_rows(&satellites, URA),
         _ => Vec::new(),
     }
 }
 
-/// The rows of sub type 11, one per selected satellite even where both flags
-/// are 0. With the orbit flag alone they are those of sub type 2.
-pub fn combined(selected: &[(u8, usize)], orbit: bool, clock: bool) -> Vec<Row> {
-    selected.iter().map(|&satellite| combined_row(satellite, orbit, clock)).collect()
+/// The rows of sub types 6 and 11, of the selected satellites alone, with what
+/// their two flags allow: in 6 one per cell, in 11 one per satellite, even where
+/// both flags are 0.
+pub fn selected(
+    sub_type: u64,
+    mask: &Mask,
+    satellites: &[(u8, usize)],
+    flags: [bool; 2],
+) -> Vec<Row> {
+    match sub_type {
+        6 => {
+            let [code, phase] = flags;
+            let phase = [PHASE_BIAS, DISCONTINUITY].map(|column| when(phase, column));
+            cell_rows(&mask.cells_of(satellites), [when(code, CODE_BIAS), phase[0], phase[1]])
+        }
+        11 => orbit_clock_rows(satellites, flags),
+        _ => Vec::new(),
+    }
 }
 
 /// The rows of sub type 10: one per 40 bits, numbered from 1 in the signal column.
@@ -71,28 +92,41 @@ fn satellite(place: usize) -> Column {
     Fixed(place as i32 + 1)
 }
 
-fn clock_row((id, place): (u8, usize)) -> Row {
-    [system(id), satellite(place), NONE, CLOCK, NONE, NONE, NONE, NONE]
+fn when(flag: bool, column: Column) -> Column {
+    if flag {
+        column
+    } else {
+        NONE
+    }
 }
 
-fn combined_row((id, place): (u8, usize), orbit: bool, clock: bool) -> Row {
-    let iode = Unsigned(if id == GALILEO { 10 } else { 8 });
-    let when = |flag: bool, column: Column| if flag { column } else { NONE };
-    [
-        system(id),
-        satellite(place),
-        NONE,
-        when(orbit, iode),
-        when(orbit, Signed(15)),
-        when(orbit, Signed(13)),
-        when(orbit, Signed(13)),
-        when(clock, CLOCK),
-    ]
-}
-
-fn cell_rows(mask: &Mask, [first, second]: [Column; 2]) -> Vec<Row> {
-    let row = |(id, place, signal): (u8, usize, usize)| {
-        [system(id), satellite(place), Fixed(signal as i32), first, second, NONE, NONE, NONE]
+fn satellite_rows(satellites: &[(u8, usize)], value: Column) -> Vec<Row> {
+    let row = |&(id, place): &(u8, usize)| {
+        [system(id), satellite(place), NONE, value, NONE, NONE, NONE, NONE]
     };
-    mask.cells().into_iter().map(row).collect()
+    satellites.iter().map(row).collect()
+}
+
+fn orbit_clock_rows(satellites: &[(u8, usize)], [orbit, clock]: [bool; 2]) -> Vec<Row> {
+    let row = |&(id, place): &(u8, usize)| {
+        let iode = Unsigned(if id == GALILEO { 10 } else { 8 });
+        [
+            system(id),
+            satellite(place),
+            NONE,
+            when(orbit, iode),
+            when(orbit, Signed(15)),
+            when(orbit, Signed(13)),
+            when(orbit, Signed(13)),
+            when(clock, CLOCK),
+        ]
+    };
+    satellites.iter().map(row).collect()
+}
+
+fn cell_rows(cells: &[(u8, usize, usize)], [v1, v2, v3]: [Column; 3]) -> Vec<Row> {
+    let row = |&(id, place, signal): &(u8, usize, usize)| {
+        [system(id), satellite(place), Fixed(signal as i32), v1, v2, v3, NONE, NONE]
+    };
+    cells.iter().map(row).collect()
 }

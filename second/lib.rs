@@ -1,7 +1,7 @@
-//! A second, independent codec for Compact SSR messages of sub types 1, 2, 3,
-//! 4, 5, 10 and 11, made from document 01 ("Exact rules for the build") and, of
-//! document 02, from Ask 7 ("How many bits were missing"), so that another
-//! implementation can be compared with it.
+//! A second, independent codec for Compact SSR messages of sub types 1 to 7, 10
+//! and 11, made from document 01 ("Exact rules for the build") and, of document
+//! 02, from Ask 1 ("Accuracy and combined biases") and Ask 7 ("How many bits were
+//! missing"), so that another implementation can be compared with it.
 //!
 //! Clarity comes before speed everywhere: bits are taken one by one, masks are
 //! spelled out as lists, and a message is read whole before anything is lent
@@ -19,6 +19,7 @@ pub mod host_write;
 pub mod layout;
 pub mod listing;
 pub mod mask_message;
+pub mod pencil;
 pub mod random;
 pub mod reader;
 pub mod saved;

@@ -106,13 +106,17 @@ fn emit(emitted: impl FnOnce(&mut Output) -> io::Result<Answers>) -> io::Result<
     Ok(())
 }
 
-/// The distribution over the answers; where bits were missing, also how many
-/// pairs of a sub type and a number of missing bits there were.
+/// The distribution over the answers, those of 3 and 11 also over the fields that
+/// they were for; where bits were missing, also how many pairs of a sub type and a
+/// number of missing bits there were.
 fn print_answers(answers: &Answers) {
     for (number, count) in answers.stops.iter().enumerate() {
         eprintln!("{number} {count}");
     }
     eprintln!("accepted {}", answers.accepted);
+    for ((number, field), count) in &answers.fields {
+        eprintln!("{number} at {field}: {count}");
+    }
     if !answers.pairs.is_empty() {
         eprintln!("pairs {}", answers.pairs.len());
     }

@@ -94,7 +94,7 @@ fn take_message(fields: &mut Fields, holding: &Holding) -> Result<Parts, Reason>
     match fields.unsigned(4)? {
         1 => take_mask_message(fields),
         10 => take_service(fields, holding),
-        sub_type @ (2..=5 | 11) => take_correction(fields, holding, sub_type),
+        sub_type @ (2..=7 | 11) => take_correction(fields, holding, sub_type),
         _ => Err(Plain(SUB_TYPE)),
     }
 }
@@ -129,40 +129,59 @@ fn take_service(fields: &mut Fields, holding: &Holding) -> Result<Parts, Reason>
     Ok(Parts { head, rows, holding: holding.clone() })
 }
 
-/// Sub types 2, 3, 4, 5 and 11, all made for one mask. "After IOD SSR: 6, then 7."
+/// Sub types 2 to 7 and 11, all made for one mask. "After IOD SSR: 6, then 7."
 fn take_correction(fields: &mut Fields, holding: &Holding, sub_type: u64) -> Result<Parts, Reason> {
     let mut head = take_head(fields, sub_type, 12)?;
     let mask = holding.of_issue(head[4])?;
     let layout = match sub_type {
-        11 => take_combined_layout(fields, mask, &mut head)?,
+        6 | 11 => take_selected_layout(fields, mask, &mut head)?,
         _ => layout::correction(sub_type, mask),
     };
     let rows = take_body(fields, &layout)?;
     Ok(Parts { head, rows, holding: holding.clone() })
 }
 
-/// Sub type 11 after its head: orbit flag (a), clock flag (b), network flag and,
-/// if that is 1, the network ID (c) and the selection.
-fn take_combined_layout(
+/// Sub types 6 and 11 after their head: the two flags (a and b), of code and phase
+/// bias or of orbit and clock, the network flag and, if that is 1, the network ID
+/// (c) and the selection.
+fn take_selected_layout(
     fields: &mut Fields,
     mask: &Mask,
     head: &mut [i32; COLUMNS],
 ) -> Result<Vec<Row>, Reason> {
-    let orbit = fields.unsigned(1)?;
-    let clock = fields.unsigned(1)?;
-    head[5] = orbit as i32;
-    head[6] = clock as i32;
+    let sub_type = head[0] as u64;
+    let flags = [fields.unsigned(1)?, fields.unsigned(1)?];
+    [head[5], head[6]] = flags.map(|flag| flag as i32);
     let mut selected = mask.satellites();
     if fields.unsigned(1)? == 1 {
-        let network = fields.unsigned(5)?;
-        if network == 0 {
-            return Err(Plain(NETWORK));
-        }
-        head[7] = network as i32;
-        let mut selection = fields.flags(selected.len())?.into_iter();
-        selected.retain(|_| selection.next() == Some(true));
+        head[7] = take_network(fields)?;
+        selected = take_selection(fields, mask, sub_type)?;
     }
-    Ok(layout::combined(&selected, orbit == 1, clock == 1))
+    Ok(layout::selected(sub_type, mask, &selected, flags.map(|flag| flag == 1)))
+}
+
+/// The network ID; 0 is refused at once.
+fn take_network(fields: &mut Fields) -> Result<i32, Reason> {
+    match fields.unsigned(5)? {
+        0 => Err(Plain(NETWORK)),
+        network => Ok(network as i32),
+    }
+}
+
+/// The selected satellites. In sub type 6 a selection that names "a satellite
+/// without a cell" is refused "right after it" (document 02, Ask 1).
+fn take_selection(
+    fields: &mut Fields,
+    mask: &Mask,
+    sub_type: u64,
+) -> Result<Vec<(u8, usize)>, Reason> {
+    let mut selected = mask.satellites();
+    let mut selection = fields.flags(selected.len())?.into_iter();
+    selected.retain(|_| selection.next() == Some(true));
+    if sub_type == 6 && mask.bare_satellites().iter().any(|bare| selected.contains(bare)) {
+        return Err(Plain(NETWORK));
+    }
+    Ok(selected)
 }
 
 /// "The body ... after the last head or selection field is one test of 3." So what

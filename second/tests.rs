@@ -1,6 +1,7 @@
 //! The tests: one line for each group of cases, and last `N passed, M failed`.
 
 mod bench;
+mod biases;
 mod columns;
 mod coverage;
 mod hand;
@@ -8,7 +9,6 @@ mod host;
 mod listing;
 mod missing;
 mod missing_cases;
-mod pencil;
 mod reader;
 mod rounds;
 mod saved;
@@ -53,13 +53,16 @@ impl Group {
     }
 }
 
-const GROUPS: [(&str, fn(&mut Group)); 31] = [
+const GROUPS: [(&str, fn(&mut Group)); 35] = [
     ("bench 1 the worked listing", bench::worked_listing),
     ("bench 1 to 4 stretches", bench::stretches),
-    ("bench 5 to 14 readings", bench::readings),
+    ("bench 5 to 14 and Ask 1 readings", bench::readings),
     ("reader: each answer number", reader::numbers),
     ("reader: order of refusals", reader::order),
     ("reader: messages by hand", hand::messages),
+    ("biases and URA: layouts", biases::layouts),
+    ("biases and URA: refusals", biases::refusals),
+    ("biases and URA: writes", biases::writes),
     ("missing bits: by hand", missing::by_hand),
     ("missing bits: drawn messages cut", missing::drawn),
     ("missing bits: fixed cases", missing_cases::fixed),
@@ -83,6 +86,7 @@ const GROUPS: [(&str, fn(&mut Group)); 31] = [
     ("generated lines", texts::lines),
     ("generated inputs of the listing", texts::inputs),
     ("streams: what the readings cover", coverage::readings),
+    ("streams: sub types 6 and 7 refused", coverage::refused),
     ("streams: every answer number often", streams::answers),
     ("streams: their formats", streams::formats),
 ];

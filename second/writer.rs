@@ -48,7 +48,8 @@ fn prepare(
 }
 
 /// "5, 6 (also for sub type 1), 7 (also for sub type 1; 10 skips both),
-/// 11 (sub type 11 with c = 0), 12".
+/// 11 (sub type 11 with c = 0), 12"; for sub type 6 as for 11 (document 02, Ask 1),
+/// where no c but 0 gives 11, whatever the rows select.
 fn message(
     holding: &Holding,
     head: &[i32; COLUMNS],
@@ -57,14 +58,14 @@ fn message(
 ) -> Result<Vec<bool>, u8> {
     match head[0] {
         1 => compose::mask_message(holding.of_issue(head[4])?, head, &counted(rows, count)?),
-        2..=5 => compose::correction(holding.of_issue(head[4])?, head, &counted(rows, count)?),
+        2..=5 | 7 => compose::correction(holding.of_issue(head[4])?, head, &counted(rows, count)?),
         10 => compose::service(head, &counted(rows, count)?),
-        11 => {
+        6 | 11 => {
             let mask = holding.of_issue(head[4])?;
             if head[7] == 0 {
                 return Err(NETWORK);
             }
-            compose::combined(mask, head, &counted(rows, count)?)
+            compose::selected(mask, head, &counted(rows, count)?)
         }
         _ => Err(SUB_TYPE),
     }

@@ -1,10 +1,11 @@
 //! Document 01's bench cases: 1 to 4 as whole stretches, the others as single
 //! readings, each with what the document says of it, and with how many bits are
-//! missing where that is 3 (document 02, Ask 7).
+//! missing where that is 3 (document 02, Ask 7). And the like for sub types 6 and 7
+//! (Ask 1).
 
 use super::super::answer::Reason::{self, Plain, Short};
 use super::super::answer::Stop;
-use super::super::holding::Holding;
+use super::super::holding::{Holding, Mask, System};
 use super::hand::{fields, first, head_bits, held, listing_bits, mask_bits, place};
 
 const GPS: i64 = 0;
@@ -46,7 +47,8 @@ pub fn stretches() -> Vec<Stretch> {
 }
 
 pub fn readings() -> Vec<Reading> {
-    [masks(), short_ones(), under_a_mask(), services()].into_iter().flatten().collect()
+    let all = [masks(), short_ones(), under_a_mask(), services(), biases(), accuracy()];
+    all.into_iter().flatten().collect()
 }
 
 fn reading(
@@ -133,5 +135,44 @@ fn services() -> Vec<Reading> {
         fresh("bench 13: size 0, a bit less", &service(0, 39), Err(Short(1))),
         fresh("bench 13: size 3", &service(3, 160), Ok(182)),
         fresh("bench 13: size 3, a bit less", &service(3, 159), Err(Short(1))),
+    ]
+}
+
+/// Sub type 6 for two satellites, the second of which has no cell.
+fn biases() -> Vec<Reading> {
+    let system = System {
+        id: GPS as u8,
+        satellites: first(2, 40) as u64,
+        signals: first(1, 16) as u16,
+        cells: Some(vec![true, false]),
+    };
+    let held = Holding::Held(Mask { iod: 3, systems: vec![system] });
+    let message = |name, flags: &[(i64, usize)], body, expected| {
+        let bits = [head_bits(6, 3), fields(flags), vec![true; body]].concat();
+        reading(name, &held, &bits, expected)
+    };
+    let network = |network, selection| [(7, 3), (network, 5), (selection, 2)];
+    vec![
+        message("Ask 1: network 0", &network(0, 2), 28, Err(Plain(11))),
+        message("Ask 1: network 31", &network(31, 2), 28, Ok(75)),
+        message("Ask 1: a bit less", &network(31, 2), 27, Err(Short(1))),
+        message("Ask 1: none selected", &network(1, 0), 0, Ok(47)),
+        message("Ask 1: no cell", &network(1, 1), 28, Err(Plain(11))),
+        message("Ask 1: no cell, no body", &network(1, 3), 0, Err(Plain(11))),
+        message("Ask 1: no network", &[(6, 3)], 28, Ok(68)),
+        message("Ask 1: code bias", &[(4, 3)], 11, Ok(51)),
+        message("Ask 1: phase bias", &[(2, 3)], 17, Ok(57)),
+        message("Ask 1: neither bias", &[(0, 3)], 0, Ok(40)),
+    ]
+}
+
+/// Sub type 7 for one satellite.
+fn accuracy() -> Vec<Reading> {
+    let one = held(&[(GALILEO as u8, first(1, 40), 0)]);
+    let message = |body| [head_bits(7, 3), vec![true; body]].concat();
+    vec![
+        reading("Ask 1: one URA", &one, &message(6), Ok(43)),
+        reading("Ask 1: one URA, a bit less", &one, &message(5), Err(Short(1))),
+        reading("Ask 1: URA without a mask", &Holding::Empty, &message(6), Err(Plain(6))),
     ]
 }

@@ -1,11 +1,12 @@
 //! Every single change of what a good message means: each number of its head
 //! and of its rows at and past the ends of its range, absent, or there where it
 //! is absent; rows swapped, doubled, dropped and added; other counts. The ranges
-//! are laid down here from document 01, and not taken from the writer.
+//! are laid down here from documents 01 and 02, and not taken from the writer.
 //!
 //! A change's name says what it must be answered with: `second test` holds that
-//! against the writer. With a network, rows tell the selection, so what is done
-//! to its rows has names of its own.
+//! against the writer. With a network, rows tell the selection (`selections.rs`),
+//! so what is done to its rows has names of its own: in sub type 6, where a
+//! satellite has a row for each cell, others than in sub type 11.
 
 use super::super::bits::bytes_for;
 use super::super::holding::{Mask, GALILEO};
@@ -13,6 +14,7 @@ use super::super::random::Random;
 use super::super::{ABSENT, COLUMNS};
 use super::masks;
 use super::messages::{of_sub_type, Drawn};
+use super::selections::of_selection;
 use super::writes::{plain, Writing};
 
 /// A good case, and all its single changes.
@@ -40,10 +42,10 @@ pub enum Part {
 }
 
 /// What a number may be: one alone, a field of some width, the network ID of
-/// sub type 11, or absent. A shape says how many rows there are or what they
-/// have, so that they must change with it.
+/// sub types 6 and 11, or absent. A shape says how many rows there are or what
+/// they have, so that they must change with it.
 #[derive(Clone, Copy)]
-enum Range {
+pub enum Range {
     Fixed(&'static str),
     Unsigned(u32),
     Signed(u32),
@@ -55,11 +57,11 @@ enum Range {
 use Range::{Absent, Fixed, Network, Shape, Signed, Unsigned};
 
 /// Good records of each sub type.
-const RECORDS: usize = 300;
-const SUB_TYPES: [u64; 7] = [1, 2, 3, 4, 5, 10, 11];
+const RECORDS: usize = 234;
+const SUB_TYPES: [u64; 9] = [1, 2, 3, 4, 5, 6, 7, 10, 11];
 
 /// Bytes more than the message needs: room for what a change may add to it.
-const SPARE: usize = 16;
+const SPARE: usize = 64;
 
 pub fn all() -> Vec<Changed> {
     let mut random = Random::new(3);
@@ -100,15 +102,15 @@ fn small_mask(random: &mut Random) -> Mask {
 }
 
 fn is_selected(drawn: &Drawn) -> bool {
-    drawn.head[0] == 11 && drawn.head[7] != ABSENT
+    matches!(drawn.head[0], 6 | 11) && drawn.head[7] != ABSENT
 }
 
 /// The name of what is done to rows.
 fn row_name(drawn: &Drawn, name: &str) -> String {
-    if is_selected(drawn) {
-        format!("selected {name}")
-    } else {
-        name.to_string()
+    match drawn.head[0] {
+        6 if is_selected(drawn) => format!("cell {name}"),
+        11 if is_selected(drawn) => format!("selected {name}"),
+        _ => name.to_string(),
     }
 }
 
@@ -117,7 +119,7 @@ fn splice(name: String, part: Part, at: usize, numbers: Vec<i32>, rows: usize) -
     Change { name, part, from: at, to: at + numbers.len(), numbers, rows }
 }
 
-/// Document 01, "Message layouts" and "What is handed out".
+/// Document 01, "Message layouts" and "What is handed out"; document 02, Ask 1.
 fn head_ranges(sub_type: i32) -> [Range; COLUMNS] {
     let opening = |epoch, [a, b, c]: [Range; 3]| {
         let (sub_type, iod) = (Fixed("sub type"), Fixed("IOD SSR"));
@@ -129,28 +131,25 @@ fn head_ranges(sub_type: i32) -> [Range; COLUMNS] {
             let (indicator, counter, size) = (Unsigned(1), Unsigned(3), Shape(2));
             [Fixed("sub type"), Absent, Absent, indicator, Absent, counter, size, Absent]
         }
-        11 => opening(12, [Shape(1), Shape(1), Network]),
+        6 | 11 => opening(12, [Shape(1), Shape(1), Network]),
         _ => opening(12, [Absent; 3]),
     }
 }
 
 /// The ranges of v1 to v5 of a row, by what is in the head and the row's system.
-fn value_ranges(head: &[i32; COLUMNS], system: i32) -> [Range; 5] {
+pub fn value_ranges(head: &[i32; COLUMNS], system: i32) -> [Range; 5] {
     let iode = Unsigned(if system == i32::from(GALILEO) { 10 } else { 8 });
-    let orbit = [iode, Signed(15), Signed(13), Signed(13)];
-    let [iode, radial, along, cross] = match head {
-        [2, ..] | [11, _, _, _, _, 1, ..] => orbit,
-        _ => [Absent; 4],
-    };
+    let a = |range: Range| if head[5] == 1 { range } else { Absent };
+    let b = |range: Range| if head[6] == 1 { range } else { Absent };
     match head[0] {
+        2 => [iode, Signed(15), Signed(13), Signed(13), Absent],
         3 => [Signed(15), Absent, Absent, Absent, Absent],
         4 => [Signed(11), Absent, Absent, Absent, Absent],
         5 => [Signed(15), Unsigned(2), Absent, Absent, Absent],
+        6 => [a(Signed(11)), b(Signed(15)), b(Unsigned(2)), Absent, Absent],
+        7 => [Unsigned(6), Absent, Absent, Absent, Absent],
         10 => [Unsigned(8); 5],
-        _ => {
-            let clock = if head[0] == 11 && head[6] == 1 { Signed(15) } else { Absent };
-            [iode, radial, along, cross, clock]
-        }
+        _ => [a(iode), a(Signed(15)), a(Signed(13)), a(Signed(13)), b(Signed(15))],
     }
 }
 
@@ -267,33 +266,6 @@ fn of_counts(drawn: &Drawn) -> Vec<Change> {
     let mut changes = more.map(|rows| counted("rows not lent".to_string(), rows)).to_vec();
     if count > 0 {
         changes.push(counted(row_name(drawn, "row not counted"), count - 1));
-    }
-    changes
-}
-
-/// A row for each satellite that is not selected, at its place among the others
-/// and after all of them.
-fn of_selection(mask: &Mask, drawn: &Drawn) -> Vec<Change> {
-    let mut changes = Vec::new();
-    let mut before = 0;
-    for (id, place) in mask.satellites() {
-        let key = [i32::from(id), place as i32 + 1];
-        if drawn.rows.get(before).map_or(false, |row| row[..2] == key) {
-            before += 1;
-            continue;
-        }
-        let mut row = [ABSENT; COLUMNS];
-        row[..2].copy_from_slice(&key);
-        for (value, range) in value_ranges(&drawn.head, key[0]).into_iter().enumerate() {
-            if !matches!(range, Absent) {
-                row[3 + value] = value as i32;
-            }
-        }
-        for (name, at) in [("selected too", before), ("selected at the end", drawn.rows.len())] {
-            let (at, rows) = (COLUMNS * at, drawn.rows.len() + 1);
-            let (name, numbers) = (name.to_string(), row.to_vec());
-            changes.push(Change { name, part: Part::Rows, from: at, to: at, numbers, rows });
-        }
     }
     changes
 }

@@ -24,7 +24,7 @@ pub fn readings() -> Vec<Case> {
     }
     for mask in masks::limits(&mut random, 0) {
         let held = Holding::Held(mask.clone());
-        for sub_type in [2, 3, 4, 5, 11] {
+        for sub_type in [2, 3, 4, 5, 6, 7, 11] {
             let drawn = messages::of_sub_type(&mut random, &mask, sub_type);
             let cuts = cut(&mut random, &held, &drawn).into_iter().enumerate();
             let few = |kept: usize| kept % STEP == 0 || kept <= drawn.body + 1;
@@ -40,37 +40,48 @@ pub fn stretches() -> Vec<Case> {
     let mut random = Random::new(4);
     let mask = five_systems();
     let mut bits = messages::mask(&mut random, &mask).bits;
-    for sub_type in [2, 3, 4, 5, 10] {
+    for sub_type in [2, 3, 4, 5, 7, 10] {
         bits.extend(messages::of_sub_type(&mut random, &mask, sub_type).bits);
     }
-    bits.extend(combined(&mut random, &mask, [1, 1], true).bits);
+    for sub_type in [6, 11] {
+        bits.extend(selected(&mut random, &mask, sub_type, [1, 1], true).bits);
+    }
     let whole = plain("sweep: cut stretch", &Holding::Empty, &bits);
     (0..=bits.len()).map(|bit_length| Case { bit_length, ..whole.clone() }).collect()
 }
 
 /// A mask message, each sub type of satellites and cells, service information of
-/// each size, and sub type 11 with all its flags.
+/// each size, and sub types 6 and 11 with all their flags.
 fn messages_of(random: &mut Random, mask: &Mask) -> Vec<Drawn> {
     let mut all: Vec<Drawn> =
-        [1, 2, 3, 4, 5].map(|sub_type| messages::of_sub_type(random, mask, sub_type)).into();
+        [1, 2, 3, 4, 5, 7].map(|sub_type| messages::of_sub_type(random, mask, sub_type)).into();
     for size in 0..4 {
         all.push(until(|| messages::service(random), |drawn| drawn.head[6] == size));
     }
-    for flags in [[0, 0], [0, 1], [1, 0], [1, 1]] {
-        all.extend([false, true].map(|network| combined(random, mask, flags, network)));
+    for sub_type in [6, 11] {
+        for flags in [[0, 0], [0, 1], [1, 0], [1, 1]] {
+            let drawn = |network| selected(random, mask, sub_type, flags, network);
+            all.extend([false, true].map(drawn));
+        }
     }
     all
 }
 
-/// Sub type 11 with these flags, and with a network or without; with one some
-/// satellites are selected, and some are not.
-fn combined(random: &mut Random, mask: &Mask, flags: [i32; 2], network: bool) -> Drawn {
-    let satellites = mask.satellites().len();
+/// Sub type 6 or 11 with these flags, and with a network or without; with one some
+/// rows are selected, and some are not.
+fn selected(
+    random: &mut Random,
+    mask: &Mask,
+    sub_type: u64,
+    flags: [i32; 2],
+    network: bool,
+) -> Drawn {
+    let all = if sub_type == 6 { mask.cells().len() } else { mask.satellites().len() };
     let wanted = |drawn: &Drawn| {
-        let part = (1..satellites).contains(&drawn.rows.len());
+        let part = (1..all).contains(&drawn.rows.len());
         drawn.head[5..7] == flags && (drawn.head[7] != ABSENT) == network && part == network
     };
-    until(|| messages::of_sub_type(random, mask, 11), wanted)
+    until(|| messages::of_sub_type(random, mask, sub_type), wanted)
 }
 
 /// Draws until it is one that is wanted.

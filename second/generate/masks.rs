@@ -36,6 +36,16 @@ pub fn named(random: &mut Random) -> Mask {
     }
 }
 
+/// A good mask with a satellite that has no cell.
+pub fn with_bare_satellite(random: &mut Random) -> Mask {
+    loop {
+        let mask = good(random);
+        if !mask.bare_satellites().is_empty() {
+            return mask;
+        }
+    }
+}
+
 /// Another issue of the mask, sometimes with the same systems.
 pub fn successor(random: &mut Random, mask: &Mask) -> Mask {
     let next = if random.chance(20) { mask.clone() } else { good(random) };
@@ -72,7 +82,7 @@ fn sized_system(random: &mut Random, id: u8, satellites: usize, signals: usize) 
     let signals = places(random, SIGNAL_PLACES[index], signals, SIGNAL_BITS) as u16;
     let mut system = System { id, satellites, signals, cells: None };
     if random.chance(60) {
-        system.cells = Some(cell_mask(random, system.cell_bits()));
+        system.cells = Some(cell_mask(random, &system));
     }
     system
 }
@@ -83,9 +93,17 @@ fn places(random: &mut Random, assigned: usize, count: usize, width: usize) -> u
     random.draw(&all, count).iter().fold(0, |mask, place| mask | 1 << (width - 1 - place))
 }
 
-fn cell_mask(random: &mut Random, bits: usize) -> Vec<bool> {
+/// Any cell mask, in half of all cases with some satellites that have no cell.
+fn cell_mask(random: &mut Random, system: &System) -> Vec<bool> {
     let percent = random.pick(&[0, 20, 50, 90, 100]);
-    (0..bits).map(|_| random.chance(percent)).collect()
+    let bare = random.pick(&[0, 0, 30, 60]);
+    let signals = system.signal_places().len();
+    let mut cells = Vec::new();
+    for _ in system.satellite_places() {
+        let percent = if random.chance(bare) { 0 } else { percent };
+        cells.extend((0..signals).map(|_| random.chance(percent)));
+    }
+    cells
 }
 
 /// So many cells of a cell mask set, all others zero.
@@ -229,7 +247,7 @@ pub fn with_reserved_place(random: &mut Random) -> Mask {
         system.signals |= 1 << (SIGNAL_BITS - 1 - place);
     }
     if system.cells.is_some() {
-        system.cells = Some(cell_mask(random, system.cell_bits()));
+        system.cells = Some(cell_mask(random, system));
     }
     mask
 }

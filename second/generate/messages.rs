@@ -1,6 +1,7 @@
 //! Whole messages for the generator, with the head and the rows that they
 //! stand for under their mask. The fields are laid down here from document 01,
-//! "Message layouts", and not from the reader's and writer's own description.
+//! "Message layouts", those of sub types 6 and 7 from Tables 4.1.2-19 to 4.1.2-22 of
+//! source document 002, and not from the reader's and writer's own description.
 
 use super::super::bits::push;
 use super::super::holding::{Mask, GALILEO};
@@ -140,25 +141,20 @@ pub fn service(random: &mut Random) -> Drawn {
     drawn
 }
 
-/// Sub type 2, 3, 4, 5 or 11 under the mask.
+/// Sub type 2 to 7 or 11 under the mask; those with flags most often.
 pub fn correction(random: &mut Random, mask: &Mask) -> Drawn {
-    match random.below(7) {
-        0 => per_satellite(random, mask, 2),
-        1 => per_satellite(random, mask, 3),
-        2 => per_cell(random, mask, 4),
-        3 => per_cell(random, mask, 5),
-        _ => combined(random, mask),
-    }
+    let sub_type = random.pick(&[2, 3, 4, 5, 7, 6, 6, 6, 11, 11, 11]);
+    of_sub_type(random, mask, sub_type)
 }
 
-/// A message of this sub type under the mask: any of the seven.
+/// A message of this sub type under the mask: any of the nine.
 pub fn of_sub_type(random: &mut Random, held: &Mask, sub_type: u64) -> Drawn {
     match sub_type {
         1 => mask(random, held),
         10 => service(random),
-        2 | 3 => per_satellite(random, held, sub_type),
+        2 | 3 | 7 => per_satellite(random, held, sub_type),
         4 | 5 => per_cell(random, held, sub_type),
-        _ => combined(random, held),
+        _ => selected(random, held, sub_type),
     }
 }
 
@@ -168,10 +164,10 @@ fn per_satellite(random: &mut Random, mask: &Mask, sub_type: u64) -> Drawn {
     drawn.begin_body();
     for (id, place) in mask.satellites() {
         let mut row = keyed(id, place);
-        if sub_type == 2 {
-            put_orbit(random, &mut drawn, id, &mut row);
-        } else {
-            row[3] = drawn.put_signed(random, 15);
+        match sub_type {
+            2 => put_orbit(random, &mut drawn, id, &mut row),
+            3 => row[3] = drawn.put_signed(random, 15),
+            _ => row[3] = drawn.put_any(random, 6),
         }
         drawn.rows.push(row);
     }
@@ -196,42 +192,95 @@ fn per_cell(random: &mut Random, mask: &Mask, sub_type: u64) -> Drawn {
     drawn
 }
 
-/// Sub type 11 with any flags, and with a network in more than half of all cases.
-fn combined(random: &mut Random, mask: &Mask) -> Drawn {
+/// Sub type 6 or 11 with any flags, and with a network in more than half of all
+/// cases.
+fn selected(random: &mut Random, mask: &Mask, sub_type: u64) -> Drawn {
     let network = if random.chance(60) { 1 + random.below(31) as u64 } else { 0 };
     let network = if random.chance(10) { 31 } else { network };
-    combined_for(random, mask, network)
+    let selection = selection(random, mask, sub_type);
+    selected_for(random, mask, sub_type, network, &selection)
 }
 
-/// Sub type 11 with network 0 in its network field, which is refused.
-pub fn network_zero(random: &mut Random, mask: &Mask) -> Drawn {
-    let mut drawn = combined_for(random, mask, 1);
+/// Sub type 6 or 11 with network 0 in its network field, which is refused.
+pub fn network_zero(random: &mut Random, mask: &Mask, sub_type: u64) -> Drawn {
+    let selection = selection(random, mask, sub_type);
+    let mut drawn = selected_for(random, mask, sub_type, 1, &selection);
     drawn.bits[44] = false;
     drawn
 }
 
-/// Sub type 11; network 0 stands for a network flag of 0.
-fn combined_for(random: &mut Random, mask: &Mask, network: u64) -> Drawn {
-    let mut drawn = Drawn::new(11);
+/// Sub type 6 whose selection names a satellite without a cell, or several, which
+/// is refused (document 02, Ask 1); a good one where the mask has no such satellite.
+pub fn without_cell(random: &mut Random, mask: &Mask) -> Drawn {
+    let bare = mask.bare_satellites();
+    let count = random.pick(&[1, 1, 2, bare.len()]);
+    let named = random.draw(&bare, count);
+    let mut selection = selection(random, mask, 6);
+    for (satellite, selected) in mask.satellites().iter().zip(&mut selection) {
+        *selected |= named.contains(satellite);
+    }
+    let network = 1 + random.below(31) as u64;
+    selected_for(random, mask, 6, network, &selection)
+}
+
+/// What a network selects: none, some or all of the satellites that it may, in sub
+/// type 6 of those with a cell.
+fn selection(random: &mut Random, mask: &Mask, sub_type: u64) -> Vec<bool> {
+    let percent = random.pick(&[0, 20, 50, 80, 100]);
+    let never = if sub_type == 6 { mask.bare_satellites() } else { Vec::new() };
+    let mut selected = |satellite| random.chance(percent) && !never.contains(satellite);
+    mask.satellites().iter().map(&mut selected).collect()
+}
+
+/// Sub type 6 or 11 with any flags; network 0 stands for a network flag of 0, and
+/// without a network the selection is not sent.
+fn selected_for(
+    random: &mut Random,
+    mask: &Mask,
+    sub_type: u64,
+    network: u64,
+    selection: &[bool],
+) -> Drawn {
+    let mut drawn = Drawn::new(sub_type);
     drawn.put_opening(random, 12, mask.iod);
     drawn.head[5] = drawn.put_any(random, 1);
     drawn.head[6] = drawn.put_any(random, 1);
-    let satellites = mask.satellites();
-    let mut selection = vec![true; satellites.len()];
     drawn.put(u64::from(network > 0), 1);
     if network > 0 {
         drawn.head[7] = drawn.put(network, 5);
-        let percent = random.pick(&[0, 20, 50, 80, 100]);
-        selection.fill_with(|| random.chance(percent));
-        drawn.put_flags(&selection);
+        drawn.put_flags(selection);
     }
     drawn.begin_body();
-    for (&(id, place), selected) in satellites.iter().zip(selection) {
-        if selected {
-            put_combined(random, &mut drawn, id, place);
+    let cells = mask.cells();
+    for ((id, place), &selected) in mask.satellites().into_iter().zip(selection) {
+        match (selected || network == 0, sub_type) {
+            (true, 6) => put_biases(random, &mut drawn, &cells, (id, place)),
+            (true, _) => put_combined(random, &mut drawn, id, place),
+            _ => {}
         }
     }
     drawn
+}
+
+/// A row for each cell of the satellite: code bias, phase bias and indicator.
+fn put_biases(
+    random: &mut Random,
+    drawn: &mut Drawn,
+    cells: &[(u8, usize, usize)],
+    satellite: (u8, usize),
+) {
+    for &(id, place, signal) in cells.iter().filter(|cell| (cell.0, cell.1) == satellite) {
+        let mut row = keyed(id, place);
+        row[2] = signal as i32;
+        if drawn.head[5] == 1 {
+            row[3] = drawn.put_signed(random, 11);
+        }
+        if drawn.head[6] == 1 {
+            row[4] = drawn.put_signed(random, 15);
+            row[5] = drawn.put_any(random, 2);
+        }
+        drawn.rows.push(row);
+    }
 }
 
 fn put_combined(random: &mut Random, drawn: &mut Drawn, id: u8, place: usize) {
@@ -269,10 +318,10 @@ pub fn other_number(random: &mut Random) -> Drawn {
     drawn
 }
 
-/// A message whose sub type isn't one of the seven.
+/// A message whose sub type isn't one of the nine.
 pub fn other_sub_type(random: &mut Random) -> Drawn {
     let mut drawn = service(random);
-    let sub_type = random.pick(&[0, 6, 7, 8, 9, 12, 13, 14, 15]);
+    let sub_type = random.pick(&[0, 8, 9, 12, 13, 14, 15]);
     replace(&mut drawn.bits, 12, sub_type, 4);
     drawn
 }

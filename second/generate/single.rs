@@ -7,7 +7,7 @@ use super::super::random::Random;
 use super::super::STRETCH_BITS;
 use super::messages::Drawn;
 use super::{bad_room, flip, lend, mislength, misstart, weighted};
-use super::{holdings, masks, messages, Case};
+use super::{holdings, masks, messages, shorts, Case};
 
 /// The mask held, if any, and the message read under it.
 type Scene = (Option<Mask>, Drawn);
@@ -16,9 +16,9 @@ type Scene = (Option<Mask>, Drawn);
 /// with a good mask. The answer is always the reader's own.
 type Family = (&'static str, usize, fn(&mut Random, Mask) -> Scene);
 
-const FAMILIES: [Family; 20] = [
+const FAMILIES: [Family; 22] = [
     ("good mask", 8, |random, _| fresh(random, masks::good)),
-    ("good correction", 20, correction),
+    ("good correction", 24, correction),
     ("good service", 4, service),
     (IDLE, 4, service),
     ("number", 3, |random, held| (Some(held), messages::other_number(random))),
@@ -29,21 +29,34 @@ const FAMILIES: [Family; 20] = [
     ("reserved place", 4, |random, _| fresh(random, masks::with_reserved_place)),
     ("limit met", 4, |random, _| fresh(random, |random| masks::at_limit(random, 0))),
     ("limit passed", 4, |random, _| fresh(random, |random| masks::at_limit(random, 1))),
-    ("network 0", 4, |random, held| with(held, |mask| messages::network_zero(random, mask))),
+    ("network 0", 4, |random, held| {
+        let sub_type = random.pick(&[6, 11]);
+        with(held, |mask| messages::network_zero(random, mask, sub_type))
+    }),
+    (WITHOUT_CELL, 4, |random, _| {
+        let held = masks::with_bare_satellite(random);
+        with(held, |mask| messages::without_cell(random, mask))
+    }),
     (DAMAGED_HOLDING, 8, correction),
     (ROOM, 2, correction),
     (PLACE, 3, correction),
-    (TRUNCATED, 10, any_message),
-    (FLIPPED, 10, any_message),
+    (TRUNCATED, 6, any_message),
+    (SHORT, 13, |random, _| {
+        let (held, drawn) = shorts::scene(random);
+        (Some(held), drawn)
+    }),
+    (FLIPPED, 9, any_message),
     ("wrong count of systems", 3, |random, _| wrong_count(random)),
     (LONG, 1, correction),
 ];
 
 const IDLE: &str = "idle";
+const WITHOUT_CELL: &str = "satellite without a cell";
 const DAMAGED_HOLDING: &str = "damaged holding";
 const ROOM: &str = "room";
 const PLACE: &str = "place";
 const TRUNCATED: &str = "truncated";
+const SHORT: &str = "short field";
 const FLIPPED: &str = "one bit flipped";
 const LONG: &str = "long stretch";
 
@@ -136,8 +149,11 @@ fn tail(random: &mut Random) -> Vec<bool> {
 /// the refusals shows.
 fn spoil(random: &mut Random, case: &mut Case, drawn: &Drawn) {
     let family = case.family;
-    if family == TRUNCATED || random.chance(2) {
-        truncate(random, case, drawn);
+    match family {
+        SHORT => keep(case, shorts::kept(random, drawn)),
+        WITHOUT_CELL if random.chance(50) => keep(case, shorts::kept_to_body(random, drawn)),
+        _ if family == TRUNCATED || random.chance(2) => truncate(random, case, drawn),
+        _ => {}
     }
     if family == FLIPPED || random.chance(2) {
         damage(random, case, drawn);
@@ -160,15 +176,21 @@ fn spoil(random: &mut Random, case: &mut Case, drawn: &Drawn) {
     }
 }
 
+/// Ends the stretch after so many bits of the message. What was after that becomes
+/// dirt.
+fn keep(case: &mut Case, kept: usize) {
+    case.bit_length = case.bit_length.min(case.start + kept);
+}
+
 /// Ends the stretch at the end of a field, one bit before it, or anywhere in
 /// the message. A body has many fields, so half of the ends are of those that are
-/// tested for 3 by themselves. What was after that becomes dirt.
+/// tested for 3 by themselves.
 fn truncate(random: &mut Random, case: &mut Case, drawn: &Drawn) {
     let end = random.pick(&drawn.ends());
     let bound = random.pick(&drawn.bounds);
     let any = random.below(drawn.bits.len());
     let kept = random.pick(&[end, end - 1, bound, bound - 1, any]);
-    case.bit_length = case.bit_length.min(case.start + kept);
+    keep(case, kept);
 }
 
 fn damage(random: &mut Random, case: &mut Case, drawn: &Drawn) {

@@ -17,7 +17,7 @@ pub struct Spoil {
 }
 
 const fn any(edit: fn(&mut Random, &mut Writing)) -> Spoil {
-    Spoil { sub_types: &[1, 2, 3, 4, 5, 10, 11, 11], edit }
+    Spoil { sub_types: &[1, 2, 3, 4, 5, 6, 6, 7, 10, 11, 11], edit }
 }
 
 const fn of_masks(edit: fn(&mut Random, &mut Writing)) -> Spoil {
@@ -25,17 +25,21 @@ const fn of_masks(edit: fn(&mut Random, &mut Writing)) -> Spoil {
 }
 
 const fn with_rows(edit: fn(&mut Random, &mut Writing)) -> Spoil {
-    Spoil { sub_types: &[2, 3, 4, 5, 10, 11, 11], edit }
+    Spoil { sub_types: &[2, 3, 4, 5, 6, 6, 7, 10, 11, 11], edit }
 }
 
-const fn combined(edit: fn(&mut Random, &mut Writing)) -> Spoil {
-    Spoil { sub_types: &[11], edit }
+const fn selected(edit: fn(&mut Random, &mut Writing)) -> Spoil {
+    Spoil { sub_types: &[6, 11], edit }
+}
+
+const fn of_cells(edit: fn(&mut Random, &mut Writing)) -> Spoil {
+    Spoil { sub_types: &[6], edit }
 }
 
 /// A kind with its name and how often it comes.
 pub type Kind = (&'static str, usize, Spoil);
 
-pub const SPOILS: [Kind; 31] = [
+pub const SPOILS: [Kind; 36] = [
     ("good", 60, any(|_, _| {})),
     ("stray holding", 10, any(stray)),
     ("empty holding", 8, any(|_, case| put_holding(case, &Holding::Empty))),
@@ -56,12 +60,24 @@ pub const SPOILS: [Kind; 31] = [
         let column = random.below(COLUMNS);
         other_head(random, case, column);
     })),
-    ("network 0", 8, combined(|_, case| set(&mut case.head, 7, 0))),
-    ("network 32 or -1", 4, combined(|random, case| {
+    ("network 0", 12, selected(|_, case| set(&mut case.head, 7, 0))),
+    ("network 32 or -1", 6, selected(|random, case| {
         let network = random.pick(&[32, -1]);
         set(&mut case.head, 7, network);
     })),
-    ("network and something earlier", 6, combined(network_and_earlier)),
+    ("network and something earlier", 10, selected(network_and_earlier)),
+    ("no network", 4, selected(|_, case| set(&mut case.head, 7, ABSENT))),
+    ("network without rows", 4, selected(|random, case| {
+        set(&mut case.head, 7, 1 + random.below(31) as i32);
+        case.rows = 0;
+    })),
+    ("flag turned", 4, selected(|random, case| {
+        let column = random.pick(&[5, 6]);
+        let flag = case.head.get(column).map_or(0, |&flag| i32::from(flag != 1));
+        set(&mut case.head, column, flag);
+    })),
+    ("cell missing", 4, of_cells(cell_missing)),
+    ("row without a cell", 4, of_cells(row_without_cell)),
     ("shorter head", 4, any(|random, case| {
         let length = random.below(COLUMNS);
         case.cut_head(length);
@@ -220,6 +236,34 @@ fn foreign(random: &mut Random, mut row: [i32; COLUMNS]) -> [i32; COLUMNS] {
         _ => random.below(16) as i32,
     };
     row
+}
+
+/// One counted row less. Where it is its satellite's only one, another selection is
+/// left.
+fn cell_missing(random: &mut Random, case: &mut Writing) {
+    let rows = case.counted() / COLUMNS;
+    if rows > 0 {
+        let at = COLUMNS * random.below(rows);
+        case.numbers.drain(at..at + COLUMNS);
+        case.rows = rows - 1;
+    }
+}
+
+/// A row of a satellite that has no cell, wherever it stands among the others.
+fn row_without_cell(random: &mut Random, case: &mut Writing) {
+    if let Holding::Held(mask) = decode(&case.holding) {
+        let bare = mask.bare_satellites();
+        if bare.is_empty() {
+            return;
+        }
+        let (id, place) = random.pick(&bare);
+        let any = random.below(16) as i32;
+        let signal = random.pick(&[0, any, ABSENT]);
+        let row = [i32::from(id), place as i32 + 1, signal, 0, 0, 0, ABSENT, ABSENT];
+        let at = COLUMNS * random.below(case.counted() / COLUMNS + 1);
+        case.numbers.splice(at..at, row);
+        case.rows = case.rows.wrapping_add(1);
+    }
 }
 
 fn swapped(random: &mut Random, case: &mut Writing) {

@@ -5,7 +5,7 @@
 use super::super::holding::{Holding, Mask};
 use super::super::random::Random;
 use super::super::STRETCH_BITS;
-use super::{bad_room, flip, holdings, lend, masks, messages, mislength, Case};
+use super::{bad_room, flip, holdings, lend, masks, messages, mislength, shorts, Case};
 
 /// Families of stretches, by their names in reports.
 const PLAIN: &str = "plain";
@@ -145,14 +145,17 @@ impl Run {
         bits.extend(drawn.bits);
     }
 
-    /// Nothing after the last message, zeros, other bits, or a cut inside it.
+    /// Nothing after the last message, zeros, other bits, a cut inside it, or one
+    /// more that ends inside a field.
     fn end(&mut self, mut bits: Vec<bool>) -> Vec<bool> {
-        let tail = self.random.below(60);
-        match self.random.below(6) {
+        let random = &mut self.random;
+        let tail = random.below(60);
+        match random.below(7) {
             0 | 1 => {}
             2 | 3 => bits.resize(bits.len() + tail, false),
-            4 => bits.extend(self.random.bits(tail)),
-            _ => bits.truncate(bits.len().saturating_sub(tail)),
+            4 => bits.extend(random.bits(tail)),
+            5 => bits.truncate(bits.len().saturating_sub(tail)),
+            _ => bits.extend(shorts::ending(random, &self.sender)),
         }
         bits.truncate(STRETCH_BITS);
         bits
@@ -179,10 +182,13 @@ fn damage(random: &mut Random, bits: &mut [bool]) {
 
 /// A message with one fault, after which the walk mustn't go on.
 fn refused_bits(random: &mut Random, mask: &Mask) -> Vec<bool> {
-    let drawn = match random.below(8) {
+    let drawn = match random.below(9) {
         0 => messages::other_number(random),
         1 => messages::other_sub_type(random),
-        2 => messages::network_zero(random, mask),
+        2 => {
+            let sub_type = random.pick(&[6, 11]);
+            messages::network_zero(random, mask, sub_type)
+        }
         3 => {
             let bad = masks::with_bad_system(random);
             messages::mask(random, &bad)
@@ -199,6 +205,7 @@ fn refused_bits(random: &mut Random, mask: &Mask) -> Vec<bool> {
             let other = Mask { iod: (mask.iod + 1) % 16, ..mask.clone() };
             messages::correction(random, &other)
         }
+        7 => messages::without_cell(random, mask),
         _ => messages::correction(random, mask),
     };
     let mut bits = drawn.bits;

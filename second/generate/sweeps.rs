@@ -20,7 +20,7 @@ pub fn cases() -> Vec<Case> {
         all.extend(cut(&mut random, &holding, &drawn));
         all.extend(flipped(&mut random, &holding, &drawn));
     }
-    let biases = of_sub_type(&mut random, &mask, 4);
+    let biases = messages::of_sub_type(&mut random, &mask, 4);
     let limit = Holding::Held(masks::at_limit(&mut random, 0));
     for holding in [Holding::Empty, held.clone(), limit] {
         all.extend(damaged_holdings(&plain("sweep: holding", &holding, &biases.bits)));
@@ -34,7 +34,8 @@ pub fn cases() -> Vec<Case> {
 }
 
 /// All five systems, not in the order of their IDs, with and without cell mask,
-/// one without satellites, one without signals, at first and last places.
+/// one without satellites, one without signals, at first and last places; one
+/// satellite with no bit of its cell mask set.
 pub fn five_systems() -> Mask {
     let field = |places: &[usize], width| places.iter().map(|&at| place(at, width)).sum::<i64>();
     let system = |id, satellites: &[usize], signals: &[usize], cells: Option<&[bool]>| System {
@@ -48,7 +49,7 @@ pub fn five_systems() -> Mask {
         system(0, &[0, 39], &[13], None),
         system(4, &[9], &[], Some(&[])),
         system(1, &[], &[12], None),
-        system(3, &[39], &[0, 8], Some(&[true, true])),
+        system(3, &[0, 39], &[0, 8], Some(&[false, false, true, true])),
     ];
     Mask { iod: 9, systems }
 }
@@ -57,10 +58,12 @@ pub fn five_systems() -> Mask {
 /// each with what is held.
 fn scenes(random: &mut Random, mask: &Mask) -> Vec<(Holding, Drawn)> {
     let mut drawn = vec![messages::mask(random, mask), messages::service(random)];
-    drawn.extend([2, 3, 4, 5, 11].map(|sub_type| of_sub_type(random, mask, sub_type)));
+    let sub_types = [2, 3, 4, 5, 6, 6, 7, 11];
+    drawn.extend(sub_types.map(|sub_type| messages::of_sub_type(random, mask, sub_type)));
     drawn.push(messages::other_number(random));
     drawn.push(messages::other_sub_type(random));
-    drawn.push(messages::network_zero(random, mask));
+    drawn.extend([6, 11].map(|sub_type| messages::network_zero(random, mask, sub_type)));
+    drawn.push(messages::without_cell(random, mask));
     let other_issue = Mask { iod: mask.iod + 1, ..mask.clone() };
     drawn.push(messages::correction(random, &other_issue));
     let faults = [masks::with_bad_system(random), masks::with_reserved_place(random)];
@@ -72,15 +75,6 @@ fn scenes(random: &mut Random, mask: &Mask) -> Vec<(Holding, Drawn)> {
     let mut scenes: Vec<_> = drawn.into_iter().map(|drawn| (held.clone(), drawn)).collect();
     scenes.push((Holding::Empty, messages::correction(random, mask)));
     scenes
-}
-
-fn of_sub_type(random: &mut Random, mask: &Mask, sub_type: i32) -> Drawn {
-    loop {
-        let drawn = messages::correction(random, mask);
-        if drawn.head[0] == sub_type {
-            return drawn;
-        }
-    }
 }
 
 /// The message after so many other bits.

@@ -1,4 +1,5 @@
-//! The 14 bench cases of document 01 with what it says of each.
+//! The 14 bench cases of document 01 with what it says of each, and those of sub
+//! types 6 and 7 with what document 02, Ask 1, says.
 
 use super::tools::*;
 use super::Group;
@@ -47,7 +48,7 @@ pub fn stretches(group: &mut Group) {
     }
 }
 
-/// Cases 5 to 14.
+/// Cases 5 to 14, and those of sub types 6 and 7.
 pub fn readings(group: &mut Group) {
     for case in bench::readings() {
         let found = reading(&case.holding, &case.bits);

@@ -13,6 +13,7 @@ use crate::codec::ROW_ROOM;
 type Range = (i32, i32, bool);
 
 const NEVER: Range = (NO, NO, true);
+const NETWORK: Range = (1, 31, true);
 
 fn exactly(value: i32) -> Range {
     (value, value, false)
@@ -71,6 +72,15 @@ fn plain(
     }
 }
 
+/// Sub type 6 with these flags and network 4.
+fn biases(name: &'static str, [a, b]: [i32; 2], values: [i32; 5], ranges: [Range; 5]) -> Sample {
+    Sample {
+        head: [6, 7, 1, 0, 3, a, b, 4],
+        head_ranges: head_ranges(12, [exactly(a), exactly(b), NETWORK]),
+        ..plain(name, 6, 3, values, ranges)
+    }
+}
+
 const N: Range = NEVER;
 
 fn samples() -> Vec<Sample> {
@@ -78,7 +88,7 @@ fn samples() -> Vec<Sample> {
     let [iode, radial, along, cross] = orbit;
     let never = Some(NEVER);
     let byte = unsigned(8);
-    let network = (1, 31, true);
+    let (code, phase) = (signed(11), signed(15));
     vec![
         Sample {
             name: "mask",
@@ -92,14 +102,19 @@ fn samples() -> Vec<Sample> {
         plain("clock", 3, NO, [1, NO, NO, NO, NO], [signed(15), N, N, N, N]),
         plain("code bias", 4, 3, [1, NO, NO, NO, NO], [signed(11), N, N, N, N]),
         plain("phase bias", 5, 3, [1, 2, NO, NO, NO], [signed(15), unsigned(2), N, N, N]),
+        plain("URA", 7, NO, [1, NO, NO, NO, NO], [unsigned(6), N, N, N, N]),
+        biases("both biases", [1, 1], [1, 2, 3, NO, NO], [code, phase, unsigned(2), N, N]),
+        biases("code of both", [1, 0], [1, NO, NO, NO, NO], [code, N, N, N, N]),
+        biases("phase of both", [0, 1], [NO, 2, 3, NO, NO], [N, phase, unsigned(2), N, N]),
+        biases("neither bias", [0, 0], [NO; 5], [N; 5]),
         Sample {
             head: [11, 7, 1, 0, 3, 1, 1, 4],
-            head_ranges: head_ranges(12, [exactly(1), exactly(1), network]),
+            head_ranges: head_ranges(12, [exactly(1), exactly(1), NETWORK]),
             ..plain("combined", 11, NO, [1, 2, 3, 4, 5], [iode, radial, along, cross, signed(15)])
         },
         Sample {
             head: [11, 7, 1, 0, 3, 0, 0, 4],
-            head_ranges: head_ranges(12, [exactly(0), exactly(0), network]),
+            head_ranges: head_ranges(12, [exactly(0), exactly(0), NETWORK]),
             ..plain("bare combined", 11, NO, [NO; 5], [N; 5])
         },
         Sample {
@@ -165,7 +180,7 @@ pub fn ranges(group: &mut Group) {
             for value in trials(range) {
                 let mut head = sample.head;
                 head[column] = value;
-                let network = sample.head[0] == 11 && column == 7 && value == 0;
+                let network = matches!(sample.head[0], 6 | 11) && column == 7 && value == 0;
                 let expected = if network { Err(11) } else { expected(range, value) };
                 let found = written(group, &sample, &head, &sample.row);
                 group.same(&format!("{} head {column} {value}", sample.name), found, expected);

@@ -1,11 +1,15 @@
 //! What the random readings must hold among them: every alignment, sub type,
 //! system and flag, the house limits, the extremes of fields, every kind of
-//! selection (document 01), and all lengths lent (docs/HOST.md).
+//! selection (document 01), and all lengths lent (docs/HOST.md); and how often sub
+//! types 6 and 7 are refused for each field (document 02, Ask 1).
 
 use std::cmp::Ordering;
 use std::collections::HashMap;
+use std::io::sink;
 
 use super::Group;
+use crate::codec::answer::{NETWORK, SHORT};
+use crate::codec::emit::{emit_read, emit_stretch, Refused};
 use crate::codec::generate::{filled, single, Case};
 use crate::codec::holding::{Holding, Mask};
 use crate::codec::host::{decode, read, Answer, HOLDING_BYTES, MESSAGE};
@@ -14,6 +18,12 @@ use crate::codec::{ABSENT, COLUMNS, ROW_ROOM};
 
 const CASES: usize = 30_000;
 const OFTEN: usize = 20;
+
+/// A fifth of the readings and stretches that a comparison is made with, 300,000 and
+/// 22,000 of seed 1, and of the 1,000 refusals for each field that these must have.
+const READ: usize = 60_000;
+const STRETCHES: usize = 4_400;
+const REFUSED: usize = 200;
 
 /// How often each thing was seen.
 #[derive(Default)]
@@ -52,7 +62,11 @@ pub fn readings(group: &mut Group) {
 
 fn wanted() -> Vec<String> {
     let mut all: Vec<String> = (0..8).map(|bit| format!("alignment {bit}")).collect();
-    all.extend([1, 2, 3, 4, 5, 10, 11].map(|sub_type| format!("sub type {sub_type}")));
+    all.extend([1, 2, 3, 4, 5, 6, 7, 10, 11].map(|sub_type| format!("sub type {sub_type}")));
+    for sub_type in [6, 11] {
+        all.extend(["00", "01", "10", "11"].map(|flags| format!("{sub_type}: flags {flags}")));
+        all.extend(["none", "some", "all"].map(|some| format!("{sub_type}: {some} selected")));
+    }
     for id in 0..5 {
         all.extend([0, 1].map(|flag| format!("system {id} flag {flag}")));
         all.extend(["satellites", "signals"].map(|what| format!("system {id} without {what}")));
@@ -70,9 +84,10 @@ fn wanted() -> Vec<String> {
         "count -16384",
         "count -4096",
         "count -1024",
-        "none selected",
-        "some selected",
-        "all selected",
+        "URA 0",
+        "URA 63",
+        "6: a satellite without a cell, network",
+        "6: a satellite without a cell, no network",
     ];
     all.extend(more.map(str::to_string));
     all
@@ -100,7 +115,11 @@ fn note_message(seen: &mut Seen, answer: &Answer, holding: &Holding, rows: &[i32
     if let Holding::Held(mask) = holding {
         match sub_type {
             1 => note_mask(seen, mask),
-            11 if answer.head[7] != ABSENT => note_selection(seen, answer.rows, mask),
+            6 | 11 => note_selection(seen, answer, mask),
+            7 => {
+                let uras = rows[..answer.rows * COLUMNS].iter().skip(3).step_by(COLUMNS);
+                uras.for_each(|ura| seen.note(format!("URA {ura}")));
+            }
             _ => {}
         }
     }
@@ -118,9 +137,39 @@ fn note_mask(seen: &mut Seen, mask: &Mask) {
     }
 }
 
-fn note_selection(seen: &mut Seen, rows: usize, mask: &Mask) {
-    let satellites = mask.satellites().len();
-    seen.note_if(rows == 0 && satellites > 0, "none selected");
-    seen.note_if(0 < rows && rows < satellites, "some selected");
-    seen.note_if(rows == satellites && satellites > 0, "all selected");
+/// Sub types 6 and 11: the flags, and how many of all rows a network selects.
+fn note_selection(seen: &mut Seen, answer: &Answer, mask: &Mask) {
+    let [sub_type, _, _, _, _, a, b, network] = answer.head;
+    seen.note(format!("{sub_type}: flags {a}{b}"));
+    let name = if network == ABSENT { "no network" } else { "network" };
+    let bare = sub_type == 6 && answer.rows > 0 && !mask.bare_satellites().is_empty();
+    seen.note_if(bare, &format!("6: a satellite without a cell, {name}"));
+    let all = if sub_type == 6 { mask.cells().len() } else { mask.satellites().len() };
+    let some = match answer.rows {
+        _ if all == 0 || network == ABSENT => return,
+        0 => "none",
+        rows if rows == all => "all",
+        _ => "some",
+    };
+    seen.note(format!("{sub_type}: {some} selected"));
+}
+
+/// Sub types 6 and 7 are refused for each field often: with 3, with 11 for network
+/// 0, and with 11 for a satellite without a cell, also right at the stretch's end.
+pub fn refused(group: &mut Group) {
+    let read = emit_read(&mut sink(), 1, READ).unwrap_or_default().fields;
+    let stretches = emit_stretch(&mut sink(), 1, STRETCHES).unwrap_or_default().fields;
+    let opening = ["epoch", "interval", "indicator", "IOD SSR", "body"];
+    let flags = ["code flag", "phase flag", "network flag", "network ID", "selection"];
+    let of = |sub_type: usize, number: u8, names: &[&str]| -> Vec<(u8, String)> {
+        names.iter().map(|name| (number, format!("{sub_type}: {name}"))).collect()
+    };
+    let short = [of(6, SHORT, &opening), of(6, SHORT, &flags), of(7, SHORT, &opening)];
+    let network = of(6, NETWORK, &["network ID", "selection", "selection at the end"]);
+    for field in short.into_iter().flatten().chain(network) {
+        let times = |fields: &Refused| fields.get(&field).copied().unwrap_or(0);
+        let often = times(&read) + times(&stretches);
+        let (number, name) = &field;
+        group.check(&format!("{number} at {name}, {often} times"), often >= REFUSED);
+    }
 }

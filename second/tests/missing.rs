@@ -47,12 +47,12 @@ pub fn by_hand(group: &mut Group) {
     check_ends(group, "mask", &Holding::Empty, &mask, &ends);
     let holding = adopted(&mask);
     let head = [12, 16, 28, 32, 33, 37];
-    for (sub_type, body) in [(2, 49 + 49 + 51), (3, 3 * 15), (4, 4 * 11), (5, 4 * 17)] {
+    for (sub_type, body) in [(2, 49 + 49 + 51), (3, 3 * 15), (4, 4 * 11), (5, 4 * 17), (7, 3 * 6)] {
         let bits = [head_bits(sub_type, 3), vec![true; body]].concat();
         let ends = [&head[..], &[37 + body]].concat();
         check_ends(group, &format!("sub type {sub_type}"), &holding, &bits, &ends);
     }
-    combined(group, &holding, &head);
+    selected(group, &holding, &head);
     for (size, whole) in [(0, 62), (1, 102), (2, 142), (3, 182)] {
         let head = fields(&[(4073, 12), (10, 4), (0, 1), (0, 3), (size, 2)]);
         let bits = [head, vec![false; whole - 22]].concat();
@@ -62,19 +62,22 @@ pub fn by_hand(group: &mut Group) {
     by_number(group);
 }
 
-/// Sub type 11: with each flag, and with GPS satellite 3 and Galileo's selected.
-fn combined(group: &mut Group, holding: &Holding, head: &[usize]) {
-    for (orbit, clock, all, two) in
-        [(0, 0, 0, 0), (0, 1, 45, 30), (1, 0, 149, 100), (1, 1, 194, 130)]
-    {
-        let flags = [head_bits(11, 3), fields(&[(orbit, 1), (clock, 1)])].concat();
-        let bits = [&flags[..], &fields(&[(0, 1)]), &vec![true; all]].concat();
-        let ends = [head, &[38, 39, 40, 40 + all]].concat();
-        check_ends(group, "11 without a network", holding, &bits, &ends);
-        let network = fields(&[(1, 1), (31, 5), (0b011, 3)]);
-        let bits = [&flags[..], &network, &vec![true; two]].concat();
-        let ends = [head, &[38, 39, 40, 45, 48, 48 + two]].concat();
-        check_ends(group, "11 with a network", holding, &bits, &ends);
+/// Sub types 6 and 11: with each flag, and with GPS satellite 3 and Galileo's
+/// selected, which have three of the four cells.
+fn selected(group: &mut Group, holding: &Holding, head: &[usize]) {
+    let biases = [(0, 0, 0, 0), (0, 1, 68, 51), (1, 0, 44, 33), (1, 1, 112, 84)];
+    let corrections = [(0, 0, 0, 0), (0, 1, 45, 30), (1, 0, 149, 100), (1, 1, 194, 130)];
+    for (sub_type, bodies) in [(6, biases), (11, corrections)] {
+        for (a, b, all, two) in bodies {
+            let flags = [head_bits(sub_type, 3), fields(&[(a, 1), (b, 1)])].concat();
+            let bits = [&flags[..], &fields(&[(0, 1)]), &vec![true; all]].concat();
+            let ends = [head, &[38, 39, 40, 40 + all]].concat();
+            check_ends(group, &format!("{sub_type} without a network"), holding, &bits, &ends);
+            let network = fields(&[(1, 1), (31, 5), (0b011, 3)]);
+            let bits = [&flags[..], &network, &vec![true; two]].concat();
+            let ends = [head, &[38, 39, 40, 45, 48, 48 + two]].concat();
+            check_ends(group, &format!("{sub_type} with a network"), holding, &bits, &ends);
+        }
     }
 }
 
@@ -94,9 +97,10 @@ fn nothing_missing(group: &mut Group, holding: &Holding) {
     group.same("4 before the sub type", found(holding, &other_number), Some(Stop::plain(4, 0)));
     let reserved = [mask_opening(1), fields(&[(4, 4), (1, 40)])].concat();
     group.same("9 before the signals", found(holding, &reserved), Some(Stop::plain(9, 0)));
-    let far = Stop { number: SHORT, place: 0, missing: 256 * 17 };
+    let far = Stop { number: SHORT, place: 0, missing: 256 * 28 };
     let many = held(&[(0, first(32, 40), first(8, 16))]);
-    group.same("the longest body", found(&many, &head_bits(5, 3)), Some(far));
+    let biases = [head_bits(6, 3), fields(&[(1, 1), (1, 1), (0, 1)])].concat();
+    group.same("the longest body", found(&many, &biases), Some(far));
     let wide = [mask_opening(1), fields(&[(0, 4), (first(40, 40), 40), (first(14, 16), 16)])];
     let wide = [&wide.concat()[..], &[true]].concat();
     let far = Stop { number: SHORT, place: 0, missing: 40 * 14 };
@@ -144,7 +148,7 @@ fn by_number(group: &mut Group) {
 /// Messages drawn with the ends of their fields, cut at every length.
 pub fn drawn(group: &mut Group) {
     let mut random = Random::new(19);
-    for sub_type in [1, 2, 3, 4, 5, 10, 11] {
+    for sub_type in [1, 2, 3, 4, 5, 6, 7, 10, 11] {
         for _ in 0..DRAWN {
             let mask = masks::good(&mut random);
             let drawn = of_sub_type(&mut random, &mask, sub_type);

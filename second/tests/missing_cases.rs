@@ -4,7 +4,6 @@
 
 use std::collections::BTreeMap;
 
-use super::pencil::{names, short, Short};
 use super::Group;
 use crate::codec::answer::{Reason, Stop, SHORT};
 use crate::codec::bits::{bit, pack};
@@ -12,6 +11,7 @@ use crate::codec::emit::{fixed_readings, fixed_stretches};
 use crate::codec::generate::{filled, single, stretches, Case};
 use crate::codec::holding::Holding;
 use crate::codec::host::{self, decode};
+use crate::codec::pencil::{names, short, Short};
 use crate::codec::random::Random;
 use crate::codec::walk::walk;
 use crate::codec::STRETCH_BITS;

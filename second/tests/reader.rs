@@ -57,10 +57,10 @@ fn opening_fields(group: &mut Group) {
     }
     for sub_type in 0..16 {
         let bits = fields(&[(4_073, 12), (sub_type, 4)]);
-        let expected = if matches!(sub_type, 1..=5 | 10 | 11) { 3 } else { 5 };
+        let expected = if matches!(sub_type, 1..=7 | 10 | 11) { 3 } else { 5 };
         group.same("3 or 5: sub type", stop(&held, &bits), Some(expected));
     }
-    for sub_type in [2, 3, 4, 5, 11] {
+    for sub_type in [2, 3, 4, 5, 6, 7, 11] {
         let bits = head_bits(sub_type, 3);
         group.same("6: no mask", stop(&Holding::Empty, &bits), Some(6));
         group.same("3: before the IOD's end", stop(&Holding::Empty, &bits[..36]), Some(3));
@@ -68,16 +68,18 @@ fn opening_fields(group: &mut Group) {
             group.same("7: other issue", stop(&held, &head_bits(sub_type, iod)), Some(7));
         }
     }
-    let mut bits = head_bits(11, 3);
-    bits.extend(fields(&[(0, 1), (0, 1), (1, 1), (0, 5)]));
-    group.same("11: network 0", stop(&held, &bits), Some(11));
-    group.same("3: network", stop(&held, &bits[..44]), Some(3));
-    bits[44] = true;
-    group.same("3: selection", stop(&held, &bits), Some(3));
-    bits.push(false);
-    group.same("3: selection's end", stop(&held, &bits), Some(3));
-    bits.push(false);
-    group.same("selection whole", length(&held, &bits), Some(47));
+    for sub_type in [6, 11] {
+        let mut bits = head_bits(sub_type, 3);
+        bits.extend(fields(&[(0, 1), (0, 1), (1, 1), (0, 5)]));
+        group.same("11: network 0", stop(&held, &bits), Some(11));
+        group.same("3: network", stop(&held, &bits[..44]), Some(3));
+        bits[44] = true;
+        group.same("3: selection", stop(&held, &bits), Some(3));
+        bits.push(false);
+        group.same("3: selection's end", stop(&held, &bits), Some(3));
+        bits.push(false);
+        group.same("selection whole", length(&held, &bits), Some(47));
+    }
 }
 
 /// 8, 9 and 10, and 3 between them.
@@ -166,7 +168,10 @@ fn every_truncation(group: &mut Group) {
         let expected = if end == 0 { 0 } else { 3 };
         group.same("mask cut", stop(&Holding::Empty, &bits[..end]), Some(expected));
     }
-    for (sub_type, body) in [(2, 149), (3, 45), (4, 33), (5, 51), (11, 3 + 5 + 3 + 149 + 45)] {
+    let network = 3 + 5 + 3;
+    let (biases, combined) = (network + 3 * 28, network + 149 + 45);
+    let bodies = [(2, 149), (3, 45), (4, 33), (5, 51), (6, biases), (7, 18), (11, combined)];
+    for (sub_type, body) in bodies {
         let mut bits = head_bits(sub_type, 3);
         let end = bits.len() + body;
         bits.resize(end, true);

@@ -28,7 +28,7 @@ pub fn answers(group: &mut Group) {
 }
 
 fn often(group: &mut Group, kind: &str, answers: io::Result<Answers>, least: usize) {
-    let Answers { stops, accepted, pairs } = answers.unwrap_or_default();
+    let Answers { stops, accepted, pairs, .. } = answers.unwrap_or_default();
     for (number, &count) in stops.iter().enumerate() {
         group.check(&format!("{kind}: answer {number}, {count} times"), count >= least);
     }

@@ -47,7 +47,7 @@ pub fn generated(group: &mut Group) {
         let walk = walk(&holding, &case.bytes, case.bit_length, &mut rows, |place, message, _| {
             shown += message.next - place;
             match (place, message.head[0]) {
-                (0, 2..=5 | 11) => kept += 1,
+                (0, 2..=7 | 11) => kept += 1,
                 (1.., 1) => changed += 1,
                 _ => {}
             }

@@ -78,10 +78,10 @@ fn places(group: &mut Group) {
 /// 5, 6, 7, 11 and 12 of head and holding.
 fn issues(group: &mut Group) {
     group.same("12: holding", written(&NONSENSE, &HEAD), Err(12));
-    for sub_type in [0, 6, 7, 8, 9, 12, 13, 14, 15, 16, 19, -1, NO, i32::MIN, i32::MAX] {
+    for sub_type in [0, 8, 9, 12, 13, 14, 15, 16, 22, 23, -1, NO, i32::MIN, i32::MAX] {
         group.same("5: sub type", written(&mask(), &head(0, sub_type)), Err(5));
     }
-    for sub_type in [1, 2, 3, 4, 5, 11] {
+    for sub_type in [1, 2, 3, 4, 5, 6, 7, 11] {
         group.same("6: no mask", written(&Holding::Empty, &head(0, sub_type)), Err(6));
         for iod in [0, 2, 4, 15, 16, 19, -1, NO] {
             let mut head = head(0, sub_type);
@@ -89,8 +89,10 @@ fn issues(group: &mut Group) {
             group.same("7: other issue", written(&mask(), &head), Err(7));
         }
     }
-    let network = [11, 100, 2, 0, 3, 0, 0, 0];
-    group.same("11: network 0", written(&mask(), &network), Err(11));
+    for sub_type in [6, 11] {
+        let network = [sub_type, 100, 2, 0, 3, 0, 0, 0];
+        group.same("11: network 0", written(&mask(), &network), Err(11));
+    }
     group.same("c = 0 elsewhere is 12", written(&mask(), &head(7, 0)), Err(12));
     let service = [10, NO, NO, 0, NO, 0, 0, NO];
     let row = [NO, NO, 1, 1, 2, 3, 4, 5];
@@ -168,11 +170,13 @@ pub fn order(group: &mut Group) {
     group.same("2 before 12", at(&NONSENSE, &all_wrong, 1), Err(2));
     group.same("12 before 5", at(&NONSENSE, &all_wrong, 0), Err(12));
     group.same("5 before 6", at(&Holding::Empty, &all_wrong, 0), Err(5));
-    let combined = [11, -1, -1, -1, 99, -1, -1, 0];
-    group.same("6 before 7", at(&Holding::Empty, &combined, 0), Err(6));
-    group.same("7 before 11", at(&mask(), &combined, 0), Err(7));
-    let issued = [11, -1, -1, -1, 3, -1, -1, 0];
-    group.same("11 before 12", at(&mask(), &issued, 0), Err(11));
+    for sub_type in [6, 11] {
+        let combined = [sub_type, -1, -1, -1, 99, -1, -1, 0];
+        group.same("6 before 7", at(&Holding::Empty, &combined, 0), Err(6));
+        group.same("7 before 11", at(&mask(), &combined, 0), Err(7));
+        let issued = [sub_type, -1, -1, -1, 3, -1, -1, 0];
+        group.same("11 before 12", at(&mask(), &issued, 0), Err(11));
+    }
     group.same("12 before 1", at(&mask(), &head(1, -1), 0), Err(12));
     let mut bytes = [0; 8];
     let last = write(&mask(), &HEAD, &ROWS, 2, &mut bytes, 64);

@@ -121,7 +121,7 @@ pub fn random(group: &mut Group) {
 }
 
 /// What each kind of change can be answered with.
-const CHANGES: [(&str, &[u8]); 30] = [
+const CHANGES: [(&str, &[u8]); 40] = [
     ("unchanged", &[DONE]),
     ("sub type", &[DONE, 12, 5, 7]),
     ("IOD SSR", &[7]),
@@ -152,6 +152,16 @@ const CHANGES: [(&str, &[u8]); 30] = [
     ("selected row dropped", &[DONE]),
     ("selected row not counted", &[DONE]),
     ("selected too", &[DONE]),
+    ("cell key", &[12]),
+    ("cell rows swapped", &[12]),
+    ("cell row doubled", &[12]),
+    ("cell row dropped", &[DONE, 12]),
+    ("cell row added", &[12]),
+    ("cell row not counted", &[DONE, 12]),
+    ("cells too", &[DONE]),
+    ("cells at the end", &[DONE, 12]),
+    ("cells in part", &[12]),
+    ("row without a cell", &[12]),
 ];
 
 /// These come too, with either answer: whether a row that was added fits is the

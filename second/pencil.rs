@@ -1,11 +1,12 @@
 //! Which field, or which body, runs past the end, and by how many bits: found as
 //! with a pencil, by laying the fields of a message end to end after document 01,
-//! "Message layouts" and its lengths. The field is the first whose end lies past
-//! the bits there are, and what it lies past them by is missing.
+//! "Message layouts" and its lengths, those of sub types 6 and 7 after document 02,
+//! Ask 1. The field is the first whose end lies past the bits there are, and what it
+//! lies past them by is missing. The reader has no part in it, nor has the layout.
 
-use crate::codec::bits::{bit, number};
-use crate::codec::generate::Case;
-use crate::codec::holding::{Holding, Mask};
+use super::bits::{bit, number};
+use super::generate::Case;
+use super::holding::{Holding, Mask};
 
 /// The name of a field, after its sub type, and how many of its bits are missing.
 pub type Short = (String, usize);
@@ -18,17 +19,20 @@ pub fn names() -> Vec<(String, usize)> {
     let masks = [("satellite mask", 40), ("signal mask", 16), ("cell flag", 1), ("cell mask", 4)];
     let systems = [&[("number of systems", 4), ("GNSS ID", 4)][..], &masks].concat();
     let service = vec![("indicator", 1), ("counter", 3), ("size", 2), ("body", 40)];
-    let flags = [("orbit flag", 1), ("clock flag", 1), ("network flag", 1)];
-    let network = [("network ID", 5), ("selection", 6), ("body", 64)];
+    let biases = [("code flag", 1), ("phase flag", 1)];
+    let corrections = [("orbit flag", 1), ("clock flag", 1)];
+    let network = [("network flag", 1), ("network ID", 5), ("selection", 7)];
     let all = [
         ("", vec![("number", 11), ("sub type", 4)]),
         ("1: ", [epoch(20), systems].concat()),
-        ("2: ", [epoch(12), vec![("body", 298)]].concat()),
-        ("3: ", [epoch(12), vec![("body", 90)]].concat()),
+        ("2: ", [epoch(12), vec![("body", 347)]].concat()),
+        ("3: ", [epoch(12), vec![("body", 105)]].concat()),
         ("4: ", [epoch(12), vec![("body", 66)]].concat()),
         ("5: ", [epoch(12), vec![("body", 102)]].concat()),
+        ("6: ", [&epoch(12)[..], &biases, &network, &[("body", 28)]].concat()),
+        ("7: ", [epoch(12), vec![("body", 42)]].concat()),
         ("10: ", service),
-        ("11: ", [&epoch(12)[..], &flags, &network].concat()),
+        ("11: ", [&epoch(12)[..], &corrections, &network, &[("body", 64)]].concat()),
     ];
     let of = |(sub_type, fields): (&str, Vec<(&str, usize)>)| -> Vec<(String, usize)> {
         fields.iter().map(|&(name, width)| (format!("{sub_type}{name}"), width)).collect()
@@ -43,6 +47,30 @@ pub fn short(case: &Case, place: usize, holding: &Holding) -> Option<Short> {
     let mut pencil = Pencil { bits: &bits, end: 0, sub_type: String::new() };
     pencil.message(holding).err()
 }
+
+/// The field that a message is refused for with 11, after its sub type: its network
+/// ID of 0, or the selection, apart where the stretch ends right after that.
+pub fn refused_network(case: &Case, place: usize, holding: &Holding) -> String {
+    let field = |at: usize, width: usize| -> u64 {
+        let bits: Vec<bool> = (at..at + width).map(|at| bit(&case.bytes, place + at)).collect();
+        number(&bits)
+    };
+    let satellites = match holding {
+        Holding::Held(mask) => mask.satellites().len(),
+        _ => 0,
+    };
+    let name = if field(40, 5) == 0 {
+        "network ID"
+    } else if case.bit_length > place + 45 + satellites {
+        "selection"
+    } else {
+        "selection at the end"
+    };
+    format!("{}: {name}", field(12, 4))
+}
+
+/// System ID and satellite place.
+type Satellite = (u8, usize);
 
 struct Pencil<'a> {
     bits: &'a [bool],
@@ -110,35 +138,49 @@ impl<'a> Pencil<'a> {
 
     fn correction(&mut self, sub_type: u64, mask: &Mask) -> Result<(), Short> {
         self.opening(12)?;
-        let satellites: Vec<u8> = mask.satellites().iter().map(|satellite| satellite.0).collect();
+        let all = mask.satellites();
         let body = match sub_type {
-            2 => body(&satellites, 1, 0),
-            3 => body(&satellites, 0, 1),
-            4 => 11 * mask.cells().len(),
-            5 => 17 * mask.cells().len(),
-            _ => self.combined(&satellites)?,
+            2 => orbits(&all),
+            3 => 15 * all.len(),
+            4 => 11 * cells(mask, &all),
+            5 => 17 * cells(mask, &all),
+            6 => {
+                let (code, phase) = self.flags("code flag", "phase flag")?;
+                (11 * code + 17 * phase) * cells(mask, &self.selected(all)?)
+            }
+            7 => 6 * all.len(),
+            _ => {
+                let (orbit, clock) = self.flags("orbit flag", "clock flag")?;
+                let selected = self.selected(all)?;
+                orbit * orbits(&selected) + clock * 15 * selected.len()
+            }
         };
         self.lay("body", body)?;
         Ok(())
     }
 
-    /// Sub type 11 up to its body, the length of which it gives.
-    fn combined(&mut self, satellites: &[u8]) -> Result<usize, Short> {
-        let orbit = set(self.lay("orbit flag", 1)?);
-        let clock = set(self.lay("clock flag", 1)?);
+    fn flags(&mut self, one: &str, other: &str) -> Result<(usize, usize), Short> {
+        Ok((set(self.lay(one, 1)?), set(self.lay(other, 1)?)))
+    }
+
+    /// The satellites that the network flag and the selection leave of all.
+    fn selected(&mut self, all: Vec<Satellite>) -> Result<Vec<Satellite>, Short> {
         if self.lay("network flag", 1)? == [false] {
-            return Ok(body(satellites, orbit, clock));
+            return Ok(all);
         }
         self.lay("network ID", 5)?;
-        let selection = self.lay("selection", satellites.len())?;
-        let pairs = satellites.iter().zip(selection);
-        let selected: Vec<u8> = pairs.filter(|pair| *pair.1).map(|pair| *pair.0).collect();
-        Ok(body(&selected, orbit, clock))
+        let selection = self.lay("selection", all.len())?;
+        let pairs = all.into_iter().zip(selection);
+        Ok(pairs.filter(|pair| *pair.1).map(|pair| pair.0).collect())
     }
 }
 
-/// "49 per satellite (51 for Galileo)" for the orbit, 15 for the clock.
-fn body(satellites: &[u8], orbit: usize, clock: usize) -> usize {
-    let galileo = satellites.iter().filter(|&&id| id == 2).count();
-    orbit * (49 * satellites.len() + 2 * galileo) + clock * 15 * satellites.len()
+/// "49 per satellite (51 for Galileo)".
+fn orbits(satellites: &[Satellite]) -> usize {
+    satellites.iter().map(|satellite| if satellite.0 == 2 { 51 } else { 49 }).sum()
+}
+
+fn cells(mask: &Mask, satellites: &[Satellite]) -> usize {
+    let all = mask.cells().into_iter();
+    all.filter(|&(id, place, _)| satellites.contains(&(id, place))).count()
 }
