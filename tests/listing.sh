@@ -1,7 +1,7 @@
 #!/bin/sh
 # The listing program against the second program, byte for byte, with the saved mask after each input: document 01's
-# worked listing and its bench cases 2, 8, 9, 10 and 14; 24,000 lines, good ones and each kind of bad one, counted; and
-# inputs that come in pieces of 1 byte, 7 bytes and 4,096 bytes.
+# worked listing and its bench cases 2, 8, 9, 10 and 14; what document 02 (Ask 1) adds, put down by hand; 24,000 lines,
+# good ones and each kind of bad one, counted; and inputs that come in pieces of 1 byte, 7 bytes and 4,096 bytes.
 set -eu
 cd "$(dirname "$0")/.."
 . tests/lib/tools.sh
@@ -105,6 +105,33 @@ expected 'no lines' <<'END'
 = S -
 END
 
+# ---- document 02, Ask 1: under the worked mask accuracies, and biases of satellite 3 for network 31; then satellite 3
+# without a cell, selected and refused right after the selection, and not selected
+
+expected 'sub types 7 and 6' <<'END'
+< 266 FE91000645188500000000040806FFA5C19087F8FFD2C0C843FF6003FFFC02C0000
+> M 0 114 1 100 5 0 3 1 - - 0
+> M 114 49 7 100 2 0 3 - - - 2
+> R 0 1 - 63 - - - -
+> R 0 3 - 7 - - - -
+> M 163 103 6 100 2 0 3 1 1 31 2
+> R 0 3 0 -1024 16383 3 - -
+> R 0 3 7 5 -16384 0 - -
+> E 0 266 3 4 -
+= S 3 0 A000000000 8100 1 B
+END
+expected 'a satellite without a cell' <<'END'
+< 161 FE910006451885000000000408073FA5819087438
+< 62 FE9606421C00BFFC
+> M 0 114 1 100 5 0 3 1 - - 0
+> E 11 114 1 0 -
+> M 0 62 6 100 2 0 3 1 0 - 2
+> R 0 1 0 5 - - - -
+> R 0 1 7 -1 - - - -
+> E 0 62 1 2 -
+= S 3 0 A000000000 8100 1 C
+END
+
 # ---- small inputs, and lines around lengths that a buffer may have, fed as they are
 
 feed() { cat; }
@@ -205,7 +232,7 @@ must 'line' 12000:plain 800:'mask missed' 500:cut 500:'damaged bits' 50:'late jo
 often 2 E | must 'stop' 5000:0 1000:3 1000:4 200:5 50:6 1000:7 200:8 200:9 200:10 200:11
 missing | must 'missing' 10000:- 100:1 200:'2 to 4' 500:'5 to 40' 200:'41 to 255' 100:'over 255'
 if grep -q stray "$work/came"; then judge 'a number of missing bits beside another stop than 3' no; else judge missing yes; fi
-often 4 M | must 'sub type' 10000:1 4000:2 4000:3 4000:4 4000:5 5000:10 10000:11
+often 4 M | must 'sub type' 10000:1 4000:2 4000:3 4000:4 4000:5 10000:6 4000:7 5000:10 10000:11
 awk -F '\t' '{ print 1 "\t" $1 }' "$printed" | must 'printed' 5000:B 15000:E 60000:M 500000:R
 
 echo "$passed passed, $failed failed"

@@ -3,6 +3,7 @@
 
 #include "missing.h"
 #include "readings.h"
+#include "refused.h"
 
 /* What is counted: each stop, messages, and each sub type of these. */
 enum { MESSAGES = STOPS, SUBTYPE };
@@ -24,6 +25,7 @@ static void count_answer(kind *k, const hundurzek_reading *want) {
   k->counts[message ? MESSAGES : want->answer]++;
   if (message) k->counts[SUBTYPE + want->head.subtype]++;
   count_missing(&missing[k - kinds], want->answer, want->missing);
+  count_refused(want->answer, want->place);
 }
 
 /* Readings one after another, each at the place where the one before must end. */
@@ -64,14 +66,15 @@ static void judge(const char *what, unsigned long which, size_t count, unsigned 
 }
 
 /* Every stop and every sub type often, messages over a third of the single readings; beside 3 few bits missing, and
-   many. */
+   many; in all streams together sub types 6 and 7 refused often for each field. */
 static void judge_all(void) {
-  static const unsigned subtypes[] = {1, 2, 3, 4, 5, 10, 11};
+  static const unsigned subtypes[] = {1, 2, 3, 4, 5, 6, 7, 10, 11};
   for (unsigned i = 0; i < STOPS; i++) judge("answer", i, i, 1000);
   judge("answer", HUNDURZEK_MESSAGE, MESSAGES, kinds[READ].calls / 3 + 1);
   for (size_t i = 0; i < sizeof subtypes / sizeof *subtypes; i++)
     judge("sub type", subtypes[i], SUBTYPE + subtypes[i], 1000);
   judge_missing(missing, KINDS, READ, 1000, 1000);
+  judge_refused(1000);
 }
 
 int main(void) {

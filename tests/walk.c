@@ -3,6 +3,7 @@
 #include <string.h>
 
 #include "missing.h"
+#include "refused.h"
 #include "streams.h"
 
 /* What is counted: each stop, each stop after a message, walks of many messages, and walks that were lent what the
@@ -38,6 +39,7 @@ static void count_walk(kind *k, const hundurzek_walked *want, bool kept) {
   if (want->messages > MANY) k->counts[LONG]++;
   if (kept) k->counts[KEPT]++;
   count_missing(&missing[k - kinds], want->answer, want->missing);
+  count_refused(want->answer, want->place);
 }
 
 static void compare_walk(kind *k) {
@@ -65,14 +67,15 @@ static void judge(const char *what, unsigned long which, size_t count, unsigned 
   need(kinds[WALK].counts[count] >= least, what, which);
 }
 
-/* Every stop often; also after a message, but for those that come before any; beside 3 few bits missing, and many;
-   the holding kept in most walks. */
+/* Every stop often; also after a message, but for those that come before any; beside 3 few bits missing, and many; sub
+   types 6 and 7 refused for each field; the holding kept in most walks. */
 static void judge_all(void) {
   unsigned long kept = kinds[WALK].counts[KEPT];
   for (unsigned i = 0; i < STOPS; i++) judge("stop", i, i, 100);
   for (unsigned i = 0; i < STOPS; i++) judge("after a message", i, AFTER + i, i == 1 || i == 2 || i == 12 ? 0 : 100);
   judge("messages over", MANY, LONG, 100);
   judge_missing(missing, KINDS, WALK, 300, 500);
+  judge_refused(100);
   printf("%lu random walks were lent what the walk before left\n", kept);
   need(kept >= kinds[WALK].records / 2, "kept", kept);
 }

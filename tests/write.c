@@ -7,8 +7,8 @@
 #include "readings.h"
 #include "writes.h"
 
-static const unsigned subtypes[] = {1, 2, 3, 4, 5, 10, 11};
-enum { SEVEN = sizeof subtypes / sizeof *subtypes };
+static const unsigned subtypes[] = {1, 2, 3, 4, 5, 6, 7, 10, 11};
+enum { NINE = sizeof subtypes / sizeof *subtypes };
 
 enum { WRITE, CHANGES, ROUNDS, KINDS };
 static kind kinds[KINDS] = {
@@ -39,6 +39,11 @@ static family writes[] = {
     {.name = "network 0", .least = {0, 0, 0, 500, 0, 0, 50, 5000}},
     {.name = "network 32 or -1", .least = {0, 2000, 0, 200}},
     {.name = "network and something earlier", .least = {0, 500, 0, 200, 0, 1000, 1000}},
+    {.name = "no network", .least = {1000, 500, 200, 200}},
+    {.name = "network without rows", .least = {2000, 0, 200, 200}},
+    {.name = "flag turned", .least = {500, 1000, 100, 200}},
+    {.name = "cell missing", .least = {500, 1000, 100, 200}},
+    {.name = "row without a cell", .least = {500, 1000, 100, 200}},
     {.name = "shorter head", .least = {500, 500, 100, 200, 200, 0, 1000}},
     {.name = "longer head", .least = {2000, 50, 500, 200}},
     {.name = "key", .least = {1000, 2000, 200, 500}},
@@ -100,6 +105,16 @@ static family changes[] = {
     {.name = "selected row doubled", .least = {0, 100}},
     {.name = "selected row dropped", .least = {100}},
     {.name = "selected row not counted", .least = {50}},
+    {.name = "cell row added", .least = {0, 200}},
+    {.name = "cells too", .least = {50}},
+    {.name = "cells at the end", .least = {50, 10}},
+    {.name = "cells in part", .least = {0, 100}},
+    {.name = "row without a cell", .least = {0, 100}},
+    {.name = "cell key", .least = {0, 1000}},
+    {.name = "cell rows swapped", .least = {0, 200}},
+    {.name = "cell row doubled", .least = {0, 100}},
+    {.name = "cell row dropped", .least = {50, 100}},
+    {.name = "cell row not counted", .least = {10, 20}},
 };
 
 enum { WRITES = sizeof writes / sizeof *writes, CHANGED = sizeof changes / sizeof *changes };
@@ -202,7 +217,7 @@ static void compare_changes(kind *k) {
 
 /* Each number of each sub type's head often, and of its rows, of which a mask has none. */
 static void judge_singles(void) {
-  for (size_t k = 0; k < SEVEN; k++)
+  for (size_t k = 0; k < NINE; k++)
     for (size_t part = subtypes[k] == 1 ? ROW : PARTS; part-- > 0;) {
       printf("numbers changed, %s %2u", part == HEAD ? "head" : "rows", subtypes[k]);
       for (size_t i = 0; i < HUNDURZEK_ROW; i++) {
@@ -296,7 +311,7 @@ static void compare_record(kind *k) {
 /* Each sub type that was written often in each kind. */
 static void judge_subtypes(void) {
   static const unsigned long least[KINDS] = {[WRITE] = 5000, [CHANGES] = 300, [ROUNDS] = 5000};
-  for (size_t i = 0; i < SEVEN; i++) {
+  for (size_t i = 0; i < NINE; i++) {
     print_counts("sub type", subtypes[i], kinds, KINDS, ANSWERS + subtypes[i]);
     for (size_t k = 0; k < KINDS; k++)
       need(kinds[k].counts[ANSWERS + subtypes[i]] >= least[k], kinds[k].name, subtypes[i]);

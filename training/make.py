@@ -6,8 +6,8 @@ from functools import reduce
 from itertools import count
 from operator import xor
 
-from messages import (BEIDOU, GALILEO, GLONASS, GPS, QZSS, Mask, System, combined, correction, mask_message, service,
-                      spell, text)
+from messages import (BEIDOU, GALILEO, GLONASS, GPS, QZSS, Mask, System, biases, combined, correction, mask_message,
+                      service, spell, text)
 
 # Document 01's worked stretch: GPS satellites 1 and 3, signal places 0 and 7, cells 1011; two clocks.
 MASK = Mask(3, (System(GPS, (0, 2), (0, 7), "1011"),))
@@ -80,6 +80,12 @@ def network(network_id):
     return under(MASK, combined(MASK, (40,), orbits=0, network=network_id, selection="01"))
 
 
+def without_cell(**network):
+    """Code biases under a mask whose second satellite, 3, has no cell."""
+    mask = one_system(MASK.systems[0]._replace(cells="1100"))
+    return under(mask, biases(mask, (10, 20), phases=0, **network))
+
+
 # A part lost: a subframe of three data parts, orbits and clocks of eleven satellites by turns, zeros behind them.
 PART = 1695
 ELEVEN = one_system(System(GPS, range(11), (0,)))
@@ -121,20 +127,35 @@ def reading_on(mask, stretch):
     return [spell(mask_message(mask)), stretch]
 
 
-# The other habits of document 01, "How trainees break it".
+# The other habits of document 01, "How trainees break it"; the last is one with document 02's sub type 6.
 def code_biases(cells):
     return under(one_system(System(GPS, (0, 2), (0, 7), cells)), correction(4, MASK, (10, 20, 30)))
 
 
 def all_cells(flag_cells):
     system = System(GPS, (0, 2), (0, 7))
-    biases = correction(4, one_system(system), (10, 20, 30, 40))
-    return [spell(mask_message(one_system(system._replace(cells=flag_cells)))), spell(biases)]
+    codes = correction(4, one_system(system), (10, 20, 30, 40))
+    return [spell(mask_message(one_system(system._replace(cells=flag_cells)))), spell(codes)]
 
 
 def orbit(system_id):
     galileo = one_system(System(GALILEO, (0,), (0,)))
     return under(one_system(System(system_id, (0,), (0,))), correction(2, galileo, (77, 100, -50, 25)))
+
+
+def satellite_3(values):
+    """Code bias, phase bias and discontinuity of both cells of satellite 3, alone in network 1."""
+    return under(MASK, biases(MASK, values, network=1, selection="01"))
+
+
+BIASES = (5, -300, 1, 12, 450, 0)
+
+
+def codes_first():
+    """What the same bits say to whoever takes both code biases from them before the rest."""
+    body = satellite_3(BIASES)[0][-56:]
+    return satellite_3([int(body[start:end], 2) for start, end in
+                        ((0, 11), (22, 37), (37, 39), (11, 22), (39, 54), (54, 56))])
 
 
 STRETCHES = {
@@ -158,6 +179,8 @@ STRETCHES = {
                           "accepted": many(System(GPS, range(32), range(8)))},
     "10-size-cell-mask": {"refused": cell_mask(257), "accepted": cell_mask(256)},
     "11-network": {"refused": network(0), "accepted": network(1)},
+    "11-satellite-without-cell": {"refused": without_cell(network=1, selection="11"),
+                                  "accepted": without_cell(network=1, selection="10"), "all": without_cell()},
     "mistake-1-another-mask": {"refused": next_issue(MASK), "accepted": next_issue(MASK, NEXT),
                                "careless": next_issue(MASK, iod=3)},
     "mistake-2-satellite-seven": {"accepted": seventh(7), "careless": seventh(6)},
@@ -166,6 +189,7 @@ STRETCHES = {
     "habit-cells-by-signal": {"accepted": code_biases("1011"), "careless": code_biases("1101")},
     "habit-flag-0-no-cells": {"accepted": all_cells(None), "careless": all_cells("0000")},
     "habit-galileo-iode": {"accepted": orbit(GALILEO), "careless": orbit(GPS)},
+    "habit-codes-first": {"accepted": satellite_3(BIASES), "careless": codes_first()},
 }
 
 

@@ -1,4 +1,4 @@
-"""A stretch read field by field, with the field where it stops (document 01, "Reader's order").
+"""A stretch read field by field, with the field where it stops (document 01, "Reader's order"; document 02, Ask 1).
 
 The listing says why and where a stretch stops, not at which field; this says it. As a program it takes lines of the
 listing's input and prints each field (place, width, name, value, bits), then the stop; of a field or a body that is
@@ -9,8 +9,8 @@ import re
 import sys
 from typing import NamedTuple, Optional
 
-from messages import (CLOCK, CODE, CORRECTIONS, NUMBER, PHASE, SATELLITE_PLACES, SIGNAL_PLACES, Mask, System,
-                      cell_flags, cells, orbit, satellites)
+from messages import (CLOCK, CODE, COLUMNS, CORRECTIONS, NUMBER, PHASE, SATELLITE_PLACES, SIGNAL_PLACES, Mask, System,
+                      celled, cells, named, orbit, satellites)
 
 IDLE, SHORT, OTHER_NUMBER, SUB_TYPE, NO_MASK, OTHER_ISSUE, SYSTEM, RESERVED, SIZE, NETWORK = 0, *range(3, 12)
 STRETCH_BITS = 50850
@@ -89,7 +89,7 @@ class Message:
             width = len(chosen) * len(signals)
             flags = format(self.take("cell mask", width), f"0{width}b") if width else ""
         system = System(system_id, chosen, signals, flags)
-        self.refuse(SIZE, len(cells(before)) + cell_flags(system).count("1") > 256)
+        self.refuse(SIZE, len(cells(Mask(before.iod, before.systems + (system,)))) > 256)
         return system
 
     def places(self, name, width, assigned):
@@ -107,19 +107,28 @@ class Message:
         iod = self.common(12)
         self.refuse(NO_MASK, self.held is None)
         self.refuse(OTHER_ISSUE, iod != self.held.iod)
-        ids = satellites(self.held) if self.sub_type in (2, 3, 11) else cells(self.held)
-        columns = {2: orbit, 3: lambda _: CLOCK, 4: lambda _: CODE, 5: lambda _: PHASE}.get(self.sub_type)
-        if self.sub_type == 11:
-            ids, columns = self.selected(ids)
-        self.body([column for system_id in ids for column in columns(system_id)])
+        self.body({6: self.biases, 11: self.combined}.get(self.sub_type, self.plain)())
 
-    def selected(self, ids):
-        orbits, clocks = self.take("orbit flag", 1), self.take("clock flag", 1)
+    def plain(self):
+        return [column for k in named(self.sub_type, self.held) for column in COLUMNS[self.sub_type](k)]
+
+    def combined(self):
+        orbits, clocks, each = self.selected("orbit flag", "clock flag")
+        return [column for system_id, _ in each for column in orbit(system_id) * orbits + CLOCK * clocks]
+
+    def biases(self):
+        codes, phases, each = self.selected("code flag", "phase flag")
+        return (CODE * codes + PHASE * phases) * sum(count for _, count in each)
+
+    def selected(self, one, other):
+        """Two flags, and GNSS ID and cells of each satellite that the network leaves."""
+        flags, each = [self.take(one, 1), self.take(other, 1)], celled(self.held)
         if self.take("network flag", 1):
             self.refuse(NETWORK, self.take("network ID", 5) == 0)
-            selection = self.take("selection", len(ids))
-            ids = [system_id for k, system_id in enumerate(ids) if selection >> (len(ids) - 1 - k) & 1]
-        return ids, lambda system_id: orbit(system_id) * orbits + CLOCK * clocks
+            selection = self.take("selection", len(each))
+            each = [satellite for k, satellite in enumerate(each) if selection >> (len(each) - 1 - k) & 1]
+            self.refuse(NETWORK, self.sub_type == 6 and any(count == 0 for _, count in each))
+        return *flags, each
 
     def body(self, columns):
         self.need("body", sum(width for _, width in columns))

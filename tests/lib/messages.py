@@ -1,4 +1,4 @@
-"""Compact SSR messages laid down field by field (document 01, "Message layouts"), good or not.
+"""Compact SSR messages laid down field by field (document 01, "Message layouts"; document 02, Ask 1), good or not.
 
 A message is a list of fields, a field a name, a width and a value; what is too wide loses its upper bits, so that a
 negative value is its two's complement. Bits are a string of 0 and 1. Satellites and signals are given by their places.
@@ -10,11 +10,12 @@ NUMBER = 4073
 GPS, GLONASS, GALILEO, BEIDOU, QZSS = range(5)
 SATELLITE_PLACES = (40, 24, 37, 40, 10)
 SIGNAL_PLACES = (14, 13, 15, 9, 10)
-CORRECTIONS = (2, 3, 4, 5, 11)
+CORRECTIONS = (2, 3, 4, 5, 6, 7, 11)
 
 CLOCK = (("clock", 15),)
 CODE = (("code bias", 11),)
 PHASE = (("phase bias", 15), ("discontinuity", 2))
+ACCURACY = (("URA", 6),)
 
 
 class System(NamedTuple):
@@ -62,12 +63,20 @@ def satellites(mask):
 
 def cells(mask):
     """GNSS ID of each cell, in order."""
-    return [system.id for system in mask.systems for flag in cell_flags(system) if flag == "1"]
+    return [system_id for system_id, count in celled(mask) for _ in range(count)]
 
 
-def cell_flags(system):
-    full = "1" * (len(system.satellites) * len(system.signals))
-    return full if system.cells is None else system.cells
+def celled(mask):
+    """GNSS ID of each satellite, and how many cells it has, in order."""
+    return [(system.id, row.count("1")) for system in mask.systems for row in cell_rows(system)]
+
+
+def cell_rows(system):
+    """Each satellite's part of the cell mask; all ones where the cell flag is 0."""
+    width = len(system.signals)
+    full = "1" * (len(system.satellites) * width)
+    flags = full if system.cells is None else system.cells
+    return [flags[k * width:(k + 1) * width] for k in range(len(system.satellites))]
 
 
 # ---- messages
@@ -103,6 +112,10 @@ def orbit(system_id):
     return (("IODE", iode), ("radial", 15), ("along-track", 13), ("cross-track", 13))
 
 
+# Of the sub types without flags the columns by GNSS ID.
+COLUMNS = {2: orbit, 3: lambda _: CLOCK, 4: lambda _: CODE, 5: lambda _: PHASE, 7: lambda _: ACCURACY}
+
+
 def body(columns_of, ids, values):
     """The columns of each satellite or cell; each field takes the next of the values."""
     values = iter(values)
@@ -115,21 +128,40 @@ def head(sub_type, mask, iod=None, epoch=100, interval=2, indicator=0):
 
 
 def correction(sub_type, mask, values, **said):
-    """Sub types 2, 3, 4 and 5; what its head says can be given as head's."""
-    columns_of = {2: orbit, 3: lambda _: CLOCK, 4: lambda _: CODE, 5: lambda _: PHASE}[sub_type]
-    ids = satellites(mask) if sub_type in (2, 3) else cells(mask)
-    return head(sub_type, mask, **said) + body(columns_of, ids, values)
+    """Sub types 2, 3, 4, 5 and 7; what its head says can be given as head's."""
+    return head(sub_type, mask, **said) + body(COLUMNS[sub_type], named(sub_type, mask), values)
+
+
+def named(sub_type, mask):
+    """GNSS ID of each cell where biases are sent, else of each satellite."""
+    return cells(mask) if sub_type in (4, 5) else satellites(mask)
 
 
 def combined(mask, values, orbits=1, clocks=1, network=None, selection="", **said):
     """Sub type 11; the selection counts where there is a network ID."""
-    fields = head(11, mask, **said)
-    fields += [("orbit flag", 1, orbits), ("clock flag", 1, clocks), ("network flag", 1, int(network is not None))]
-    ids = satellites(mask)
-    if network is not None:
-        fields += [("network ID", 5, network), ("selection", len(selection), int(selection or "0", 2))]
-        ids = [system_id for system_id, chosen in zip(ids, selection) if chosen == "1"]
+    fields = head(11, mask, **said) + [("orbit flag", 1, orbits), ("clock flag", 1, clocks)]
+    fields += selecting(network, selection)
+    ids = chosen(satellites(mask), network, selection)
     return fields + body(lambda system_id: orbit(system_id) * orbits + CLOCK * clocks, ids, values)
+
+
+def biases(mask, values, codes=1, phases=1, network=None, selection="", **said):
+    """Sub type 6; as sub type 11, but for each cell of the satellites."""
+    fields = head(6, mask, **said) + [("code flag", 1, codes), ("phase flag", 1, phases)]
+    fields += selecting(network, selection)
+    ids = [system_id for system_id, count in chosen(celled(mask), network, selection) for _ in range(count)]
+    return fields + body(lambda _: CODE * codes + PHASE * phases, ids, values)
+
+
+def selecting(network, selection):
+    if network is None:
+        return [("network flag", 1, 0)]
+    return [("network flag", 1, 1), ("network ID", 5, network), ("selection", len(selection), int(selection or "0", 2))]
+
+
+def chosen(each, network, selection):
+    """Of what is said of each satellite what the network leaves."""
+    return each if network is None else [one for one, bit in zip(each, selection) if bit == "1"]
 
 
 def service(values, indicator=0, counter=0, size=0):

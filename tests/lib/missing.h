@@ -4,8 +4,9 @@
 
 #include "streams.h"
 
-/* The longest that can be short: the body of sub type 5 under 256 cells, of 17 bits each (document 01, "Lengths"). */
-enum { MOST_MISSING = 256 * 17 };
+/* The longest that can be short: the body of sub type 6 with both flags for 256 cells, 11 bits and 17 each (document
+   02, Ask 1). */
+enum { MOST_MISSING = 256 * 28 };
 
 /* How often each number came beside answer 3. */
 typedef struct {

@@ -13,6 +13,9 @@
 /* Document 01's answers that are no message: 0 to 12. */
 enum { STOPS = 13 };
 
+/* Of a holding's bytes the one that says how many satellites it has (docs/HOST.md). */
+enum { SATELLITES = 3 };
+
 /* A kind of stream: how many records of it must come, and what came. A program numbers what it counts as it likes. */
 enum { COUNTS = 32 };
 typedef struct {

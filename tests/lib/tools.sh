@@ -70,7 +70,7 @@ agree() {
     shift
     second
     compile "$program" host tests/lib/streams.c tests/lib/families.c tests/lib/missing.c \
-        tests/lib/readings.c tests/lib/texts.c tests/lib/writes.c ${ALSO:-}
+        tests/lib/readings.c tests/lib/refused.c tests/lib/texts.c tests/lib/writes.c ${ALSO:-}
     for stream; do
         target/tests/second emit $stream
     done 2>"target/tests/$program.log" | $RUN "target/tests/$program"

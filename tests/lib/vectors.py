@@ -12,7 +12,7 @@ from groups import late, limits, order
 
 FOLDER = Path("vectors")
 STOPS = (0, 3, 4, 5, 6, 7, 8, 9, 10, 11)
-SUB_TYPES = (1, 2, 3, 4, 5, 10, 11)
+SUB_TYPES = (1, 2, 3, 4, 5, 6, 7, 10, 11)
 MOST_BYTES = 2000000
 
 

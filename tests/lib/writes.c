@@ -44,9 +44,9 @@ int32_t head_number(size_t column) {
   return column < lent.head ? numbers(head.want)[column] : HUNDURZEK_ABSENT;
 }
 
-/* ---- facts: document 01's numbers are those of its answers and sub types */
+/* ---- facts: their numbers are those of answers and sub types in documents 01 and 02 (Ask 1) */
 
-enum { LONGEST = 50850, SATELLITES = 3, ROW_BYTES = 4 * HUNDURZEK_ROW };
+enum { LONGEST = 50850, ROW_BYTES = 4 * HUNDURZEK_ROW };
 
 static int32_t subtype(void) { return head_number(0); }
 
@@ -116,10 +116,12 @@ static bool holding_behind(const hundurzek_done *w, uint64_t n) {
 static bool of_mask(const hundurzek_done *w, uint64_t n) { return w->answer == n && subtype() == 1; }
 
 static bool network_is(const hundurzek_done *w, uint64_t n, int32_t id) {
-  return w->answer == n && subtype() == 11 && network() == id;
+  return w->answer == n && (subtype() == 6 || subtype() == 11) && network() == id;
 }
 
 static bool network_0(const hundurzek_done *w, uint64_t n) { return network_is(w, n, 0); }
+
+static bool biases_0(const hundurzek_done *w, uint64_t n) { return network_0(w, n) && subtype() == 6; }
 
 static bool network_32(const hundurzek_done *w, uint64_t n) { return network_is(w, n, 32); }
 
@@ -145,8 +147,11 @@ static struct {
     {"written, head numbers under", fewer_head, HUNDURZEK_ROW, 500, 0},
     {"written, head numbers over", more_head, HUNDURZEK_ROW, 1000, 0},
     {"written, numbers past rows of", more_numbers, HUNDURZEK_ROW, 10000, 0},
+    {"written, flags 0, sub type", bare_rows, 6, 1000, 0},
     {"written, flags 0, sub type", bare_rows, 11, 1000, 0},
+    {"written, no row, sub type", no_rows, 6, 1000, 0},
     {"written, no row, sub type", no_rows, 11, 1000, 0},
+    {"same, of no satellite, sub type", no_satellites, 6, 500, 0},
     {"same, of no satellite, sub type", no_satellites, 11, 500, 0},
     {"written, no mask, sub type", unheld, 10, 1000, 0},
     {"start at the limit, answer", full, 1, 1000, 0},
@@ -172,6 +177,8 @@ static struct {
     {"network ID 0, answer", network_0, 7, 200, 0},
     {"network ID 0, answer", network_0, 11, 5000, 0},
     {"network ID 0, answer", network_0, 12, 200, 0},
+    {"same, sub type 6, answer", biases_0, 11, 2000, 0},
+    {"same, sub type 6, answer", biases_0, 12, 100, 0},
     {"network ID 32, answer", network_32, 2, 100, 0},
     {"network ID 32, answer", network_32, 6, 200, 0},
     {"network ID 32, answer", network_32, 7, 200, 0},

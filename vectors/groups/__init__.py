@@ -1,14 +1,15 @@
 """The groups of vectors/, a module for each, and what they share."""
 
-from messages import (BEIDOU, GALILEO, GLONASS, GPS, QZSS, Mask, System, combined, correction, mask_message, satellites,
-                      service, spell, text)
+from messages import (BEIDOU, GALILEO, GLONASS, GPS, QZSS, Mask, System, biases, combined, correction, mask_message,
+                      satellites, service, spell, text)
 
-# A mask with cell flags of both sorts, systems of both IODE widths, and a cell mask with gaps: 7 satellites, 9 cells.
-BASE = Mask(3, (System(GPS, (0, 2, 31), (0, 7), "101101"), System(GALILEO, (4, 36), (1,)),
+# A mask with cell flags of both sorts, systems of both IODE widths, and a cell mask with gaps: 7 satellites, 8 cells.
+# The second satellite, GPS 3, has no cell.
+BASE = Mask(3, (System(GPS, (0, 2, 31), (0, 7), "100011"), System(GALILEO, (4, 36), (1,)),
                 System(QZSS, (0, 9), (0, 9), "1101")))
 
-# As little as shows the same: 3 satellites, 4 cells.
-SMALL = Mask(3, (System(GPS, (0, 2), (0, 7), "1011"), System(GALILEO, (4,), (1,))))
+# As little as shows the same: 3 satellites, 3 cells.
+SMALL = Mask(3, (System(GPS, (0, 2), (0, 7), "1100"), System(GALILEO, (4,), (1,))))
 
 # Every system, a satellite and a signal each.
 EACH = Mask(3, tuple(System(system_id, (1,), (1,)) for system_id in (GPS, GLONASS, GALILEO, BEIDOU, QZSS)))
@@ -54,12 +55,13 @@ def clock(mask, random, **head):
 
 
 def message(sub_type, mask, values, **head):
-    """A message of any sub type: for sub type 11 with both flags, network 16 and every other satellite selected."""
+    """A message of any sub type: for 6 and 11 with both flags, network 16 and every other satellite selected."""
     if sub_type == 1:
         return mask_message(mask)
     if sub_type == 10:
         return service(values, size=1)
-    if sub_type == 11:
+    if sub_type in (6, 11):
         count = len(satellites(mask))
-        return combined(mask, values, network=16, selection=("10" * count)[:count], **head)
+        made = biases if sub_type == 6 else combined
+        return made(mask, values, network=16, selection=("10" * count)[:count], **head)
     return correction(sub_type, mask, values, **head)

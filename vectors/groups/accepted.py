@@ -1,7 +1,7 @@
 """Good messages under masks of every kind: each line opens with its mask; then every sub type, in any order."""
 
-from messages import (SATELLITE_PLACES, SIGNAL_PLACES, Mask, System, cells, combined, correction, mask_message,
-                      satellites, service)
+from messages import (SATELLITE_PLACES, SIGNAL_PLACES, Mask, System, biases, celled, cells, combined, correction,
+                      mask_message, satellites, service)
 
 from . import Random, line
 
@@ -30,11 +30,14 @@ def head(random):
 def some_message(random, held, sub_type):
     if sub_type == 10:
         return service(random, random.below(2), random.below(8), random.below(4))
-    if sub_type < 10:
+    if sub_type not in (6, 11):
         return correction(sub_type, held, random, **head(random))
     network = random.pick((None, 1 + random.below(31)))
     selection = random.bits(len(satellites(held)))
-    return combined(held, random, random.below(2), random.below(2), network, selection, **head(random))
+    if sub_type == 6:
+        selection = "".join(bit if count else "0" for bit, (_, count) in zip(selection, celled(held)))
+    made = biases if sub_type == 6 else combined
+    return made(held, random, random.below(2), random.below(2), network, selection, **head(random))
 
 
 def made():
@@ -42,7 +45,7 @@ def made():
     while len(made) < LINES:
         held = mask(random)
         if len(satellites(held)) <= 64 and len(cells(held)) <= 256:
-            order = sorted((2, 3, 4, 5, 10, 11), key=lambda _: next(random))[:1 + random.below(6)]
+            order = sorted((2, 3, 4, 5, 6, 7, 10, 11), key=lambda _: next(random))[:1 + random.below(8)]
             sent = [some_message(random, held, sub_type) for sub_type in order]
             made.append(line(mask_message(held, epoch=random.below(604800)), *sent))
     return made

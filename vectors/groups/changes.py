@@ -26,7 +26,7 @@ def same_issue(random):
     for systems in masks:
         mask = Mask(3, systems)
         made += [line(mask_message(mask)), line(message(2, mask, random), message(4, mask, random)),
-                 line(message(11, mask, random))]
+                 line(message(11, mask, random)), line(message(6, mask, random), message(7, mask, random))]
     return made
 
 

@@ -1,11 +1,14 @@
 """Each field at its least, its greatest and next to them. EACH is held unless a line opens with another mask."""
 
-from messages import GPS, SATELLITE_PLACES, SIGNAL_PLACES, Mask, System, combined, correction, mask_message, service
+from messages import (CORRECTIONS, GPS, SATELLITE_PLACES, SIGNAL_PLACES, Mask, System, biases, celled, combined,
+                      correction, mask_message, service)
 
 from . import EACH, Random, line, message
 
 INTERVALS = range(16)
-BODY = ("IODE", "radial", "along-track", "cross-track", "clock", "code bias", "phase bias", "discontinuity", "data")
+FLAGS = [(one, other) for one in (0, 1) for other in (0, 1)]
+BODY = ("IODE", "radial", "along-track", "cross-track", "clock", "code bias", "phase bias", "discontinuity", "URA",
+        "data")
 
 
 def extremes(width):
@@ -23,8 +26,8 @@ def turned(fields, turn):
 
 def bodies():
     zeros = [0] * 100
-    sent = [correction(sub_type, EACH, zeros) for sub_type in (2, 3, 4, 5)]
-    sent += [combined(EACH, zeros), service(zeros, size=3)]
+    sent = [correction(sub_type, EACH, zeros) for sub_type in (2, 3, 4, 5, 7)]
+    sent += [biases(EACH, zeros), combined(EACH, zeros), service(zeros, size=3)]
     return [line(turned(fields, turn)) for fields in sent for turn in range(6)]
 
 
@@ -38,7 +41,7 @@ def mask_heads():
 def heads(random):
     """Epochs, intervals and indicators of the corrections; every issue, with a mask of it."""
     made = []
-    for k in (2, 3, 4, 5, 11):
+    for k in CORRECTIONS:
         made += [line(message(k, EACH, random, epoch=epoch, indicator=epoch % 2)) for epoch in (0, 1, 3599, 3600, 4095)]
         made += [line(message(k, EACH, random, interval=interval)) for interval in INTERVALS]
         made += [line(mask_message(EACH._replace(iod=iod)), message(k, EACH, random, iod=iod)) for iod in range(16)]
@@ -47,15 +50,25 @@ def heads(random):
 
 
 def flags(random):
-    """Sub type 11: all flags, every network ID, every selection of five; sub type 10: counters and sizes."""
-    plain = [line(combined(EACH, random, orbits, clocks)) for orbits in (0, 1) for clocks in (0, 1)]
-    some = [line(combined(EACH, random, orbits, clocks, network=9, selection="01101"))
-            for orbits in (0, 1) for clocks in (0, 1)]
-    networks = [line(combined(EACH, random, network=k, selection=format(k, "05b"))) for k in range(1, 32)]
-    none = [line(combined(EACH, random, network=31, selection="00000"))]
-    packets = [line(service(random, indicator, counter, size))
-               for indicator in (0, 1) for counter in range(8) for size in range(4)]
-    return plain + some + networks + none + packets
+    """Sub types 6 and 11: all flags, every network ID, every selection of five."""
+    made = []
+    for sent in (biases, combined):
+        made += [line(sent(EACH, random, *flags)) for flags in FLAGS]
+        made += [line(sent(EACH, random, *flags, network=9, selection="01101")) for flags in FLAGS]
+        made += [line(sent(EACH, random, network=k, selection=format(k, "05b"))) for k in range(1, 32)]
+        made.append(line(sent(EACH, random, network=31, selection="00000")))
+    return made
+
+
+def packets(random):
+    """Sub type 10: counters and sizes."""
+    return [line(service(random, indicator, counter, size))
+            for indicator in (0, 1) for counter in range(8) for size in range(4)]
+
+
+def accuracies():
+    """Sub type 7: every value, five satellites at a time."""
+    return [line(correction(7, EACH, range(first, first + 5))) for first in range(0, 64, 5)]
 
 
 def places(random):
@@ -72,15 +85,19 @@ def places(random):
 
 
 def cell_masks(random):
-    """Each cell mask of two satellites by two signals, and none."""
+    """Each cell mask of two satellites by two signals, and none; biases combined, of all satellites and of a network's,
+    those that have a cell."""
     made = []
     for cells in [format(k, "04b") for k in range(16)] + [None]:
         mask = Mask(7, (System(GPS, (0, 2), (0, 7), cells),))
+        selection = "".join("01"[count > 0] for _, count in celled(mask))
         made.append(line(mask_message(mask), correction(4, mask, random), correction(5, mask, random)))
+        made.append(line(*(biases(mask, random, *flags) for flags in FLAGS)))
+        made.append(line(*(biases(mask, random, *flags, network=7, selection=selection) for flags in FLAGS)))
     return made
 
 
 def made():
     random = Random(4)
-    return [line(mask_message(EACH))] + bodies() + mask_heads() + heads(random) + flags(random) + places(random) + \
-        cell_masks(random)
+    return [line(mask_message(EACH))] + bodies() + mask_heads() + heads(random) + flags(random) + packets(random) + \
+        accuracies() + places(random) + cell_masks(random)

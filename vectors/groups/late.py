@@ -24,8 +24,9 @@ def run(random):
         return [message(sub_type, mask, random) for sub_type in sub_types]
 
     return [
-        sent(A, 1, 2, 3), sent(A, 3, 4), sent(A, 10, 1, 5), sent(A, 3) + sent(B, 1, 3), sent(B, 11, 4),
-        sent(B, 1, 2, 3), sent(B, 3) + sent(C, 1, 3), sent(C, 10), sent(D, 1, 2, 3, 4, 5, 10, 11), sent(D, 3, 11),
+        sent(A, 1, 2, 3), sent(A, 3, 4, 6), sent(A, 10, 1, 5), sent(A, 3) + sent(B, 1, 3), sent(B, 11, 4, 6, 7),
+        sent(B, 1, 2, 3), sent(B, 7) + sent(C, 1, 3), sent(C, 10), sent(D, 1, 2, 3, 4, 5, 6, 7, 10, 11),
+        sent(D, 3, 11, 6),
     ]
 
 

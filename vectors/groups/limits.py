@@ -3,8 +3,8 @@
 Each line opens with the mask message that it needs, so that no line needs another one.
 """
 
-from messages import (BEIDOU, GALILEO, GLONASS, GPS, QZSS, SATELLITE_PLACES, SIGNAL_PLACES, Mask, System, combined,
-                      correction, mask_message, service, spell, text)
+from messages import (BEIDOU, GALILEO, GLONASS, GPS, QZSS, SATELLITE_PLACES, SIGNAL_PLACES, Mask, System, biases,
+                      combined, correction, mask_message, service, spell, text)
 
 from . import BASE, Random, clock, line, message
 
@@ -73,35 +73,54 @@ def systems():
     ]
 
 
-def heads(random):
-    """The held issue, the network IDs and the message number, and what is next to them."""
-    def under(*fields):
-        return line(mask_message(BASE), *fields)
+def under(*fields):
+    return line(mask_message(BASE), *fields)
 
-    network = [under(combined(BASE, random, network=k, selection="0" * 7)) for k in (31, 1, 0)]
+
+def heads(random):
+    """The held issue and the message number, and what is next to them."""
     clocks = clock(BASE, random)
     return [
         ("the held issue, and one above", under(clocks), under(clock(BASE, random, iod=4))),
         ("the held issue, and one below", under(clocks), under(clock(BASE, random, iod=2))),
-        ("network ID 1", network[1], network[2]),
-        ("network ID 31, and 32, whose five bits are zero", network[0], network[2]),
         ("number 4073, and one below", under(clocks), under([("number", 12, 4072)], clocks[1:])),
         ("number 4073, and one above", under(clocks), under([("number", 12, 4074)], clocks[1:])),
     ]
 
 
+def networks(random):
+    """The network IDs, and what is next to them; every satellite that has a cell, and the one that has none."""
+    made = []
+    for sub_type, sent in ((6, biases), (11, combined)):
+        network = [under(sent(BASE, random, network=k, selection="0" * 7)) for k in (31, 1, 0)]
+        made += [(f"network ID 1, sub type {sub_type}", network[1], network[2]),
+                 (f"network ID 31, and 32, whose five bits are zero, sub type {sub_type}", network[0], network[2])]
+    selected = [under(biases(BASE, random, network=1, selection=f"1{bit}11111")) for bit in "01"]
+    return made + [("all satellites but the one without a cell", *selected)]
+
+
 def lengths(random):
     """Each message whole, and without its last bit; and the shortest stretches."""
-    made = [(f"sub type {k}, its last bit", *whole(message(k, BASE, random))) for k in (1, 2, 3, 4, 5, 11)]
+    made = [(f"sub type {k}, its last bit", *whole(message(k, BASE, random))) for k in (1, 2, 3, 4, 5, 6, 7, 11)]
     made += [(f"sub type 10 of size {size}, its last bit", *whole(service(random, size=size))) for size in range(4)]
     galileo = Mask(3, (System(GALILEO, (0,), ()),))
     gps = Mask(3, (System(GPS, (0,), ()),))
     made += [("orbit of one GPS satellite, 86 bits", *whole(correction(2, gps, random), gps)),
              ("orbit of one Galileo satellite, 88 bits", *whole(correction(2, galileo, random), galileo)),
              ("no systems, 49 bits", *whole(mask_message(Mask(3, ())))),
-             ("no satellites, 37 bits", *whole(clock(Mask(3, ()), random), Mask(3, ())))]
-    return made + [("11 zero bits", text("0" * 11), text("0" * 10 + "1")),
+             ("no satellites, 37 bits", *whole(clock(Mask(3, ()), random), Mask(3, ()))),
+             ("accuracy of one satellite, 43 bits", *whole(correction(7, gps, random), gps)),
+             ("biases of no cell, 40 bits", *whole(biases(gps, random), gps))]
+    return made + longest(random) + [("11 zero bits", text("0" * 11), text("0" * 10 + "1")),
                    ("no bits", text(""), text("1"))]
+
+
+def longest(random):
+    """The longest body that there is: 256 cells of 28 bits."""
+    most = Mask(3, (System(GPS, range(32), range(8)),))
+    bits = spell(mask_message(most) + biases(most, random))
+    return [("biases of 256 cells, 7,208 bits", *whole(biases(most, random), most)),
+            ("their body, 7,168 bits, and none of it", text(bits), text(bits[:-7168]))]
 
 
 def whole(fields, mask=BASE):
@@ -121,7 +140,7 @@ def stretches():
 def named():
     random = Random(3)
     masked = satellite_limits() + cell_limits() + assigned_places() + systems()
-    return masked + heads(random) + lengths(random) + stretches()
+    return masked + heads(random) + networks(random) + lengths(random) + stretches()
 
 
 def made():

@@ -4,7 +4,7 @@ Each line opens with the mask message, so that no line needs another one. The ma
 front of the clocks.
 """
 
-from messages import combined, flip, mask_message, spell, text
+from messages import biases, combined, flip, mask_message, spell, text
 
 from . import SMALL, Random, message
 
@@ -16,7 +16,8 @@ def damaged(bits, start):
 def made():
     random = Random(7)
     mask = spell(mask_message(SMALL))
-    sent = [message(sub_type, SMALL, random) for sub_type in (2, 4, 5, 10, 11)] + [combined(SMALL, random, orbits=0)]
+    sent = [message(sub_type, SMALL, random) for sub_type in (2, 4, 5, 6, 7, 10, 11)]
+    sent += [combined(SMALL, random, orbits=0), biases(SMALL, random, phases=0)]
     made = damaged(mask + spell(message(3, SMALL, random)), 0)
     for fields in sent:
         made += damaged(mask + spell(fields), len(mask))

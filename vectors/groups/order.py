@@ -1,6 +1,6 @@
 """Two faults in one message: the one that comes first in the reader's order is told. BASE is held to the end."""
 
-from messages import BEIDOU, GLONASS, GPS, QZSS, Mask, System, combined, mask_message, opening, spell, text
+from messages import BEIDOU, GLONASS, GPS, QZSS, Mask, System, biases, combined, mask_message, opening, spell, text
 
 from . import BASE, Random, clock, line, message
 
@@ -30,6 +30,21 @@ def faulty_messages(random):
     ]
 
 
+def faulty_biases(random):
+    """Sub type 6: BASE's second satellite has no cell, all others together have 8 of 28 bits."""
+    def to_all(**said):
+        return biases(BASE, random, selection="1" * 7, **said)
+
+    return [
+        ("other issue, satellite without a cell", line(to_all(network=1, iod=4))),
+        ("network 0, satellite without a cell", line(to_all(network=0))),
+        ("biases of network 0, no selection", cut(to_all(network=0), 8 * 28 + 7)),
+        ("satellite without a cell, a bit of the selection missing", cut(to_all(network=1), 8 * 28 + 1)),
+        ("satellite without a cell, no body", cut(to_all(network=1), 8 * 28)),
+        ("satellite without a cell, a bit of the body missing", cut(to_all(network=1), 1)),
+    ]
+
+
 def faulty_masks():
     one = System(GPS, (0,), (0,))
     many = System(GPS, range(40), (0,))
@@ -52,7 +67,7 @@ def faulty_masks():
 def named(random):
     """The line before any mask; then the others, for which BASE is held."""
     first = [("no mask, no body", cut(clock(BASE, random), 7 * 15))]
-    return first, faulty_messages(random) + faulty_masks()
+    return first, faulty_messages(random) + faulty_biases(random) + faulty_masks()
 
 
 def made():

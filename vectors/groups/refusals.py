@@ -1,7 +1,7 @@
 """Each refusal at each field that can earn it. No mask is held in the first lines; then BASE is, to the end."""
 
-from messages import (BEIDOU, CORRECTIONS, GPS, NUMBER, SATELLITE_PLACES, SIGNAL_PLACES, Mask, System, combined,
-                      mask_message, opening, service, spell, text)
+from messages import (BEIDOU, CORRECTIONS, GPS, NUMBER, SATELLITE_PLACES, SIGNAL_PLACES, Mask, System, biases,
+                      combined, mask_message, opening, service, spell, text)
 
 from . import BASE, Random, clock, line, message
 
@@ -27,7 +27,7 @@ def cuts(fields):
 def short(random):
     """3 at every field of every sub type."""
     made = []
-    for sub_type in (2, 3, 4, 5, 10, 11):
+    for sub_type in (2, 3, 4, 5, 6, 7, 10, 11):
         fields = message(sub_type, BASE, random)
         made += [text(spell(fields)[:cut]) for cut in cuts(fields)]
     fields = mask_message(BASE)
@@ -47,7 +47,7 @@ def numbers(random):
 
 
 def sub_types(random):
-    """5 for each sub type that is not one of the seven, with something behind it and with nothing."""
+    """5 for each sub type that is not one of the nine, with something behind it and with nothing."""
     others = [sub_type for sub_type in range(16) if sub_type not in ASSIGNED_SUB_TYPES]
     made = []
     for other in others:
@@ -99,13 +99,23 @@ def sizes():
 
 def networks(random):
     """11 with each of the two other flags, and with the selection all zeros and all ones."""
-    return [line(combined(BASE, random, orbits, clocks, network=0, selection=selection))
-            for orbits in (0, 1) for clocks in (0, 1) for selection in ("0" * 7, "1" * 7)]
+    return [line(sent(BASE, random, one, other, network=0, selection=selection))
+            for sent in (biases, combined) for one in (0, 1) for other in (0, 1) for selection in ("0" * 7, "1" * 7)]
+
+
+def without_cell(random):
+    """11 for BASE's second satellite, alone and among others, with bits behind the selection and with none."""
+    made = []
+    for selection in ("0100000", "1100000", "0100001", "1111111"):
+        for flags in [(one, other) for one in (0, 1) for other in (0, 1)]:
+            fields = biases(BASE, random, *flags, network=1, selection=selection)
+            made += [line(fields, [("rest", 64, next(random))]), line(fields[:11])]
+    return made
 
 
 def made():
     random = Random(1)
     refused_masks = systems() + reserved() + sizes()
     return no_mask(random) + [line(mask_message(BASE))] + short(random) + numbers(random) + sub_types(random) + \
-        other_issues(random) + kept(refused_masks, random) + networks(random) + \
+        other_issues(random) + kept(refused_masks, random) + networks(random) + without_cell(random) + \
         [line(message(sub_type, BASE, random)) for sub_type in CORRECTIONS]
