@@ -1,4 +1,4 @@
-/* Document 01's reader, bit by bit. Titles in comments are that document's. */
+/* Document 01's reader, and of document 02 Asks 1 and 7, bit by bit. Titles in comments are document 01's. */
 #include "bitwise.h"
 
 #include "getbit.h"
@@ -92,7 +92,7 @@ static int read_satellites(struct cursor *c, bitwise_holding *mask, int system) 
   for (int place = 0; place < 40; place++) {
     if (!(places >> (39 - place) & 1)) continue;
     if (mask->satellites == SATELLITES) return SIZE;
-    mask->satellite[mask->satellites++] = (bitwise_satellite){system, place + 1, 0};
+    mask->satellite[mask->satellites++] = (bitwise_satellite){system, place + 1, 0, 0};
   }
   return MESSAGE;
 }
@@ -115,7 +115,8 @@ static int read_cells(struct cursor *c, bitwise_holding *mask, int first, int si
   for (int k = first; k < mask->satellites; k++) {
     if (flag) cells = unsigned_field(c, signals);
     mask->satellite[k].cells = (uint32_t)cells;
-    for (int j = 0; j < signals; j++) mask->cells += cells >> j & 1;
+    for (int j = 0; j < signals; j++) mask->satellite[k].cell_count += cells >> j & 1;
+    mask->cells += mask->satellite[k].cell_count;
   }
   return mask->cells > CELLS ? SIZE : MESSAGE;
 }
@@ -164,37 +165,43 @@ static int32_t *open_row(struct rows *rows, int system, int satellite, int signa
   return row;
 }
 
-/* What a message has for each of its satellites: the orbit's four fields or not, the clock in a column of the row or,
-   with column 0, not, and which satellites, the first one highest. */
+/* Which satellites a message has rows of, the first one highest. */
+static int is_selected(uint64_t selected, const bitwise_holding *holding, int k) {
+  return selected >> (holding->satellites - 1 - k) & 1;
+}
+
+/* What a message has for each of its satellites: the orbit's four fields or not, and a value of so many bits, a clock
+   or an accuracy, in a column of the row or, with column 0, none. */
 struct parts {
   int orbit;
-  int clock_column;
-  uint64_t selected;
+  int column;
+  int width;
 };
-
-static int is_selected(const struct parts *parts, const bitwise_holding *holding, int k) {
-  return parts->selected >> (holding->satellites - 1 - k) & 1;
-}
 
 static int iode_width(const bitwise_holding *holding, int k) {
   return holding->system[holding->satellite[k].system].id == GALILEO ? 10 : 8;
 }
 
-static int satellites_width(const bitwise_holding *holding, const struct parts *parts) {
+static int satellites_width(const bitwise_holding *holding, const struct parts *parts, uint64_t selected) {
   int width = 0;
   for (int k = 0; k < holding->satellites; k++) {
-    if (!is_selected(parts, holding, k)) continue;
+    if (!is_selected(selected, holding, k)) continue;
     if (parts->orbit) width += iode_width(holding, k) + 15 + 13 + 13;
-    if (parts->clock_column) width += 15;
+    if (parts->column) width += parts->width;
   }
   return width;
 }
 
+/* An accuracy, of sub type 7, is unsigned, a clock is not. */
+static int32_t value_field(struct cursor *c, int width) {
+  return width == 6 ? unsigned_field(c, width) : signed_field(c, width);
+}
+
 static int read_satellite_rows(struct cursor *c, const bitwise_holding *holding, const struct parts *parts,
-                               struct rows *rows) {
-  if (!has(c, satellites_width(holding, parts))) return SHORT;
+                               uint64_t selected, struct rows *rows) {
+  if (!has(c, satellites_width(holding, parts, selected))) return SHORT;
   for (int k = 0; k < holding->satellites; k++) {
-    if (!is_selected(parts, holding, k)) continue;
+    if (!is_selected(selected, holding, k)) continue;
     const bitwise_satellite *satellite = &holding->satellite[k];
     int32_t *row = open_row(rows, holding->system[satellite->system].id, satellite->number, HUNDURZEK_ABSENT);
     if (parts->orbit) {
@@ -203,56 +210,89 @@ static int read_satellite_rows(struct cursor *c, const bitwise_holding *holding,
       row[5] = signed_field(c, 13);
       row[6] = signed_field(c, 13);
     }
-    if (parts->clock_column) row[parts->clock_column] = signed_field(c, 15);
+    if (parts->column) row[parts->column] = value_field(c, parts->width);
   }
   return MESSAGE;
 }
 
-static int read_bias_rows(struct cursor *c, const bitwise_holding *holding, int bias, int discontinuity,
-                          struct rows *rows) {
-  if (!has(c, (bias + discontinuity) * holding->cells)) return SHORT;
+/* What a message has for each cell of its satellites: a code bias in v1 or not, and a phase bias in a column of the
+   row, with its discontinuity in the next, or, with column 0, not. */
+struct biases {
+  int code;
+  int phase_column;
+};
+
+static int cells_width(const bitwise_holding *holding, const struct biases *biases, uint64_t selected) {
+  int cells = 0;
+  for (int k = 0; k < holding->satellites; k++)
+    if (is_selected(selected, holding, k)) cells += holding->satellite[k].cell_count;
+  return cells * ((biases->code ? 11 : 0) + (biases->phase_column ? 15 + 2 : 0));
+}
+
+static int read_cell_rows(struct cursor *c, const bitwise_holding *holding, const struct biases *biases,
+                          uint64_t selected, struct rows *rows) {
+  if (!has(c, cells_width(holding, biases, selected))) return SHORT;
   for (int k = 0; k < holding->satellites; k++) {
+    if (!is_selected(selected, holding, k)) continue;
     const bitwise_satellite *satellite = &holding->satellite[k];
     const bitwise_system *system = &holding->system[satellite->system];
     for (int j = 0; j < system->signals; j++) {
       if (!(satellite->cells >> (system->signals - 1 - j) & 1)) continue;
       int32_t *row = open_row(rows, system->id, satellite->number, system->signal[j]);
-      row[3] = signed_field(c, bias);
-      if (discontinuity) row[4] = unsigned_field(c, discontinuity);
+      if (biases->code) row[3] = signed_field(c, 11);
+      if (biases->phase_column) {
+        row[biases->phase_column] = signed_field(c, 15);
+        row[biases->phase_column + 1] = unsigned_field(c, 2);
+      }
     }
   }
   return MESSAGE;
 }
 
-/* ---- sub types 2, 3, 4, 5 and 11 */
+/* ---- sub types 2 to 7 and 11 */
 
-static int read_combined(struct cursor *c, const bitwise_holding *holding, hundurzek_head *head, struct rows *rows) {
+static int names_bare(const bitwise_holding *holding, uint64_t selected) {
+  for (int k = 0; k < holding->satellites; k++)
+    if (is_selected(selected, holding, k) && holding->satellite[k].cell_count == 0) return 1;
+  return 0;
+}
+
+/* Sub types 6 and 11 after their head, up to their body. In sub type 6 a network has no satellite without a cell. */
+static int read_selection(struct cursor *c, const bitwise_holding *holding, hundurzek_head *head, uint64_t *selected) {
   int32_t network;
-  struct parts parts = {.selected = UINT64_MAX};
   if (!take(c, 1, &head->a) || !take(c, 1, &head->b) || !take(c, 1, &network)) return SHORT;
-  if (network) {
-    if (!take(c, 5, &head->c)) return SHORT;
-    if (head->c == 0) return NETWORK;
-    if (!take_mask(c, holding->satellites, &parts.selected)) return SHORT;
+  if (!network) return MESSAGE;
+  if (!take(c, 5, &head->c)) return SHORT;
+  if (head->c == 0) return NETWORK;
+  if (!take_mask(c, holding->satellites, selected)) return SHORT;
+  return head->subtype == 6 && names_bare(holding, *selected) ? NETWORK : MESSAGE;
+}
+
+static int read_body(struct cursor *c, const bitwise_holding *holding, const hundurzek_head *head, uint64_t selected,
+                     struct rows *rows) {
+  switch (head->subtype) {
+    case 2: return read_satellite_rows(c, holding, &(struct parts){1, 0, 0}, selected, rows);
+    case 3: return read_satellite_rows(c, holding, &(struct parts){0, 3, 15}, selected, rows);
+    case 4: return read_cell_rows(c, holding, &(struct biases){1, 0}, selected, rows);
+    case 5: return read_cell_rows(c, holding, &(struct biases){0, 3}, selected, rows);
+    case 6: return read_cell_rows(c, holding, &(struct biases){head->a, head->b ? 4 : 0}, selected, rows);
+    case 7: return read_satellite_rows(c, holding, &(struct parts){0, 3, 6}, selected, rows);
+    default: return read_satellite_rows(c, holding, &(struct parts){head->a, head->b ? 7 : 0, 15}, selected, rows);
   }
-  parts.orbit = head->a;
-  parts.clock_column = head->b ? 7 : 0;
-  return read_satellite_rows(c, holding, &parts, rows);
 }
 
 static int read_under_mask(struct cursor *c, const bitwise_holding *holding, hundurzek_head *head, struct rows *rows) {
+  uint64_t selected = UINT64_MAX;
   if (!take(c, 12, &head->epoch) || !take(c, 4, &head->interval) || !take(c, 1, &head->indicator) ||
       !take(c, 4, &head->iod))
     return SHORT;
   if (!holding->held) return NO_MASK;
   if (head->iod != holding->iod) return OTHER_ISSUE;
-  switch (head->subtype) {
-    case 2: return read_satellite_rows(c, holding, &(struct parts){1, 0, UINT64_MAX}, rows);
-    case 3: return read_satellite_rows(c, holding, &(struct parts){0, 3, UINT64_MAX}, rows);
-    case 4: return read_bias_rows(c, holding, 11, 0, rows);
-    case 5: return read_bias_rows(c, holding, 15, 2, rows);
-    default: return read_combined(c, holding, head, rows);
+  if (head->subtype == 6 || head->subtype == 11) {
+    int answer = read_selection(c, holding, head, &selected);
+    if (answer != MESSAGE) return answer;
   }
+  return read_body(c, holding, head, selected, rows);
 }
 
 /* ---- sub type 10 */
@@ -280,6 +320,8 @@ static int read_message(struct cursor *c, bitwise_holding *holding, hundurzek_he
     case 3:
     case 4:
     case 5:
+    case 6:
+    case 7:
     case 11: return read_under_mask(c, holding, head, rows);
     case 10: return read_service(c, head, rows);
     default: return SUBTYPE;

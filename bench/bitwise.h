@@ -13,12 +13,13 @@ typedef struct {
   int signal[16];
 } bitwise_system;
 
-/* One satellite of the mask: its system's index, its number, and a bit for each of the system's signals, first
-   signal highest, that is set where the signal counts for it. */
+/* One satellite of the mask: its system's index, its number, a bit for each of the system's signals, first signal
+   highest, that is set where the signal counts for it, and how many are. */
 typedef struct {
   int system;
   int number;
   uint32_t cells;
+  int cell_count;
 } bitwise_satellite;
 
 /* All zero is the empty holding. */

@@ -24,6 +24,7 @@ static int hold_cells(bitwise_mask *to, bitwise_satellite *satellite, uint64_t s
     }
     if (!counts && !to->flag[satellite->system]) return 0;
     satellite->cells = satellite->cells << 1 | (uint32_t)counts;
+    satellite->cell_count += counts;
     to->held.cells += counts;
     j++;
   }
@@ -38,7 +39,7 @@ static int hold_satellites(bitwise_mask *to, const uint8_t *holding, int system)
     if (!(places >> (PLACES - 1 - place) & 1)) continue;
     if (place >= satellite_places[held->system[system].id] || held->satellites == SATELLITES) return 0;
     bitwise_satellite *satellite = &held->satellite[held->satellites];
-    *satellite = (bitwise_satellite){system, place + 1, 0};
+    *satellite = (bitwise_satellite){system, place + 1, 0, 0};
     if (!hold_cells(to, satellite, hold_number(holding, HOLD_STRIPS, 2, held->satellites))) return 0;
     held->satellites++;
   }

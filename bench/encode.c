@@ -47,14 +47,18 @@ unsigned satellite_count(const mask *m) {
   return count;
 }
 
-unsigned cell_count(const mask *m) {
-  unsigned count = 0;
+/* How many cells the selected satellites have; all are selected by all ones. */
+static unsigned cells_of(const mask *m, uint64_t selected) {
+  unsigned count = 0, after = satellite_count(m);
   for (unsigned k = 0; k < m->systems; k++)
-    for (unsigned j = 0; j < ones(m->system[k].satellites); j++) count += ones(m->system[k].cells[j]);
+    for (unsigned j = 0; j < ones(m->system[k].satellites); j++)
+      if (selected >> --after & 1) count += ones(m->system[k].cells[j]);
   return count;
 }
 
-/* How many of the selected satellites are Galileo's, whose IODE has two bits more; all are selected by all ones. */
+unsigned cell_count(const mask *m) { return cells_of(m, UINT64_MAX); }
+
+/* How many of the selected satellites are Galileo's, whose IODE has two bits more. */
 static unsigned galileo_count(const mask *m, uint64_t selected) {
   unsigned after = satellite_count(m);
   for (unsigned k = 0; k < m->systems; k++) {
@@ -118,6 +122,11 @@ void put_phase_biases(stretch *s, const mask *m, unsigned epoch) {
   put_random(s, 17 * cell_count(m));
 }
 
+void put_accuracy(stretch *s, const mask *m, unsigned epoch) {
+  put_head(s, 7, epoch, 5, m->iod);
+  put_random(s, 6 * satellite_count(m));
+}
+
 void put_service(stretch *s, unsigned counter, unsigned size) {
   put_opening(s, 10);
   put(s, 1, counter < 7);
@@ -126,19 +135,29 @@ void put_service(stretch *s, unsigned counter, unsigned size) {
   put_random(s, 40 * (size + 1));
 }
 
-/* The update interval of orbits is 15 s, else 5 s. Network IDs begin with 1. */
-void put_combined(stretch *s, const mask *m, unsigned epoch, const combination *c) {
+/* The flags of sub types 6 and 11, and what a network has after them, its ID being 1 or more; answers the satellites
+   selected. */
+static uint64_t put_selection(stretch *s, const mask *m, const combination *c) {
   unsigned satellites = satellite_count(m);
-  uint64_t selected = satellites == 0 ? 0 : UINT64_MAX >> (64 - satellites);
-  put_head(s, 11, epoch, c->orbit ? 4 : 2, m->iod);
-  put(s, 1, c->orbit);
-  put(s, 1, c->clock);
+  put(s, 1, c->first);
+  put(s, 1, c->second);
   put(s, 1, c->network != NO_NETWORK);
-  if (c->network != NO_NETWORK) {
-    selected = m->selections[c->network];
-    put(s, 5, c->network + 1);
-    put(s, satellites, selected);
-  }
-  if (c->clock) put_random(s, 15 * ones(selected));
-  if (c->orbit) put_random(s, 49 * ones(selected) + 2 * galileo_count(m, selected));
+  if (c->network == NO_NETWORK) return satellites == 0 ? 0 : UINT64_MAX >> (64 - satellites);
+  put(s, 5, c->network + 1);
+  put(s, satellites, m->selections[c->network]);
+  return m->selections[c->network];
+}
+
+/* The update interval of orbits is 15 s, else 5 s. */
+void put_combined(stretch *s, const mask *m, unsigned epoch, const combination *c) {
+  put_head(s, 11, epoch, c->first ? 4 : 2, m->iod);
+  uint64_t selected = put_selection(s, m, c);
+  if (c->first) put_random(s, 49 * ones(selected) + 2 * galileo_count(m, selected));
+  if (c->second) put_random(s, 15 * ones(selected));
+}
+
+void put_combined_biases(stretch *s, const mask *m, unsigned epoch, const combination *c) {
+  put_head(s, 6, epoch, 5, m->iod);
+  uint64_t selected = put_selection(s, m, c);
+  put_random(s, ((c->first ? 11 : 0) + (c->second ? 15 + 2 : 0)) * cells_of(m, selected));
 }

@@ -1,5 +1,5 @@
-/* An encoder of messages (document 01, "Message layouts"), for the inputs of the benches. What a message has no better
-   value for is random, from a fixed seed: the same at every run. */
+/* An encoder of messages (document 01, "Message layouts"; document 02, Ask 1), for the inputs of the benches. What a
+   message has no better value for is random, from a fixed seed: the same at every run. */
 #ifndef BENCH_ENCODE_H
 #define BENCH_ENCODE_H
 
@@ -29,7 +29,7 @@ typedef struct {
   unsigned iod;
   unsigned systems;
   constellation system[SYSTEMS];
-  uint64_t selections[NETWORKS]; /* the satellites of each network, for sub type 11 */
+  uint64_t selections[NETWORKS]; /* the satellites of each network, the first one highest, for sub types 6 and 11 */
 } mask;
 
 /* A random number under n; a random number of so many bits, wanted of which are set. */
@@ -47,15 +47,18 @@ void put_orbits(stretch *s, const mask *m, unsigned epoch);
 void put_clocks(stretch *s, const mask *m, unsigned epoch);
 void put_code_biases(stretch *s, const mask *m, unsigned epoch);
 void put_phase_biases(stretch *s, const mask *m, unsigned epoch);
+void put_accuracy(stretch *s, const mask *m, unsigned epoch);
 void put_service(stretch *s, unsigned counter, unsigned size);
 
-/* Sub type 11: what it has for each satellite, and of which network (from 0), all satellites with NO_NETWORK. */
+/* Sub types 11 and 6: their two flags, of orbit and clock or of code and phase bias, and of which network (from 0), all
+   satellites with NO_NETWORK. In sub type 6 a network has no satellite without a cell: that is refused. */
 enum { NO_NETWORK = NETWORKS };
 typedef struct {
-  unsigned orbit;
-  unsigned clock;
+  unsigned first;
+  unsigned second;
   unsigned network;
 } combination;
 void put_combined(stretch *s, const mask *m, unsigned epoch, const combination *c);
+void put_combined_biases(stretch *s, const mask *m, unsigned epoch, const combination *c);
 
 #endif

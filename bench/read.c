@@ -181,13 +181,13 @@ static void check_lent(const uint8_t *bytes) {
 
 /* Prints the checksum, the stretches and totals; of damaged ones, how often each stop from 0 on was. */
 static void check(bool damaged) {
-  static const int subtypes[] = {1, 2, 3, 4, 5, 10, 11};
+  static const int subtypes[] = {1, 2, 3, 4, 5, 6, 7, 10, 11};
   for (size_t k = 0; k < HUNDURZEK_ROOM; k++) by_message.rows[k] = by_walk.rows[k] = (int32_t)(3 * k + 1);
   for (size_t k = 0; k < stretch_count; k++) check_stretch(&stretches[k], damaged);
   if (damaged) check_lent(stretches[0].bytes);
   printf("%016" PRIx64 " %zu %" PRIu64 " %" PRIu64, totals.checksum, stretch_count, totals.bits, totals.padding);
   printf(" %" PRIu64 " %" PRIu64, totals.rows, totals.messages);
-  for (size_t k = 0; k < 7; k++) printf(" %" PRIu64, totals.subtypes[subtypes[k]]);
+  for (size_t k = 0; k < 9; k++) printf(" %" PRIu64, totals.subtypes[subtypes[k]]);
   for (size_t k = 0; damaged && k < 13; k++) printf(" %" PRIu64, totals.stops[k]);
   printf("\n");
 }

@@ -49,7 +49,7 @@ growth_row() {
 stops_row() {
     stretches=$2
     messages=$6
-    shift 13
+    shift 15
     echo "| $(columns "$stretches" "$messages" "$@") |"
 }
 
@@ -59,8 +59,8 @@ for input in $INPUTS; do
     echo "$input $totals"
 done >$handed
 
-echo '| input | stretches | bits | padding | rows | messages | sub type 1 | 2 | 3 | 4 | 5 | 10 | 11 |'
-echo '|---|---|---|---|---|---|---|---|---|---|---|---|---|'
+echo '| input | stretches | bits | padding | rows | messages | sub type 1 | 2 | 3 | 4 | 5 | 6 | 7 | 10 | 11 |'
+echo '|---|---|---|---|---|---|---|---|---|---|---|---|---|---|---|'
 while read -r input totals; do
     input_row "$input" $totals
 done <$handed

@@ -23,9 +23,10 @@ static mask draw_mask(unsigned iod) {
   return m;
 }
 
-/* The k-th subframe of the hour; a frame is six. Sub types in the order of the source's Table 4.1.2-41. Clocks
-   stand in each, four of the twelve networks have orbits in each, what comes every 30 s is spread over the frame, and a
-   second mask stands in its middle, for late joiners. */
+/* The k-th subframe of the hour; a frame is six. Sub types in the order of the source's Table 4.1.2-41, which has two
+   networks for each subframe: these have orbits and biases in it, and with six others clocks. Clocks of all satellites
+   stand in each, what else comes every 30 s is spread over the frame, and a second mask stands in its middle, for late
+   joiners. */
 static void make_subframe(stretch *s, const mask *m, unsigned k) {
   unsigned epoch = 5 * k, part = k % 6;
   *s = (stretch){0};
@@ -33,10 +34,14 @@ static void make_subframe(stretch *s, const mask *m, unsigned k) {
   if (part == 0) put_orbits(s, m, epoch);
   put_clocks(s, m, epoch);
   for (unsigned network = 0; network < NETWORKS; network++)
-    put_combined(s, m, epoch, &(combination){network % 3 == part % 3, 1, network});
+    if (network % 3 != (part + 1) % 3) put_combined(s, m, epoch, &(combination){network % 6 == part, 1, network});
   if (part == 1) put_code_biases(s, m, epoch);
   if (part == 2) put_phase_biases(s, m, epoch);
-  if (part > 3) put_service(s, k / 6 * 2 % 8 + part - 4, below(4));
+  if (part == 4) put_combined_biases(s, m, epoch, &(combination){1, 1, NO_NETWORK});
+  for (unsigned network = part; network < NETWORKS; network += 6)
+    put_combined_biases(s, m, epoch, &(combination){1, 1, network});
+  if (part == 0) put_accuracy(s, m, epoch);
+  if (part == 3 || part == 5) put_service(s, k / 6 * 2 % 8 + part / 5, below(4));
   assert(s->end <= SUBFRAME);
   s->end = SUBFRAME;
 }
@@ -51,7 +56,7 @@ static size_t make_hour(stretch *stretches) {
   return HOUR;
 }
 
-/* ---- one message again and again: (b) to (g) */
+/* ---- one message again and again: (b) to (h) */
 
 typedef void putter(stretch *s, const mask *m, unsigned epoch);
 
@@ -83,12 +88,20 @@ static mask mask_of_two(unsigned first_signals, unsigned second_signals, unsigne
   return m;
 }
 
-/* (b) has four signals for each satellite and no cell mask. */
-static size_t make_biases(stretch *stretches) {
+/* (b) and (d) have four signals for each satellite and no cell mask. */
+static size_t repeat_biases(stretch *stretches, unsigned count, putter *put_one) {
   mask m = mask_of_two(0x80A4, 0xA480, 0);
   for (unsigned k = 0; k < 40; k++) m.system[0].cells[k] = m.system[1].cells[k] = 0xF;
-  return repeat(stretches, COUNT, &m, put_phase_biases);
+  return repeat(stretches, count, &m, put_one);
 }
+
+static size_t make_biases(stretch *stretches) { return repeat_biases(stretches, COUNT, put_phase_biases); }
+
+static void put_all_biases(stretch *s, const mask *m, unsigned epoch) {
+  put_combined_biases(s, m, epoch, &(combination){1, 1, NO_NETWORK});
+}
+
+static size_t make_combined_biases(stretch *stretches) { return repeat_biases(stretches, FEW, put_all_biases); }
 
 /* (c) has a mask of no systems. */
 static size_t make_heads(stretch *stretches) { return repeat(stretches, COUNT, &(mask){.iod = 7}, put_clocks); }
@@ -105,17 +118,7 @@ static mask full_mask(unsigned signals) {
   return m;
 }
 
-enum { FOUR_SIGNALS = 0xA480, NO_SIGNALS = 0 };
-
-static void put_keys(stretch *s, const mask *m, unsigned epoch) {
-  put_combined(s, m, epoch, &(combination){0, 0, NO_NETWORK});
-}
-
-/* (d) has rows with keys and no values. */
-static size_t make_keys(stretch *stretches) {
-  mask m = full_mask(FOUR_SIGNALS);
-  return repeat(stretches, FEW, &m, put_keys);
-}
+enum { FOUR_SIGNALS = 0xA480, ONE_SIGNAL = 0x8000, NO_SIGNALS = 0 };
 
 /* (e) is nothing but masks. */
 static size_t repeat_mask(stretch *stretches, const mask *m) { return repeat(stretches, FEW, m, put_mask); }
@@ -149,7 +152,11 @@ static void put_one_combined(stretch *s, const mask *m, unsigned epoch) {
   put_combined(s, m, epoch, &(combination){1, 1, 0});
 }
 
-/* (g) has messages of one satellite, with one signal; sub type 11 has all that it can have, and a network. */
+static void put_network_biases(stretch *s, const mask *m, unsigned epoch) {
+  put_combined_biases(s, m, epoch, &(combination){1, 1, 0});
+}
+
+/* (g) has messages of one satellite, with one signal; sub types 6 and 11 have all that they can have, and a network. */
 static size_t repeat_single(stretch *stretches, putter *put_one) {
   mask m = {.iod = 7, .systems = 1, .selections = {1}};
   m.system[0] = (constellation){.id = GPS, .satellites = choose(1, 40), .signals = 0x8000, .flag = 1, .cells = {1}};
@@ -160,7 +167,29 @@ static size_t make_an_orbit(stretch *stretches) { return repeat_single(stretches
 static size_t make_a_clock(stretch *stretches) { return repeat_single(stretches, put_clocks); }
 static size_t make_a_code_bias(stretch *stretches) { return repeat_single(stretches, put_code_biases); }
 static size_t make_a_phase_bias(stretch *stretches) { return repeat_single(stretches, put_phase_biases); }
+static size_t make_both_biases(stretch *stretches) { return repeat_single(stretches, put_network_biases); }
+static size_t make_an_accuracy(stretch *stretches) { return repeat_single(stretches, put_accuracy); }
 static size_t make_a_combination(stretch *stretches) { return repeat_single(stretches, put_one_combined); }
+
+static void put_keys(stretch *s, const mask *m, unsigned epoch) {
+  put_combined(s, m, epoch, &(combination){0, 0, NO_NETWORK});
+}
+
+/* (h) has rows with keys and no values. */
+static size_t make_keys(stretch *stretches) {
+  mask m = full_mask(FOUR_SIGNALS);
+  return repeat(stretches, FEW, &m, put_keys);
+}
+
+/* The network has the satellites with a cell, the second, the fourth and so on: each system has an even number of them.
+   Damage makes selections that name another. */
+static size_t make_bare(stretch *stretches) {
+  mask m = full_mask(ONE_SIGNAL);
+  m.selections[0] = UINT64_C(0x5555555555555555);
+  for (unsigned k = 0; k < SYSTEMS; k++)
+    for (unsigned j = 0; j < PLACES; j += 2) m.system[k].cells[j] = 0;
+  return repeat(stretches, FEW, &m, put_network_biases);
+}
 
 /* ---- growth */
 
@@ -215,8 +244,9 @@ static size_t make_damaged(stretch *stretches) {
   static const struct {
     const char *input;
     unsigned share;
-  } sources[] = {{"a", 2400}, {"e1", 960}, {"e2", 240}, {"e3", 960}, {"d", 240}, {"f", 240},
-                 {"g2", 144}, {"g3", 144}, {"g4", 144}, {"g5", 144}, {"g11", 144}};
+  } sources[] = {{"a", 2400}, {"d", 240},  {"e1", 840}, {"e2", 120}, {"e3", 840},
+                 {"f", 120},  {"g2", 120}, {"g3", 120}, {"g4", 120}, {"g5", 120},
+                 {"g6", 120}, {"g7", 120}, {"g11", 120}, {"h", 120}, {"bare", 240}};
   static stretch whole[HOUR];
   size_t made = 0;
   for (size_t k = 0; k < sizeof sources / sizeof *sources; k++) {
@@ -236,11 +266,13 @@ static const struct {
   const char *name;
   size_t (*make)(stretch *stretches);
 } inputs[] = {
-    {"a", make_hour},           {"b", make_biases},      {"c", make_heads},
-    {"d", make_keys},           {"e1", make_masks},      {"e2", make_no_systems},
-    {"e3", make_no_signals},    {"e4", make_no_signals_of_two}, {"f", make_services},
-    {"g2", make_an_orbit},      {"g3", make_a_clock},    {"g4", make_a_code_bias},
-    {"g5", make_a_phase_bias},  {"g11", make_a_combination}, {DAMAGED, make_damaged},
+    {"a", make_hour},          {"b", make_biases},       {"c", make_heads},
+    {"d", make_combined_biases}, {"e1", make_masks},     {"e2", make_no_systems},
+    {"e3", make_no_signals},   {"e4", make_no_signals_of_two}, {"f", make_services},
+    {"g2", make_an_orbit},     {"g3", make_a_clock},     {"g4", make_a_code_bias},
+    {"g5", make_a_phase_bias}, {"g6", make_both_biases}, {"g7", make_an_accuracy},
+    {"g11", make_a_combination}, {"h", make_keys},       {"bare", make_bare},
+    {DAMAGED, make_damaged},
 };
 
 size_t make_input(stretch *stretches, const char *name) {

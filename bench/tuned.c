@@ -1,130 +1,11 @@
-/* Document 01's reader, tuned. Titles in comments are that document's. */
+/* Document 01's reader, and of document 02 Asks 1 and 7, tuned. Titles in comments are document 01's. */
 #include "tuned.h"
 
+#include "tuned_masks.h"
 #include "tuned_rows.h"
 #include "tuned_windows.h"
 
-/* ---- sub type 1 */
-
-typedef struct {
-  const uint8_t *bytes;
-  uint64_t place;
-  uint64_t end;
-  uint32_t named; /* a bit for each system */
-} mask_source;
-
-ALWAYS void put_half(tuned_half *half, uint64_t low, uint64_t high) {
-  memcpy(&half->number[0], &low, sizeof low);
-  memcpy(&half->number[2], &high, sizeof high);
-}
-
-/* Two numbers of a row, as they lie in it. */
-ALWAYS uint64_t two(uint32_t first, uint32_t second) { return first | (uint64_t)second << 32; }
-
-/* From the last satellite on, which has the lowest bit. */
-ALWAYS void list_satellites(tuned_half *key, uint32_t id, uint64_t places) {
-  const uint64_t number = UINT64_C(1) << 32, low = id + 40 * number;
-  const uint64_t high = two((uint32_t)HUNDURZEK_ABSENT, (uint32_t)HUNDURZEK_ABSENT);
-  for (; places; places &= places - 1) put_half(key++, low - number * (uint64_t)__builtin_ctzll(places), high);
-}
-
-/* The places of the set bits, the last first: the j-th lowest bit is the j-th number. */
-ALWAYS void list_signals(uint32_t signals, uint64_t *places) {
-  for (; signals; signals &= signals - 1) *places++ = 15 - (uint64_t)__builtin_ctz(signals);
-}
-
-/* Where a cell mask stands: its bits for one satellite after another. */
-static uint32_t count_cells(const mask_source *m, uint32_t bits) {
-  enum { STEP = 56 };
-  uint32_t count = 0;
-  uint64_t place = m->place;
-  for (; bits > STEP; bits -= STEP, place += STEP) count += ones(window(m->bytes, place) >> (64 - STEP));
-  return bits == 0 ? count : count + ones(window(m->bytes, place) >> (64 - bits));
-}
-
-/* A satellite's cells, before those of the satellites after it; answers where the list begins then. */
-ALWAYS tuned_half *list_strip(tuned_half *end, uint64_t cells, const tuned_half *satellite, const uint64_t *places) {
-  uint64_t low;
-  memcpy(&low, satellite, sizeof low);
-  for (; cells; cells &= cells - 1) put_half(--end, low, places[__builtin_ctzll(cells)]);
-  return end;
-}
-
-/* The cells of the count last satellites: those of a cell mask, or all. */
-static void list_cells(tuned_mask *mask, const mask_source *m, uint32_t count, uint32_t signals, bool flag) {
-  uint64_t places[16];
-  const uint32_t width = ones(signals);
-  tuned_half *end = mask->cell + mask->cells;
-  const tuned_half *satellite = last_satellite(mask), *past = satellite + count;
-  uint64_t place = m->place + width * count;
-  list_signals(signals, places);
-  for (; satellite < past; satellite++) {
-    place -= width;
-    uint64_t cells = flag ? window(m->bytes, place) >> (64 - width) : (UINT64_C(1) << width) - 1;
-    end = list_strip(end, cells, satellite, places);
-  }
-}
-
-/* After the signal mask: the cells of the count last satellites. */
-ALWAYS uint64_t read_cells(stretch *s, mask_source *m, tuned_mask *mask, uint32_t count, uint32_t signals, bool flag) {
-  uint32_t bits = count * ones(signals), cells = bits;
-  if (flag) {
-    if (m->end - m->place < bits) return stop_short(s, bits, m->end - m->place);
-    cells = count_cells(m, bits);
-  }
-  mask->cells += cells;
-  if (mask->cells > TUNED_CELLS) return stop(s, SIZE);
-  if (cells > 0) list_cells(mask, m, count, signals, flag);
-  if (flag) m->place += bits;
-  return MESSAGE;
-}
-
-ALWAYS uint64_t read_system(stretch *s, mask_source *m, tuned_mask *mask) {
-  uint64_t left = m->end - m->place, bits = window(m->bytes, m->place), satellites = bits << 4 >> 24;
-  uint32_t id = (uint32_t)(bits >> 60), count = ones(satellites);
-  if (left < 4) return stop_short(s, 4, left);
-  if (id >= SYSTEMS || m->named >> id & 1) return stop(s, SYSTEM);
-  if (left < 44) return stop_short(s, 44, left);
-  if (satellites & reserved_satellites[id]) return stop(s, RESERVED);
-  if (mask->satellites + count > TUNED_SATELLITES) return stop(s, SIZE);
-  if (left < 60) return stop_short(s, 60, left);
-  bits = window(m->bytes, m->place + 44);
-  uint32_t signals = (uint32_t)(bits >> 48);
-  if (signals & reserved_signals[id]) return stop(s, RESERVED);
-  if (left < 61) return stop_short(s, 61, left);
-  m->named |= 1u << id;
-  m->place += 61;
-  mask->satellites += count;
-  mask->after_galileo += count;
-  if (id == GALILEO) {
-    mask->galileo = count;
-    mask->after_galileo = 0;
-  }
-  list_satellites(mask->satellite + TUNED_SATELLITES - mask->satellites, id, satellites);
-  return read_cells(s, m, mask, count, signals, bits >> 47 & 1);
-}
-
-/* Five systems, and fifteen signals of 64 satellites in cell masks. */
-enum { MASK_MOST = MASK_HEAD + SYSTEMS * 61 + 15 * TUNED_SATELLITES };
-
-/* "Each good mask message is adopted as the new holding and replaces the old one whole." */
-__attribute__((noinline)) static uint64_t read_mask(stretch *s, uint64_t place, uint64_t first) {
-  uint64_t left = s->end - place;
-  if (left < MASK_HEAD) return stop_in_head(s, mask_ends, left);
-  source from = source_of(s, place, left < MASK_MOST ? left : MASK_MOST);
-  mask_source m = {from.bytes, from.place + MASK_HEAD, from.place + left, 0};
-  tuned_mask *mask = &s->holding->masks[s->holding->current ^ 1];
-  mask->gate = HELD | (uint32_t)cut(first, 41, 4);
-  mask->satellites = mask->cells = mask->galileo = mask->after_galileo = 0;
-  for (int32_t systems = cut(first, 45, 4); systems > 0; systems--)
-    if (read_system(s, &m, mask) == STOPPED) return STOPPED;
-  mask->orbit_bits = ORBIT * mask->satellites + (LONG_ORBIT - ORBIT) * mask->galileo;
-  s->holding->current ^= 1;
-  s->held = mask;
-  return place + (m.place - from.place);
-}
-
-/* ---- sub types 2, 3, 4, 5 and 11 */
+/* ---- sub types 2 to 7 and 11 */
 
 typedef void body(const tuned_mask *m, source b, int32_t *rows);
 
@@ -147,37 +28,68 @@ ALWAYS source past_of(stretch *s, uint64_t place, uint64_t bits) {
   return (source){b.bytes, b.place + bits};
 }
 
-ALWAYS uint64_t read_network(stretch *s, uint64_t place, int parts, uint64_t *rows) {
-  const tuned_mask *m = s->held;
+/* What the flags of sub types 6 and 11 say, and of a network which satellites. */
+typedef struct {
+  int parts;
+  bool network;
+  uint64_t selected;
+} choice;
+
+/* After the network ID: answers where the body begins. */
+ALWAYS uint64_t read_selection(stretch *s, uint64_t place, choice *c) {
+  const uint32_t satellites = s->held->satellites;
   place += NETWORK_END;
-  if (s->end - place < m->satellites) return stop_in_body(s, m->satellites, s->end - place);
-  uint64_t selected = selection(source_of(s, place, m->satellites), m->satellites);
-  place += m->satellites;
-  *rows = ones(selected);
-  uint64_t bits = *rows * satellite_bits(parts, IODE);
-  if (parts & ORBITS) bits += (LONG_IODE - IODE) * ones(selected & galileo_bits(m));
-  if (s->end - place < bits) return stop_in_body(s, bits, s->end - place);
-  put_network(m, selected, past_of(s, place, bits), s->rows + HUNDURZEK_ROW * *rows, parts);
-  return place + bits;
+  if (s->end - place < satellites) return stop_in_body(s, satellites, s->end - place);
+  c->selected = selection(source_of(s, place, satellites), satellites);
+  return place + satellites;
+}
+
+/* After the head: answers where the body begins. */
+ALWAYS uint64_t read_choice(stretch *s, uint64_t place, uint64_t first, hundurzek_head *head, choice *c) {
+  uint64_t left = s->end - place;
+  if (left < FLAGS) return stop_in_body(s, left + 1, left); /* of the next flag its one bit */
+  c->parts = cut(first, 37, 2);
+  c->network = cut(first, 39, 1);
+  head->a = c->parts >> 1;
+  head->b = c->parts & 1;
+  if (!c->network) return place + FLAGS;
+  if (left < NETWORK_END) return stop_in_body(s, NETWORK_END, left);
+  head->c = cut(first, 40, 5);
+  return head->c == 0 ? stop(s, NETWORK) : read_selection(s, place, c);
 }
 
 ALWAYS uint64_t read_combined(stretch *s, uint64_t place, uint64_t first, hundurzek_head *head, uint64_t *rows) {
   const tuned_mask *m = s->held;
-  uint64_t left = s->end - place;
-  if (left < FLAGS) return stop_in_body(s, left + 1, left); /* of the next flag its one bit */
-  int parts = cut(first, 37, 2);
-  head->a = parts >> 1;
-  head->b = parts & 1;
-  if (cut(first, 39, 1)) {
-    if (left < NETWORK_END) return stop_in_body(s, NETWORK_END, left);
-    head->c = cut(first, 40, 5);
-    return head->c == 0 ? stop(s, NETWORK) : read_network(s, place, parts, rows);
+  choice c = {0, false, 0};
+  uint64_t bits;
+  place = read_choice(s, place, first, head, &c);
+  if (place == STOPPED) return STOPPED;
+  if (c.network) {
+    *rows = ones(c.selected);
+    bits = *rows * satellite_bits(c.parts, IODE);
+    if (c.parts & ORBITS) bits += (LONG_IODE - IODE) * ones(c.selected & galileo_bits(m));
+  } else {
+    *rows = m->satellites;
+    bits = (c.parts & CLOCKS ? CLOCK * m->satellites : 0) + (c.parts & ORBITS ? m->orbit_bits : 0);
   }
-  uint64_t bits = (parts & CLOCKS ? CLOCK * m->satellites : 0) + (parts & ORBITS ? m->orbit_bits : 0);
-  if (left - FLAGS < bits) return stop_in_body(s, bits, left - FLAGS);
-  *rows = m->satellites;
-  put_combined(m, past_of(s, place + FLAGS, bits), s->rows, parts);
-  return place + FLAGS + bits;
+  if (s->end - place < bits) return stop_in_body(s, bits, s->end - place);
+  if (c.network) put_network(m, c.selected, past_of(s, place, bits), s->rows + HUNDURZEK_ROW * *rows, c.parts);
+  else put_combined(m, past_of(s, place, bits), s->rows, c.parts);
+  return place + bits;
+}
+
+/* Without a network the cells of all satellites are those of all satellites with a cell. */
+ALWAYS uint64_t read_both_biases(stretch *s, uint64_t place, uint64_t first, hundurzek_head *head, uint64_t *rows) {
+  const tuned_mask *m = s->held;
+  choice c = {0, false, 0};
+  place = read_choice(s, place, first, head, &c);
+  if (place == STOPPED) return STOPPED;
+  if (c.network && c.selected & ~m->celled) return stop(s, NETWORK);
+  *rows = c.network ? count_selected(m, c.selected) : m->cells;
+  uint64_t bits = *rows * cell_bits(c.parts);
+  if (s->end - place < bits) return stop_in_body(s, bits, s->end - place);
+  put_cells(m, c.network ? c.selected : m->celled, source_of(s, place, bits), s->rows, c.parts);
+  return place + bits;
 }
 
 /* The head of 37 bits: whether the held mask is the message's. */
@@ -244,6 +156,8 @@ __attribute__((noinline)) static uint64_t refuse(stretch *s, uint64_t place, uin
     case 3:
     case 4:
     case 5:
+    case 6:
+    case 7:
     case 11: return stop_in_head(s, head_ends, left);
     case 10:
       if (left < SERVICE_HEAD) return stop_in_head(s, service_ends, left);
@@ -285,6 +199,13 @@ ALWAYS uint64_t read_next(stretch *s, uint64_t place, hundurzek_head *head, uint
       if (!pass_head(s, first, head)) return STOPPED;
       *rows = s->held->cells;
       return read_body(s, place, (PHASE + DISCONTINUITY) * *rows, put_phase_biases);
+    case 6:
+      if (!pass_head(s, first, head)) return STOPPED;
+      return read_both_biases(s, place, first, head, rows);
+    case 7:
+      if (!pass_head(s, first, head)) return STOPPED;
+      *rows = s->held->satellites;
+      return read_body(s, place, ACCURACY * *rows, put_accuracies);
     case 10: return read_service(s, place, first, head, rows);
     case 11:
       if (!pass_head(s, first, head)) return STOPPED;

@@ -14,8 +14,15 @@ typedef struct {
   int32_t number[HUNDURZEK_ROW / 2];
 } tuned_half;
 
+/* A satellite's first cell, and the one after its last. */
+typedef struct {
+  uint16_t first;
+  uint16_t past;
+} tuned_strip;
+
 /* The satellites' keys end where their list ends, the last satellite first: so a satellite's index in them is that of
-   its bit in a selection. Galileo's, if any, stand together, with so many after them. Cells stand from the first on. */
+   its bit in a selection. Galileo's, if any, stand together, with so many after them. Cells stand from the first on;
+   which of them are a satellite's stands in its strip, if it has any. */
 typedef struct {
   uint32_t gate; /* the IOD SSR, and 16 where the mask is held: 0 holds nothing */
   uint32_t satellites;
@@ -23,6 +30,8 @@ typedef struct {
   uint32_t orbit_bits; /* of all satellites */
   uint32_t galileo;
   uint32_t after_galileo;
+  uint64_t celled; /* the satellites with a cell, as a selection has them */
+  tuned_strip strip[TUNED_SATELLITES];
   tuned_half satellite[TUNED_SATELLITES];
   tuned_half cell[TUNED_CELLS];
 } tuned_mask;

@@ -43,6 +43,8 @@ static void hold_system(tuned_sent_mask *to, const uint8_t *holding, int k) {
     to->satellite[to->satellites++] = key;
     to->index[id][number] = (uint8_t)to->satellites;
     hold_cells(to, key, signals, strip, holding[HOLD_FLAG + k]);
+    to->first_cell[to->satellites] = to->cells;
+    to->celled = to->celled << 1 | (strip != 0);
   }
   if (id != 2) return;
   to->first_galileo = first;

@@ -7,32 +7,39 @@
 
 ALWAYS const tuned_half *last_satellite(const tuned_mask *m) { return m->satellite + TUNED_SATELLITES - m->satellites; }
 
-ALWAYS void put_row(int32_t *row, const tuned_half *key, int32_t v1) {
-  memcpy(row, key, sizeof *key);
-  row[3] = v1;
-  memcpy(row + 4, &absent, sizeof absent);
-}
-
-/* What a row has: a value, and a discontinuity or, with 0 bits, none; and where the next row's key is. All of it is
-   known when this is compiled. */
+/* A field of a row, absent where it has no bits; what a row has; and where the next row's key is. All of it is known
+   when this is compiled. */
 typedef struct {
-  unsigned value;
-  unsigned discontinuity;
+  unsigned width;
+  bool sign;
+} field;
+
+typedef struct {
+  field v1, v2, v3;
   int next;
 } shape;
 
-/* A row's values begin with bit 'from' of a window. */
-ALWAYS void put_values(int32_t *row, const tuned_half *key, uint64_t bits, unsigned from, shape has) {
-  put_row(row, key, cut_signed(bits, from, has.value));
-  if (has.discontinuity) row[4] = cut(bits, from + has.value, has.discontinuity);
+ALWAYS unsigned row_bits(shape has) { return has.v1.width + has.v2.width + has.v3.width; }
+
+ALWAYS int32_t cut_field(uint64_t bits, unsigned from, field f) {
+  return f.sign ? cut_signed(bits, from, f.width) : cut(bits, from, f.width);
 }
 
-/* As many rows from one window as have their bits in 57. */
+/* A row's values begin with bit 'from' of a window. */
+ALWAYS void put_values(int32_t *row, const tuned_half *key, uint64_t bits, unsigned from, shape has) {
+  memcpy(row, key, sizeof *key);
+  memcpy(row + 4, &absent, sizeof absent);
+  if (has.v1.width) row[3] = cut_field(bits, from, has.v1);
+  if (has.v2.width) row[4] = cut_field(bits, from + has.v1.width, has.v2);
+  if (has.v3.width) row[5] = cut_field(bits, from + has.v1.width + has.v2.width, has.v3);
+}
+
+/* As many rows from one window as have their bits in 57; of rows without bits four at a turn. */
 ALWAYS void put_rows(const tuned_half *key, uint32_t count, source b, int32_t *row, shape has) {
-  const unsigned step = has.value + has.discontinuity, batch = 57 / step;
+  const unsigned step = row_bits(has), batch = step == 0 ? 4 : 57 / step;
   for (; count >= batch; count -= batch) {
     uint64_t bits = window(b.bytes, b.place);
-#pragma GCC unroll 5
+#pragma GCC unroll 9
     for (unsigned k = 0; k < batch; k++)
       put_values(row + HUNDURZEK_ROW * k, key + has.next * (int)k, bits, k * step, has);
     key += has.next * (int)batch;
@@ -43,17 +50,82 @@ ALWAYS void put_rows(const tuned_half *key, uint32_t count, source b, int32_t *r
     put_values(row, key, window(b.bytes, b.place), 0, has);
 }
 
+#define NOTHING {0, false}
+static const shape clocks = {{CLOCK, true}, NOTHING, NOTHING, -1};
+static const shape accuracies = {{ACCURACY, false}, NOTHING, NOTHING, -1};
+static const shape codes = {{CODE, true}, NOTHING, NOTHING, 1};
+static const shape phases = {{PHASE, true}, {DISCONTINUITY, false}, NOTHING, 1};
+static const shape second_phases = {NOTHING, {PHASE, true}, {DISCONTINUITY, false}, 1};
+static const shape codes_phases = {{CODE, true}, {PHASE, true}, {DISCONTINUITY, false}, 1};
+static const shape cell_keys = {NOTHING, NOTHING, NOTHING, 1};
+
 __attribute__((noinline)) static void put_clocks(const tuned_mask *m, source b, int32_t *rows) {
-  put_rows(m->satellite + TUNED_SATELLITES - 1, m->satellites, b, rows, (shape){CLOCK, 0, -1});
+  put_rows(m->satellite + TUNED_SATELLITES - 1, m->satellites, b, rows, clocks);
+}
+
+__attribute__((noinline)) static void put_accuracies(const tuned_mask *m, source b, int32_t *rows) {
+  put_rows(m->satellite + TUNED_SATELLITES - 1, m->satellites, b, rows, accuracies);
 }
 
 __attribute__((noinline)) static void put_code_biases(const tuned_mask *m, source b, int32_t *rows) {
-  put_rows(m->cell, m->cells, b, rows, (shape){CODE, 0, 1});
+  put_rows(m->cell, m->cells, b, rows, codes);
 }
 
 __attribute__((noinline)) static void put_phase_biases(const tuned_mask *m, source b, int32_t *rows) {
-  put_rows(m->cell, m->cells, b, rows, (shape){PHASE, DISCONTINUITY, 1});
+  put_rows(m->cell, m->cells, b, rows, phases);
 }
+
+/* ---- cells of selected satellites: those of satellites that stand together stand together */
+
+/* So many cells from one on. */
+typedef struct {
+  uint32_t first;
+  uint32_t count;
+} run;
+
+/* The cells of the first selected satellites that stand together, and those taken from the selection; each has some. */
+ALWAYS run next_run(const tuned_mask *m, uint64_t *selected) {
+  const tuned_strip *of_last = m->strip + TUNED_SATELLITES - m->satellites;
+  unsigned first = 63 - (unsigned)__builtin_clzll(*selected);
+  uint64_t others = ~*selected & ((UINT64_C(1) << first) - 1);
+  unsigned last = others == 0 ? 0 : 64 - (unsigned)__builtin_clzll(others);
+  *selected &= (UINT64_C(1) << last) - 1;
+  return (run){of_last[first].first, (uint32_t)of_last[last].past - of_last[first].first};
+}
+
+ALWAYS uint32_t count_selected(const tuned_mask *m, uint64_t selected) {
+  uint32_t count = 0;
+  while (selected) count += next_run(m, &selected).count;
+  return count;
+}
+
+ALWAYS void put_selected_cells(const tuned_mask *m, uint64_t selected, source b, int32_t *rows, shape has) {
+  while (selected) {
+    run r = next_run(m, &selected);
+    put_rows(m->cell + r.first, r.count, b, rows, has);
+    rows += HUNDURZEK_ROW * r.count;
+    b.place += row_bits(has) * r.count;
+  }
+}
+
+/* What a message has for each cell, as the two flags of sub type 6 say it. */
+enum { NEITHER, SECOND_PHASES, CODES, CODES_PHASES };
+
+ALWAYS uint64_t cell_bits(int parts) {
+  return (parts & CODES ? CODE : 0) + (parts & SECOND_PHASES ? PHASE + DISCONTINUITY : 0);
+}
+
+__attribute__((noinline)) static void put_cells(const tuned_mask *m, uint64_t selected, source b, int32_t *rows,
+                                                int parts) {
+  switch (parts) {
+    case NEITHER: put_selected_cells(m, selected, b, rows, cell_keys); break;
+    case SECOND_PHASES: put_selected_cells(m, selected, b, rows, second_phases); break;
+    case CODES: put_selected_cells(m, selected, b, rows, codes); break;
+    default: put_selected_cells(m, selected, b, rows, codes_phases);
+  }
+}
+
+/* ---- satellites, all or selected */
 
 /* What a message has for each satellite, as the two flags of sub type 11 say it; the bits of an IODE. */
 enum { KEYS, CLOCKS, ORBITS, ORBITS_CLOCKS };

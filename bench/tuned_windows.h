@@ -17,10 +17,10 @@ enum {
 /* "Message layouts": bits before a body or a mask's systems, and of one element after them. */
 enum {
   HEAD = 37, MASK_HEAD = 49, SERVICE_HEAD = 22, FLAGS = 40, NETWORK_END = 45,
-  ORBIT = 49, LONG_ORBIT = 51, CLOCK = 15, CODE = 11, PHASE = 15, DISCONTINUITY = 2, SERVICE = 40
+  ORBIT = 49, LONG_ORBIT = 51, CLOCK = 15, CODE = 11, PHASE = 15, DISCONTINUITY = 2, ACCURACY = 6, SERVICE = 40
 };
 
-/* Where the fields of a head end, a bit for each: sub type 1's, those of 2, 3, 4, 5 and 11, sub type 10's. */
+/* Where the fields of a head end, a bit for each: sub type 1's, those of 2 to 7 and 11, sub type 10's. */
 #define END(place) (UINT64_C(1) << (place))
 static const uint64_t mask_ends = END(36) | END(40) | END(41) | END(45) | END(MASK_HEAD);
 static const uint64_t head_ends = END(28) | END(32) | END(33) | END(HEAD);
@@ -69,8 +69,8 @@ ALWAYS uint32_t ones(uint64_t bits) {
 
 /* ---- where the stretch ends: copies with eight bytes after them */
 
-/* The longest message is of sub type 5 and 256 cells, 4,389 bits. */
-enum { WINDOW = 8, COPIED = 560 };
+/* The longest body is sub type 6's of 256 cells, 7,168 bits. */
+enum { WINDOW = 8, COPIED = 904 };
 
 typedef struct {
   const uint8_t *bytes;

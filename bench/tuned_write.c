@@ -1,86 +1,7 @@
-/* Document 01's writer, tuned. Titles in comments are that document's. */
+/* Document 01's writer, and of document 02 Ask 1, tuned. Titles in comments are document 01's. */
 #include "tuned_write.h"
 
-#include <string.h>
-
-/* "Answer numbers" that a writer gives, and the one of docs/HOST.md for a message written. */
-enum {
-  ROOM = 1, PLACE = 2, SUBTYPE = 5, NO_MASK = 6, OTHER_ISSUE = 7, NETWORK = 11, VALUE = 12,
-  DONE = HUNDURZEK_DONE
-};
-
-/* The columns of a head; "Message layouts": bits of fields. */
-enum { KIND, EPOCH, INTERVAL, INDICATOR, IOD, A, B, C };
-enum { RADIAL = 15, TRACK = 13, CLOCK = 15, CODE = 11, PHASE = 15, DISCONTINUITY = 2, IODE = 8, LONG_IODE = 10 };
-
-enum { HELD = 16, LONGEST = 50850, NUMBER = 4073 };
-
-#define ABSENT ((uint32_t)HUNDURZEK_ABSENT)
-#define ALWAYS static inline __attribute__((always_inline))
-
-/* Numbers joined in a vector register take more instructions than their loads and stores. */
-#pragma GCC optimize("no-tree-slp-vectorize", "no-tree-vectorize")
-
-/* ---- tests without a branch: what is not 0 is bad */
-
-/* Two numbers as they lie in a row. */
-ALWAYS uint64_t two_at(const int32_t *numbers) {
-  uint64_t two;
-  memcpy(&two, numbers, sizeof two);
-  return two;
-}
-
-ALWAYS uint64_t not_absent(int32_t number) { return (uint32_t)number ^ ABSENT; }
-
-ALWAYS uint64_t not_absents(const int32_t *numbers) { return two_at(numbers) ^ (ABSENT | (uint64_t)ABSENT << 32); }
-
-ALWAYS uint64_t over(int32_t value, unsigned width) { return (uint32_t)value >> width; }
-
-ALWAYS uint64_t over_signed(int32_t value, unsigned width) {
-  return ((uint32_t)value + (1u << (width - 1))) >> width;
-}
-
-ALWAYS uint64_t low(int32_t value, unsigned width) { return (uint32_t)value & ((1u << width) - 1); }
-
-/* A plain x86-64 counts no ones. */
-ALWAYS uint32_t ones(uint64_t bits) {
-  bits -= bits >> 1 & UINT64_C(0x5555555555555555);
-  bits = (bits & UINT64_C(0x3333333333333333)) + (bits >> 2 & UINT64_C(0x3333333333333333));
-  bits = (bits + (bits >> 4)) & UINT64_C(0x0F0F0F0F0F0F0F0F);
-  return (uint32_t)(bits * UINT64_C(0x0101010101010101) >> 56);
-}
-
-/* ---- packing: a message apart from the bytes lent, from the same bit of a byte on */
-
-/* The longest message is of sub type 5 and 256 cells, 4,389 bits. A store is of a window. */
-enum { WINDOW = 8, PACKED = 560, MOST = 56 };
-
-typedef struct {
-  uint8_t *at;     /* the byte that holds the next bit */
-  uint64_t carry;  /* its bits before that one, highest */
-  unsigned filled; /* how many these are */
-  uint64_t bad;    /* not 0 where no message reads back */
-} packer;
-
-/* The low bits of a value, 1 to MOST of them. */
-ALWAYS packer push(packer p, uint64_t value, unsigned width) {
-  uint64_t word = p.carry | value << (64 - width) >> p.filled, swapped = __builtin_bswap64(word);
-  memcpy(p.at, &swapped, sizeof swapped);
-  p.filled += width;
-  p.at += p.filled / 8;
-  p.carry = word << (p.filled & 56);
-  p.filled &= 7;
-  return p;
-}
-
-/* Up to 64 bits, or none. */
-ALWAYS packer push_mask(packer p, uint64_t mask, unsigned width) {
-  if (width > 32) {
-    p = push(p, mask >> 32, width - 32);
-    width = 32;
-  }
-  return width == 0 ? p : push(p, mask, width);
-}
+#include "tuned_pack.h"
 
 /* What is to be written. */
 typedef struct {
@@ -98,7 +19,7 @@ ALWAYS uint64_t opening(packer *p, const int32_t *head, unsigned epoch) {
   return ((bits << 4 | (uint32_t)head[INTERVAL]) << 1 | (uint32_t)head[INDICATOR]) << 4 | (uint32_t)head[IOD];
 }
 
-/* The head of sub types 2 to 5. */
+/* The head of sub types 2 to 5 and 7. */
 ALWAYS packer push_head(packer p, const int32_t *head) {
   p.bad |= not_absents(head + A) | not_absent(head[C]);
   uint64_t bits = opening(&p, head, 12);
@@ -123,67 +44,112 @@ ALWAYS packer push_systems(packer p, const sent *s) {
   return p;
 }
 
-/* ---- rows of one value, with a discontinuity or, with 0 bits, without */
+/* ---- sub types 3, 4, 5 and 7 */
 
-/* All of it is known when this is compiled. */
-typedef struct {
-  unsigned value;
-  unsigned discontinuity;
-  int signals;
-} shape;
-
-/* A number that must be one, and after it a value: two tests in one. */
-ALWAYS uint64_t not_before(uint64_t two, uint32_t number, unsigned width) {
-  const uint64_t fitting = ((UINT64_C(1) << width) - 1) << 32;
-  return ((two ^ number) + (UINT64_C(1) << (32 + width - 1))) & ~fitting;
+/* A row for each satellite, or for each cell. */
+ALWAYS packer push_satellite_rows(packer p, const sent *s, field v1) {
+  p.bad |= s->count ^ s->mask->satellites;
+  return p.bad ? p : push_rows(p, (row_list){s->rows, s->mask->satellite, NULL, s->count}, (shape){v1, 0, 0, false});
 }
 
-/* A value, and after it a number that is absent. */
-ALWAYS uint64_t not_alone(uint64_t two, unsigned width) { return (two ^ (uint64_t)ABSENT << 32) >> width; }
-
-ALWAYS uint64_t row_bits(packer *p, const int32_t *row, uint64_t key, uint32_t signal, shape has) {
-  uint64_t two = two_at(row + 2), bits = two >> 32 & ((1u << has.value) - 1);
-  p->bad |= (two_at(row) ^ key) | not_before(two, signal, has.value) | not_absents(row + 6);
-  if (has.discontinuity == 0) {
-    p->bad |= not_absents(row + 4);
-    return bits;
-  }
-  two = two_at(row + 4);
-  p->bad |= not_alone(two, has.discontinuity);
-  return bits << has.discontinuity | (uint32_t)two;
+ALWAYS packer push_cell_rows(packer p, const sent *s, shape has) {
+  p.bad |= s->count ^ s->mask->cells;
+  return p.bad ? p : push_rows(p, (row_list){s->rows, s->mask->cell, s->mask->cell_signal, s->count}, has);
 }
 
-/* As many rows in one window as have room in it. */
-ALWAYS packer push_rows(packer p, const sent *s, uint32_t count, const uint64_t *key, const uint32_t *signal,
-                        shape has) {
-  const unsigned step = has.value + has.discontinuity, batch = MOST / step;
-  const int32_t *row = s->rows;
-  p.bad |= s->count ^ count;
-  if (p.bad) return p;
-  for (; count >= batch; count -= batch) {
-    uint64_t bits = 0;
-#pragma GCC unroll 5
-    for (unsigned k = 0; k < batch; k++, row += HUNDURZEK_ROW, key++)
-      bits = bits << step | row_bits(&p, row, *key, has.signals ? *signal++ : ABSENT, has);
-    p = push(p, bits, batch * step);
+ALWAYS packer push_clocks(packer p, const sent *s) { return push_satellite_rows(p, s, (field){CLOCK, true}); }
+
+ALWAYS packer push_accuracies(packer p, const sent *s) { return push_satellite_rows(p, s, (field){ACCURACY, false}); }
+
+ALWAYS packer push_code_biases(packer p, const sent *s) {
+  return push_cell_rows(p, s, (shape){{CODE, true}, 0, 0, true});
+}
+
+ALWAYS packer push_phase_biases(packer p, const sent *s) {
+  return push_cell_rows(p, s, (shape){{PHASE, true}, DISCONTINUITY, 0, true});
+}
+
+/* ---- flags and selections of sub types 6 and 11 */
+
+/* The head, the flags, and with a network its ID. */
+ALWAYS packer push_flags(packer p, const int32_t *head) {
+  p.bad |= over(head[A], 1) | over(head[B], 1);
+  uint64_t bits = (opening(&p, head, 12) << 1 | (uint32_t)head[A]) << 1 | (uint32_t)head[B];
+  if (!not_absent(head[C])) return push(p, bits << 1, 40);
+  p.bad |= over(head[C], 5);
+  return push(p, (bits << 1 | 1) << 5 | (uint32_t)head[C], 45);
+}
+
+/* The two flags as a number, where they are good. */
+ALWAYS int parts_of(const int32_t *head) { return (int)((uint32_t)head[A] << 1 | (uint32_t)head[B]); }
+
+/* Which satellite of the mask a row names, from 1 on: 0 where it names none. */
+ALWAYS uint32_t index_of(const tuned_sent_mask *m, const int32_t *row) {
+  uint32_t id = (uint32_t)row[0], number = (uint32_t)row[1];
+  return id < TUNED_IDS && number < TUNED_NUMBERS ? m->index[id][number] : 0;
+}
+
+/* Its bit in a selection. */
+ALWAYS uint64_t bit_of(const tuned_sent_mask *m, uint32_t index) {
+  return UINT64_C(1) << ((m->satellites - index) & 63);
+}
+
+/* ---- sub type 6 */
+
+/* The satellites whose cells the rows name, the first one highest; bad where they are none of the mask's, not in its
+   order or have another number of cells than there are rows. */
+ALWAYS uint64_t cell_selection(packer *p, const sent *s) {
+  const tuned_sent_mask *m = s->mask;
+  uint64_t selected = 0, own;
+  uint32_t last = 0;
+  for (uint64_t k = 0; k < s->count; k += own) {
+    uint32_t index = index_of(m, s->rows + HUNDURZEK_ROW * k);
+    own = index > last ? m->first_cell[index] - m->first_cell[index - 1] : 0;
+    if (own == 0 || own > s->count - k) {
+      p->bad = 1;
+      return 0;
+    }
+    selected |= bit_of(m, index);
+    last = index;
   }
-  for (; count > 0; count--, row += HUNDURZEK_ROW, key++) {
-    uint64_t bits = row_bits(&p, row, *key, has.signals ? *signal++ : ABSENT, has);
-    p = push(p, bits, step);
+  return selected;
+}
+
+/* Cells of satellites that stand together stand together. */
+ALWAYS packer push_cells(packer p, const sent *s, uint64_t selected, shape has) {
+  const tuned_sent_mask *m = s->mask;
+  row_list l = {.row = s->rows};
+  while (selected) {
+    unsigned past = 64 - (unsigned)__builtin_clzll(selected);
+    uint64_t others = ~selected & UINT64_MAX >> (64 - past);
+    unsigned last = others == 0 ? 0 : 64 - (unsigned)__builtin_clzll(others);
+    uint32_t first = m->first_cell[m->satellites - past];
+    l = (row_list){l.row, m->cell + first, m->cell_signal + first, m->first_cell[m->satellites - last] - first};
+    p = push_rows(p, l, has);
+    l.row += HUNDURZEK_ROW * l.count;
+    selected &= (UINT64_C(1) << last) - 1;
   }
   return p;
 }
 
-ALWAYS packer push_clocks(packer p, const sent *s) {
-  return push_rows(p, s, s->mask->satellites, s->mask->satellite, NULL, (shape){CLOCK, 0, 0});
-}
-
-ALWAYS packer push_code_biases(packer p, const sent *s) {
-  return push_rows(p, s, s->mask->cells, s->mask->cell, s->mask->cell_signal, (shape){CODE, 0, 1});
-}
-
-ALWAYS packer push_phase_biases(packer p, const sent *s) {
-  return push_rows(p, s, s->mask->cells, s->mask->cell, s->mask->cell_signal, (shape){PHASE, DISCONTINUITY, 1});
+/* Without a network the cells of all satellites are those of all satellites with a cell. */
+ALWAYS packer push_both_biases(packer p, const sent *s) {
+  const tuned_sent_mask *m = s->mask;
+  uint64_t selected = m->celled;
+  p = push_flags(p, s->head);
+  if (not_absent(s->head[C])) {
+    selected = cell_selection(&p, s);
+    p = push_mask(p, selected, m->satellites);
+  } else {
+    p.bad |= s->count ^ m->cells;
+  }
+  if (p.bad) return p;
+  switch (parts_of(s->head)) {
+    case 0: return push_cells(p, s, selected, (shape){{0, false}, 0, 0, true});
+    case 1: return push_cells(p, s, selected, (shape){{0, false}, PHASE, DISCONTINUITY, true});
+    case 2: return push_cells(p, s, selected, (shape){{CODE, true}, 0, 0, true});
+    default: return push_cells(p, s, selected, (shape){{CODE, true}, PHASE, DISCONTINUITY, true});
+  }
 }
 
 /* ---- rows of satellites */
@@ -264,10 +230,9 @@ ALWAYS uint64_t selection(packer *p, const sent *s) {
   uint32_t last = 0;
   const int32_t *row = s->rows, *end = row + HUNDURZEK_ROW * s->count;
   for (; row < end; row += HUNDURZEK_ROW) {
-    uint32_t id = (uint32_t)row[0], number = (uint32_t)row[1];
-    uint32_t index = id < TUNED_IDS && number < TUNED_NUMBERS ? s->mask->index[id][number] : 0;
+    uint32_t index = index_of(s->mask, row);
     p->bad |= index <= last;
-    selected |= UINT64_C(1) << ((s->mask->satellites - index) & 63);
+    selected |= bit_of(s->mask, index);
     last = index;
   }
   return selected;
@@ -290,13 +255,9 @@ ALWAYS packer push_network(packer p, const sent *s, int parts) {
 }
 
 ALWAYS packer push_combined(packer p, const sent *s) {
-  const int32_t *head = s->head;
-  p.bad |= over(head[A], 1) | over(head[B], 1);
-  uint64_t bits = (opening(&p, head, 12) << 1 | (uint32_t)head[A]) << 1 | (uint32_t)head[B];
-  int parts = (int)((uint32_t)head[A] << 1 | (uint32_t)head[B]);
-  if (!not_absent(head[C])) return push_all(push(p, bits << 1, 40), s, parts);
-  p.bad |= over(head[C], 5);
-  return push_network(push(p, (bits << 1 | 1) << 5 | (uint32_t)head[C], 45), s, parts);
+  int parts = parts_of(s->head);
+  p = push_flags(p, s->head);
+  return not_absent(s->head[C]) ? push_network(p, s, parts) : push_all(p, s, parts);
 }
 
 /* ---- sub type 10 */
@@ -327,8 +288,8 @@ ALWAYS packer push_service(packer p, const sent *s) {
 /* 6, 7 and 11, which come before the rest of 12. */
 ALWAYS uint64_t test_mask(const sent *s) {
   uint32_t gate = s->mask->gate;
-  if ((HELD ^ gate) == (uint32_t)s->head[IOD] && gate) return s->head[KIND] == 11 && s->head[C] == 0 ? NETWORK : DONE;
-  return gate ? OTHER_ISSUE : NO_MASK;
+  if ((HELD ^ gate) != (uint32_t)s->head[IOD] || !gate) return gate ? OTHER_ISSUE : NO_MASK;
+  return s->head[C] == 0 && (s->head[KIND] == 6 || s->head[KIND] == 11) ? NETWORK : DONE;
 }
 
 ALWAYS packer push_message(packer p, const sent *s) {
@@ -338,6 +299,8 @@ ALWAYS packer push_message(packer p, const sent *s) {
     case 3: return push_clocks(push_head(p, s->head), s);
     case 4: return push_code_biases(push_head(p, s->head), s);
     case 5: return push_phase_biases(push_head(p, s->head), s);
+    case 6: return push_both_biases(p, s);
+    case 7: return push_accuracies(push_head(p, s->head), s);
     case 10: return push_service(p, s);
     default: return push_combined(p, s);
   }
@@ -355,7 +318,7 @@ ALWAYS void copy(uint8_t *to, uint8_t *packed, unsigned skip, uint64_t bits) {
 /* The message's length, or a refusal in its order. */
 ALWAYS uint64_t write_message(const sent *s, uint64_t lent, uint8_t *bytes, uint64_t start, uint64_t limit,
                               uint64_t *length) {
-  static const uint32_t kinds = 1u << 1 | 1u << 2 | 1u << 3 | 1u << 4 | 1u << 5 | 1u << 10 | 1u << 11;
+  static const uint32_t kinds = 0xFEu | 1u << 10 | 1u << 11; /* 1 to 7, 10 and 11 */
   uint8_t packed[PACKED + WINDOW];
   unsigned skip = start % 8;
   uint32_t kind = (uint32_t)s->head[KIND];

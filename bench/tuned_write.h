@@ -27,6 +27,8 @@ typedef struct {
   uint64_t satellite[TUNED_KEYS];         /* the first two numbers of each row, as they lie in it */
   uint64_t cell[TUNED_CELL_KEYS];         /* the same of cells, */
   uint32_t cell_signal[TUNED_CELL_KEYS];  /* and the third */
+  uint32_t first_cell[TUNED_KEYS + 1];    /* of each satellite, and after the last one's */
+  uint64_t celled;                        /* the satellites with a cell, the first one highest */
   uint8_t index[TUNED_IDS][TUNED_NUMBERS]; /* which satellite it is, from 1 on; 0 where the mask has no such */
   uint32_t systems_bits;
   uint8_t systems_sent[TUNED_SYSTEMS_BYTES];

@@ -7,9 +7,9 @@
 
      MASK    SYSTEMS.SATELLITES.SIGNALS.FLAG.CELLS: the satellites spread over the systems, each system with so many
              signals, so many of which count for each satellite
-     LOOP    messages, joined by commas: m, that mask again; mMASK, another, under which the rest stands; 2, 3, 4, 5;
-             10.SIZE; 11.ORBIT.CLOCK.SELECTED, a network with so many satellites, or all and no network with n; where
-             there is another mask, the loop begins with one, so that it is as long every time
+     LOOP    messages, joined by commas: m, that mask again; mMASK, another, under which the rest stands; 2, 3, 4, 5, 7;
+             10.SIZE; 6.CODE.PHASE.SELECTED and 11.ORBIT.CLOCK.SELECTED, a network with so many satellites, or all and
+             no network with n; where there is another mask, the loop begins with one, so that it is as long every time
 
    The stretch is the mask and the loop again and again, as often as the longest stretch has room. It was read once
    before, so that the holding is the one it leaves. With LOOP - it has no bits. */
@@ -60,30 +60,34 @@ static bool parse_mask(const char *text, mask *m) {
 
 /* ---- messages */
 
-static bool put_message(stretch *s, mask *m, const char *text) {
-  unsigned subtype = (unsigned)atoi(text), size, selected;
+/* What a message of sub type 6 or 11 has after its sub type. */
+static combination parse_combination(const char *text, mask *m) {
   combination c = {0, 0, NO_NETWORK};
+  unsigned selected;
+  if (sscanf(text, "%*u.%u.%u.%u", &c.first, &c.second, &selected) == 3) {
+    c.network = 0;
+    m->selections[0] = top(selected, satellite_count(m));
+  }
+  return c;
+}
+
+static bool put_message(stretch *s, mask *m, const char *text) {
+  combination c = parse_combination(text, m);
   if (*text == 'm') {
     if (text[1] && !parse_mask(text + 1, m)) return false;
     put_mask(s, m, 0);
     return true;
   }
-  switch (subtype) {
+  switch (atoi(text)) {
     case 2: put_orbits(s, m, 0); return true;
     case 3: put_clocks(s, m, 0); return true;
     case 4: put_code_biases(s, m, 0); return true;
     case 5: put_phase_biases(s, m, 0); return true;
-    case 10:
-      size = (unsigned)atoi(text + 3);
-      put_service(s, 0, size);
-      return true;
-    default:
-      if (sscanf(text, "11.%u.%u.%u", &c.orbit, &c.clock, &selected) == 3) {
-        c.network = 0;
-        m->selections[0] = top(selected, satellite_count(m));
-      }
-      put_combined(s, m, 0, &c);
-      return subtype == 11;
+    case 6: put_combined_biases(s, m, 0, &c); return true;
+    case 7: put_accuracy(s, m, 0); return true;
+    case 10: put_service(s, 0, (unsigned)atoi(text + 3)); return true;
+    case 11: put_combined(s, m, 0, &c); return true;
+    default: return false;
   }
 }
 

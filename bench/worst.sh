@@ -39,18 +39,22 @@ first() {
                     if (g[c] > 0) masks(y[a], s[b], g[c], 1, g[c])
                 }
     }
-    function masks(y, s, g, f, c,    mask, orbit, clock) {
+    function masks(y, s, g, f, c,    mask, first, second) {
         if (s * c > 256 || s > 40 * y || (y == 0 && g > 0)) return
         mask = y "." s "." g "." f "." c
-        print mask, "m\n" mask, "2\n" mask, "3\n" mask, "4\n" mask, "5"
+        print mask, "m\n" mask, "2\n" mask, "3\n" mask, "4\n" mask, "5\n" mask, "7"
         print mask, "10.0\n" mask, "10.3"
-        for (orbit = 0; orbit <= 1; orbit++)
-            for (clock = 0; clock <= 1; clock++) {
-                print mask, "11." orbit "." clock ".n"
-                print mask, "11." orbit "." clock ".0"
-                if (s > 0) print mask, "11." orbit "." clock "." s
-                if (s > 1) print mask, "11." orbit "." clock "." int(s / 2)
+        for (first = 0; first <= 1; first++)
+            for (second = 0; second <= 1; second++) {
+                networks(mask, "11." first "." second ".", s)
+                networks(mask, "6." first "." second ".", c > 0 ? s : 0)
             }
+    }
+    function networks(mask, message, most) {
+        print mask, message "n"
+        print mask, message "0"
+        if (most > 0) print mask, message most
+        if (most > 1) print mask, message int(most / 2)
     }'
 }
 
@@ -58,7 +62,7 @@ first() {
 kinds() {
     awk '{
         kind = $6
-        if (kind ~ /^11/) sub(/[1-9][0-9]*$/, "some", kind)
+        if (kind ~ /^(6|11)\./) sub(/[1-9][0-9]*$/, "some", kind)
     }
     !seen[kind]++'
 }
@@ -70,8 +74,8 @@ near() {
         if (y < 0 || y > 5 || s < 0 || s > 64 || s > 40 * y || g < 0 || g > 9 || (y == 0 && g > 0)) return
         if (c > g || (f == 0 && c < g) || s * c > 256) return
         selection = message
-        sub(/^11\..\..\./, "", selection)
-        if (message ~ /^11/ && selection + 0 > s) return
+        if (sub(/^(6|11)\..\..\./, "", selection) && selection + 0 > s) return
+        if (message ~ /^6/ && selection + 0 > 0 && c == 0) return
         print y "." s "." g "." f "." c, message
     }
     {
@@ -96,7 +100,7 @@ mixes() {
             for (j = 1; j <= NR; j++) {
                 if (i == j) continue
                 print mask[i], part(i) "," part(j)
-                if (message[j] !~ /^11.*[1-9]$/) print mask[i], message[i] "," message[j]
+                if (message[j] !~ /^(6|11)\..\..\.[1-9]/) print mask[i], message[i] "," message[j]
                 for (k = 1; i <= 6 && j <= 6 && k <= 6; k++) print mask[i], part(i) "," part(j) "," part(k)
             }
     }

@@ -16,7 +16,7 @@
 #   per_byte INPUT                of listing it: how many bytes the listing has, and what each takes, reading included
 . bench/lib/count.sh
 
-INPUTS='a b c d e1 e2 e3 e4 f g2 g3 g4 g5 g11'
+INPUTS='a b c d e1 e2 e3 e4 f g2 g3 g4 g5 g6 g7 g11 h'
 
 build_read() {
     build read host bench/read.c bench/meter.c bench/stretches.c bench/encode.c bench/bitwise.c bench/getbit.c \
