@@ -2,7 +2,7 @@
 use Rattle.bits.proofs.Words.{_≡_, refl, sym, ap, _∙_, Bool, true, false, List, [], _∷_, ℕ, zero, suc, _+_, _≤_, _<_, arith, getD}
 use native.Mathlib.Nat.{add-zero, zero-add}
 use Rattle.format.specs.Messages.{combinedShape, orbitShape, codeShape, phaseShape, biasShape, named}
-use Rattle.format.specs.Rows.{widthOf, shapeWidth}
+use Rattle.format.specs.Rows.{Column, widthOf, shapeWidth}
 use Rattle.format.specs.Table as Table
 use Rattle.format.proofs.Tables.{Each, end, then, each-at, NoneOf, none-of}
 use Rattle.table.specs.declared.Kind.{Kind}
@@ -19,26 +19,24 @@ unfoldable kindsBy : ℕ → List Kind → List Table.Kind
 kindsBy n [] = []
 kindsBy n (k ∷ ks) = kindBy n k ∷ kindsBy (suc n) ks
 
--- the four shapes by two flags, of both kinds
+-- the four shapes by two flags, of both kinds: what is the same at each of the four is the same
+by-flags : {f g : Bool → Bool → ℕ → List Column} → f true true ≡ g true true → f true false ≡ g true false → f false true ≡ g false true
+    → f false false ≡ g false false → f ≡ g
+by-flags {f} {g} tt tf ft ff = λ i a b. each a b i
+  where
+    each : (a b : Bool) → f a b ≡ g a b
+    each true true = tt
+    each true false = tf
+    each false true = ft
+    each false false = ff
+
 pub combined-shapes : shapesFrom 0 ≡ combinedShape
 unfolding shapesFrom shapeAt listed shapes
-combined-shapes = λ i a b. each a b i
-  where
-    each : (a b : Bool) → shapesFrom 0 a b ≡ combinedShape a b
-    each true true = refl
-    each true false = refl
-    each false true = refl
-    each false false = refl
+combined-shapes = by-flags refl refl refl refl
 
 pub bias-shapes : shapesFrom 8 ≡ biasShape
 unfolding shapesFrom shapeAt listed shapes
-bias-shapes = λ i a b. each a b i
-  where
-    each : (a b : Bool) → shapesFrom 8 a b ≡ biasShape a b
-    each true true = refl
-    each true false = refl
-    each false true = refl
-    each false false = refl
+bias-shapes = by-flags refl refl refl refl
 
 -- the computed law
 rows-mean : kindsBy 0 codeKinds ≡ Table.kinds
