@@ -5,13 +5,14 @@ use borrow.Author.Tests.{ne-eqb, eqb-true, eqb-false}
 use lib.IntN.{negsuc}
 use mir.Syntax.{w32}
 use mir.Val.{SFits, ofZ}
-use Rattle.format.specs.Messages.{iodeWidth}
+use Rattle.format.proofs.Tables.{Each, end, then, each-at}
+use Rattle.format.specs.Messages.{iodeWidth, combinedShape, clockShape, codeShape, phaseShape, packetShape, biasShape, accuracyShape}
 use Rattle.rows.proofs.Laid.{iode-some, laid-orbit, orbit-formed, orbit-columns}
 use Rattle.rows.proofs.Table.{no-iode, orbit-made}
 use Rattle.rows.specs.declared.shape.Shape.{Shape}
-use Rattle.rows.specs.Shapes.{columnFor, columnsOf, columnsIn, orbitOf, FormedShape, Laid}
-use Rattle.rows.specs.Table.{shapeFor}
-use Rattle.putting.specs.Putting.{systemOf, rowSystem, rowColumns, orbitOn}
+use Rattle.rows.specs.Shapes.{columnFor, columnsOf, columnsIn, orbitOf, shapeWith, FormedShape, Laid}
+use Rattle.rows.specs.Table.{Listed, gaps, shapes, listed, shapeAt, shapeIn, shapeFor}
+use Rattle.putting.specs.Putting.{systemOf, rowSystem, rowColumns, orbitOn, triples}
 
 -- ---- a row's system
 
@@ -75,3 +76,17 @@ orbit-own {s} same = same ∙ ap (λ (w : ℕ). orbitOf w (s .v5)) (sym (ap (λ 
 
 pub orbit-for : (i : ℕ) → shapeFor i .iode ≡ true → shapeFor i ≡ orbitOf (shapeFor i .v1 .width) (shapeFor i .v5)
 orbit-for i with-iode = orbit-own (orbit-usual i with-iode)
+
+-- one of three columns, of which the first is one, has a code bias, a phase bias and its indicator
+pub triple-for : (i : ℕ) → triples (shapeFor i) ≡ true → shapeFor i ≡ shapeFor 11
+unfolding triples shapes listed shapeAt shapeIn shapeWith columnFor combinedShape clockShape codeShape phaseShape packetShape biasShape accuracyShape
+triple-for i = each-at gaps rows (λ _. no) i
+  where
+    shape : Listed → Shape
+    shape l = shapeWith (l .iode) (l .columns 0)
+
+    no : {A : Type 0} → false ≡ true → A
+    no e = absurd (false≢true e)
+
+    rows : Each (λ n l. triples (shape l) ≡ true → shape l ≡ shapeFor 11) 0 shapes
+    rows = then no (then no (then no (then no (then no (then no (then no (then no (then no (then no (then no (then (λ _. refl) (then no end))))))))))))

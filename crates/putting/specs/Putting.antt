@@ -3,7 +3,7 @@ use mathlib.Core.Path.{_≡_}
 use mathlib.Core.Bool.{Bool, true, not, _&&_}
 use mathlib.Core.List.{List, [], _∷_, _++_}
 use Prim.Native.Nat.{ℕ, _+_, _*_, _≤_}
-use lib.Dec.{eqb}
+use lib.Dec.{eqb, ltb}
 use lib.IntN.{ℤ, pos, negsuc}
 use lib.ListN.{length, take, drop}
 use Rattle.bits.specs.BitLists.{number}
@@ -13,6 +13,7 @@ use Rattle.format.specs.Writing.{rowsIn}
 use Rattle.rows.specs.declared.shape.Column.{Column as CodeColumn}
 use Rattle.rows.specs.declared.shape.Shape.{Shape}
 use Rattle.rows.specs.Shapes.{columnsOf, columnsIn, orbitOf, FormedShape}
+use Rattle.rows.specs.Table.{shapeFor}
 use Rattle.pens.specs.declared.pen.Field.{Field}
 use Rattle.pens.specs.declared.pen.Pen.{Pen}
 use Rattle.fitting.specs.Fits.{valuesFit}
@@ -84,9 +85,14 @@ pub record PutsRow (s : Shape) (row : List ℤ) (pen : Pen) (bytes : List ℕ) :
 
 -- ---- so many rows of a row buffer
 
+-- rows of three columns, of which the first is one
+unfoldable pub triples : Shape → Bool
+triples s = not (ltb 0 (s .v4 .width)) && not (eqb (s .v1 .width) 0) && ltb 0 (s .v3 .width)
+
 pub record PutsRows (s : Shape) (rows : List ℤ) (count : ℕ) (pen : Pen) (bytes : List ℕ) : Type 0 where
   pub formed : FormedShape s
   pub orbit : s .iode ≡ true → s ≡ orbitOf (s .v1 .width) (s .v5)
+  pub triple : triples s ≡ true → s ≡ shapeFor 11
   pub whole : 8 * count ≤ length rows
   pub fitting : Fitting s (rowsIn count rows)
   pub ready : Ready pen (rowFields s (rowsIn count rows)) bytes

@@ -5,8 +5,9 @@ ghost use mathlib.Core.Bool.{true, false};
 ghost use Rattle.format.specs.Messages.{iodeWidth};
 ghost use Rattle.format.specs.Writing.{rowsIn};
 ghost use Rattle.rows.specs.Shapes.{orbitOf, FormedShape};
+ghost use Rattle.rows.specs.Table.{shapeFor};
 ghost use Rattle.pens.specs.Pens.{penAfter, inkAfter};
-ghost use Rattle.putting.specs.Putting.{systemOf, rowFields, ownFields, orbitOn, PutsRow, PutsRows, pairs, ends};
+ghost use Rattle.putting.specs.Putting.{systemOf, rowFields, ownFields, orbitOn, PutsRow, PutsRows, pairs, triples, ends};
 use crate::values::front;
 use crate::values::last;
 use crate::values::pair;
@@ -61,12 +62,29 @@ fn put_last(bytes: &mut [u8], pen: Pen, row: &[i32], s: Shape) -> Pen
     push(bytes, pen, last(row, s))
 }
 
-// A row of any columns, as a packet's part has them.
+// Whether rows have a code bias, a phase bias and its indicator (document 02, Ask 1).
+fn tripled(s: Shape) -> bool
+    ensures { λ r. ⌜ r ≡ triples s ⌝ }
+{
+    if s.v4.width > 0 {
+        return false;
+    }
+    if s.v1.width == 0 {
+        return false;
+    }
+    s.v3.width > 0
+}
+
+// A row of any columns, as a packet's part has them, but for an IODE. Of a code bias with a phase bias the compiler knows
+// all columns, and it tests for them outside the loop over rows.
 fn put_wide(bytes: &mut [u8], pen: Pen, row: &[i32], s: Shape) -> Pen
-    requires { ⌜ PutsRow s (now row) pen (now bytes) ⌝ }
+    requires { ⌜ (triples s ≡ true → s ≡ shapeFor 11) × PutsRow s (now row) pen (now bytes) ⌝ }
     ensures { λ r. ⌜ r ≡ penAfter pen (ownFields s (now (row .entry))) ⌝ }
     ensures { λ _. ⌜ now (bytes .exit) ≡ inkAfter pen (ownFields s (now (row .entry))) (now (bytes .entry)) ⌝ }
 {
+    if tripled(s) {
+        return push(bytes, pen, front(row, shapes::both()));
+    }
     let p = push(bytes, pen, front(row, s));
     push(bytes, p, last(row, s))
 }

@@ -19,7 +19,7 @@ put-wide-requires c κs =
     let t = c .before .before in
     let l = t .before in
     let s = l .before .before in
-    going-row (l .loop .inv) (t .loop-test .taken) (row-part (s .args .rows .now) (l .loop .i)) (own s)
+    (s .pre .1 .triple, going-row (l .loop .inv) (t .loop-test .taken) (row-part (s .args .rows .now) (l .loop .i)) (own s))
 
 loop-again : tie.Need-loop-again Inv-loop μ-loop
 loop-again c =

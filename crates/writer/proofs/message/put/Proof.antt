@@ -10,7 +10,7 @@ use Rattle.pens.specs.declared.pen.Pen.{Pen}
 use Rattle.putting.specs.Marking.{selectionFields}
 use Rattle.pens.specs.Pens.{begunBy, penAfter, inkAfter, Ready, Begins}
 use Rattle.putting.specs.Putting.{rowFields, PutsRows}
-use Rattle.putting.proofs.OwnColumns.{orbit-for}
+use Rattle.putting.proofs.OwnColumns.{orbit-for, triple-for}
 use Rattle.writer.specs.Written.{planFields}
 use Rattle.pens.proofs.Begun.{ready-begun, begins-alone}
 use Rattle.pens.proofs.Pens.{ready-first, ready-behind}
@@ -64,6 +64,7 @@ put-rows-requires c κs =
     (record {
       formed = formed (s .args .plan .body .shape);
       orbit = orbit-for (s .args .plan .body .shape);
+      triple = triple-for (s .args .plan .body .shape);
       whole = s .pre .1 .whole;
       fitting = s .pre .1 .fitting;
       ready = ready-behind (selected s) (rowed s) (begun s) (s .args .bytes .now) (ready s);
