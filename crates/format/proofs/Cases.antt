@@ -25,6 +25,7 @@ use Rattle.format.specs.Rows as Rows
 use Rattle.format.specs.Rows.{absent}
 use Rattle.format.specs.Same.{sameList, sameℤ}
 use Rattle.format.specs.Saved.{cellText, flagText, systemText, heldText, lineOf}
+use Rattle.format.specs.Steady as Steady
 use Rattle.format.specs.Table as Table
 use Rattle.format.specs.Tests as Tests
 use Rattle.format.specs.Text.{text, digitChar, charDigit, digitsFrom, decimal, decimalValue, hex, hexBits, fieldsFrom}
@@ -256,12 +257,12 @@ cases =
 
 -- what a reading computes with
 unfoldable pub computing : Unit {0}
-unfolding _∶_ spellAll bytesOf _at_after_and_says_ _missing_at_after_and_says_ said report n ∅ opening maskHead head system clock saidMask saidHead spell bits bytes number signed flatMap flatten saidAt numberOf Walking.messages Walking.rowCount Walking.walkOn Walking.walkFrom Walking.goOn Walking.hand Reading.readingBy Reading.lentTests Tests.verdict Reading.placed Reading.readFrom Reading.bitsFrom Reading.endedAt Reading.rowsAfter Reading.over Programs.run Programs._>>=_ Programs._>>_ Programs.later Programs.unlessShort Programs.numbered Programs.taking Programs.require Table.opening Table.messageBy Table.table Table.kinds Table.alone Table.withFlags Table.byKind Table.keeping Table.underMask Table.gate Messages.bodied Messages.overSatellites Messages.overCells Messages.common Messages.headOf Messages.rowsAlone Messages.body Messages.satelliteLines Messages.cellLines Messages.iodeWidth Messages.orbitShape Messages.clockShape Messages.codeShape Messages.phaseShape Messages.biasShape Messages.accuracyShape Messages.combinedShape Messages.packetShape Messages.linesOf Messages.celled Messages.nameable Messages.selection Messages.flagged Messages.packetLines Messages.packet Messages.packetHeading Messages.maskMessage Messages.systems Messages.system Messages.systemId Messages.systemMasks Messages.systemSignals Messages.systemWith Messages.systemCells Messages.flaggedCells Messages.fewCells Messages.named Assigned.known Assigned.blank Assigned.assigned Assigned.satellitePlaces Assigned.signalPlaces Masks.placesFrom Masks.pick Masks.satellitesOf Masks.pairsOf Masks.cellsOf Masks.satellites Masks.cells Masks.sameSatellite Masks.cellsOn Masks.skyOf Masks.heldIn Rows.widthOf Rows.valueOf Rows.shapeWidth Rows.valuesOf Rows.bodyWidth Rows.rowsOf Good.isHolding Good.good Good.goodSystems Good.goodSystem Reading.lentAfter answerOf
+unfolding _∶_ spellAll bytesOf _at_after_and_says_ _missing_at_after_and_says_ said report n ∅ opening maskHead head system clock saidMask saidHead spell bits bytes number signed flatMap flatten saidAt numberOf Walking.messages Walking.rowCount Walking.walkOn Walking.walkFrom Walking.goOn Walking.hand Reading.readingBy Reading.lentTests Tests.verdict Reading.placed Reading.readFrom Reading.bitsFrom Reading.endedAt Reading.rowsAfter Reading.over Programs.run Programs._>>=_ Programs._>>_ Programs.later Programs.unlessShort Programs.numbered Programs.taking Programs.require Table.opening Table.messageBy Table.table Table.kinds Table.alone Table.withFlags Table.byKind Table.keeping Table.underMask Table.gate Messages.bodied Messages.overSatellites Messages.overCells Messages.common Messages.headOf Messages.rowsAlone Messages.body Messages.satelliteLines Messages.cellLines Messages.iodeWidth Messages.orbitShape Messages.clockShape Messages.codeShape Messages.phaseShape Messages.biasShape Messages.accuracyShape Messages.combinedShape Messages.packetShape Messages.linesOf Messages.celled Messages.nameable Messages.selection Messages.flagged Messages.packetLines Messages.packet Messages.packetHeading Messages.maskMessage Messages.systems Messages.system Messages.systemId Messages.systemMasks Messages.systemSignals Messages.systemWith Messages.systemCells Messages.flaggedCells Messages.fewCells Messages.named Assigned.known Assigned.blank Assigned.assigned Assigned.satellitePlaces Assigned.signalPlaces Masks.placesFrom Masks.pick Masks.satellitesOf Masks.pairsOf Masks.cellsOf Masks.satellites Masks.cells Masks.sameSatellite Masks.cellsOn Masks.skyOf Masks.heldIn Rows.widthOf Rows.valueOf Rows.shapeWidth Rows.valuesOf Rows.bodyWidth Rows.rowsOf Good.isHolding Good.good Good.goodSystems Good.goodSystem Reading.lentAfter answerOf Steady.sameLine Steady.steady hex digitChar digitsFrom decimal cellText flagText systemText heldText lineOf sameList
 computing = tt
 
 -- and what a text and a saved line compute with
 texts : Unit {0}
-unfolding text hexBits charDigit digitChar digitsFrom decimal decimalValue hex fieldsFrom cellText flagText systemText heldText lineOf lentAfter heldIn sameList sameℤ
+unfolding text hexBits charDigit decimalValue fieldsFrom lentAfter heldIn sameℤ
 texts = tt
 
 -- from the empty holding

@@ -1,7 +1,8 @@
--- Nothing after a refusal is read, and masks adopted before it stay: the walk over the stretch cut where a walk stopped says the same and is idle there.
+-- Nothing after a refusal is read, and masks adopted before it stay, but for one that changed: the walk over the stretch cut where a walk stopped says the same
+-- and is idle there, holding what the stop left; or what it dropped.
 -- Assumes nothing.
 use mathlib.Core.Path.{_≡_, refl, sym, ap, _∙_}
-use mathlib.Core.Bool.{Bool, true, false, false≢true}
+use mathlib.Core.Bool.{Bool, true, false, cond, false≢true}
 use mathlib.Core.List.{List, [], _++_, flatten}
 use Prim.Native.Nat.{ℕ, _+_, _≤_}
 use native.Mathlib.Nat.{le-refl}
@@ -15,15 +16,17 @@ use Rattle.format.specs.Assigned.{blank}
 use Rattle.format.specs.Good.{good, isHolding}
 use Rattle.format.specs.Masks.{Held, Lent, stray, lent, heldIn}
 use Rattle.format.specs.Programs.{well, run}
-use Rattle.format.specs.Reading.{rowRoom, Outcome, accepted, idle, refused, endedAt, lentTests, readFrom, bitsFrom, placed, readingBy, reading, lentAfter, over, rowsAfter}
+use Rattle.format.specs.Reading.{rowRoom, Outcome, accepted, idle, refused, endedAt, lentTests, readFrom, bitsFrom, placed, readingBy, reading, keptBy, lentAfter, over, rowsAfter}
+use Rattle.format.specs.Steady.{steady}
 use Rattle.format.specs.Table.{Message, Kind, table, byKind, messageBy, message}
 use Rattle.format.specs.Tests.{verdict}
 use Rattle.format.specs.Walking.{handedAt, Walk, hand, goOn, walkOn, walk}
 use Rattle.format.proofs.HeldGood.{stays-good}
 use Rattle.format.proofs.Placed.{Inside, inside, is-placed, length-from, take-from}
+use Rattle.format.proofs.Refusals.{stop-holds}
 use Rattle.format.proofs.Runs.{run-agree}
 use Rattle.format.proofs.Steps.{Gives, gives-so, gives-itself}
-use Rattle.format.proofs.Stops.{Stopped, stop-holds}
+use Rattle.format.proofs.Stops.{Stopped, read-so}
 use Rattle.format.proofs.Tables.{gives-message}
 use Rattle.format.proofs.Verdicts.{AllHold, all-hold}
 use Rattle.format.proofs.Walks.{ends-inside, walk-step, stop-ends, Law, every-walk, Within, all-within}
@@ -43,6 +46,18 @@ accepts-placed : (t : ℕ → Kind) (holding : Lent) (bytes : List ℕ) (end sta
     → readingBy t holding bytes end start rows ≡ accepted m next → Inside bytes end start
 unfolding readingBy lentTests AllHold
 accepts-placed t holding bytes end start rows m next e = inside bytes end start (all-hold (λ r. refused r 0 holding) _ (accepted m next) _ (λ r f. false≢true cc) e .1 .1 .0)
+
+-- and only what may follow what is held
+pub accepts-steady : (t : ℕ → Kind) (holding : Lent) (bytes : List ℕ) (end start : ℕ) (rows : List ℤ) (m : Message) (next : ℕ)
+    → readingBy t holding bytes end start rows ≡ accepted m next → steady (heldIn holding) (m .after) ≡ true
+unfolding readingBy lentTests readFrom
+accepts-steady t holding bytes end start rows m next e =
+    go (blank (bitsFrom bytes end start)) (all-hold (λ r. refused r 0 holding) _ (accepted m next) _ (λ r f. false≢true cc) e .0)
+  where
+    go : (b : Bool) → cond b (idle (lent (heldIn holding))) (endedAt (heldIn holding) start (run (messageBy t (heldIn holding)) (bitsFrom bytes end start))) ≡ accepted m next
+        → steady (heldIn holding) (m .after) ≡ true
+    go true e = absurd (false≢true cc)
+    go false e = read-so (heldIn holding) start (run (messageBy t (heldIn holding)) (bitsFrom bytes end start)) m next e .stays
 
 -- ---- the same reading in a shorter stretch
 
@@ -64,14 +79,14 @@ module _ (t : ℕ → Kind) (held : Held) (fine : good held ≡ true) (bytes : L
 
   -- a message that the cut leaves whole is read as before
   reads-cut : (end cut : ℕ) (m : Message) (taken : ℕ) → Inside bytes end start → run (messageBy t held) (bitsFrom bytes end start) ≡ well m taken
-      → start + taken ≤ cut → cut ≤ end → readingBy t (lent held) bytes cut start rows ≡ accepted m (start + taken)
+      → steady held (m .after) ≡ true → start + taken ≤ cut → cut ≤ end → readingBy t (lent held) bytes cut start rows ≡ accepted m (start + taken)
   unfolding readFrom endedAt
-  reads-cut end cut m taken f ran whole order =
+  reads-cut end cut m taken f ran stays whole order =
       let g : Inside bytes cut start = record { limit = omega arith; lent = omega arith; there = omega arith } in
       let same = take-from bytes end (f .lent) start taken (omega arith) ∙ sym (take-from bytes cut (g .lent) start taken whole) in
       let again = run-agree (messageBy t held) (bitsFrom bytes end start) (bitsFrom bytes cut start) m taken ran same
       (rw (length-from bytes cut (g .lent) start) (omega arith)) in
-      reads-from cut g ∙ rw (message-bits t held (bitsFrom bytes cut start) m taken again, again)
+      reads-from cut g ∙ rw (message-bits t held (bitsFrom bytes cut start) m taken again, again, stays)
 
 -- ---- the cut walk
 
@@ -80,12 +95,16 @@ pub over-long : (new old : List ℤ) → length old ≤ length (over new old)
 unfolding over
 over-long new old = simp (length-append, length-drop) (omega arith)
 
--- the walk over the stretch cut where the walk w from a place stopped hands out the same, leaves and holds the same, and is idle there
+-- The walk v over the stretch cut where the walk w stopped hands out the same, leaves the same rows, and is idle there; what it holds is what w's stop leaves,
+-- or what that dropped, where it is 13 (document 02, Ask 2).
+pub record Before (v w : Walk) : Type 0 where
+  pub held : Lent
+  pub same : v ≡ record { handed = w .handed; stop = idle held; place = w .place; rows = w .rows }
+  pub left : lentAfter (w .stop) ≡ keptBy (w .stop) held
+
 abbrev Cut : List ℕ → Lent → ℕ → List ℤ → Walk → Type 0
 Cut bytes holding place rows w =
-    isHolding holding ≡ true → rowRoom ≤ length rows → Inside bytes place place
-    → walkOn table holding bytes (w .place) place rows
-    ≡ record { handed = w .handed; stop = idle (lentAfter (w .stop)); place = w .place; rows = w .rows }
+    isHolding holding ≡ true → rowRoom ≤ length rows → Inside bytes place place → Before (walkOn table holding bytes (w .place) place rows) w
 
 -- so at a stop
 cut-stops :
@@ -94,8 +113,11 @@ cut-stops :
 unfolding isHolding
 cut-stops bytes end stray place rows o e stopped fine room f = absurd (false≢true fine)
 cut-stops bytes end (lent held) place rows o e stopped fine room f =
-    let kept : lentAfter o ≡ lent held = rw e at (stop-holds (lent held) bytes end place rows (rw e stopped)) in
-    rw kept (stop-ends table (lent held) bytes place place rows (idle (lent held)) (idle-there table held fine bytes place rows room f) tt)
+    record {
+      held = lent held;
+      same = stop-ends table (lent held) bytes place place rows (idle (lent held)) (idle-there table held fine bytes place rows room f) tt;
+      left = rw e at (stop-holds (lent held) bytes end place rows (rw e stopped));
+    }
 
 -- so before a message, if so after it
 cut-goes :
@@ -109,9 +131,14 @@ cut-goes bytes end (lent held) place rows m taken w e ran within more fine room 
     let g = accepts-placed table (lent held) bytes end place rows m (place + taken) e in
     let inside = ends-inside table (lent held) bytes end place m taken ran in
     let there : Inside bytes (place + taken) (place + taken) = record { limit = omega arith; lent = omega arith; there = le-refl (place + taken) } in
-    let again = reads-cut table held fine bytes place rows room end (w .place) m taken g ran (omega (arith, within .0)) (within .1 (inside .1)) in
+    let stays = accepts-steady table (lent held) bytes end place rows m (place + taken) e in
+    let again = reads-cut table held fine bytes place rows room end (w .place) m taken g ran stays (omega (arith, within .0)) (within .1 (inside .1)) in
     let rest = more (stays-good held fine (bitsFrom bytes end place) m taken ran) (omega (arith, over-long (flatten (m .content .rows)) rows)) there in
-    walk-step table (lent held) bytes (w .place) place rows ∙ rw again (ap (hand (handedAt place m (place + taken))) rest)
+    record {
+      held = rest .held;
+      same = walk-step table (lent held) bytes (w .place) place rows ∙ rw again (ap (hand (handedAt place m (place + taken))) (rest .same));
+      left = rest .left;
+    }
 
 -- so every walk
 all-cut : (bytes : List ℕ) (end : ℕ) → Law table bytes end (λ holding place rows w. Within end place w × Cut bytes holding place rows w)
@@ -121,11 +148,10 @@ all-cut bytes end = record {
       (all-within bytes end .goes holding place rows m taken w e ran (it .0), cut-goes bytes end holding place rows m taken w e ran (it .0) (it .1));
 }
 
--- nothing after the stop was read, and what was adopted before it stays
+-- nothing after the stop was read, and what was adopted before it stays, but for what 13 drops
 pub walk-before :
     (holding : Lent) (bytes : List ℕ) (end : ℕ) (rows : List ℤ) → isHolding holding ≡ true → rowRoom ≤ length rows
-    → let w = walk holding bytes end rows in
-    walk holding bytes (w .place) rows ≡ record { handed = w .handed; stop = idle (lentAfter (w .stop)); place = w .place; rows = w .rows }
+    → let w = walk holding bytes end rows in Before (walk holding bytes (w .place) rows) w
 walk-before holding bytes end rows fine room =
     let f : Inside bytes 0 0 = record { limit = omega arith; lent = omega arith; there = omega arith } in
     every-walk table bytes end _ (all-cut bytes end) holding 0 rows .1 fine room f

@@ -1,5 +1,5 @@
 -- What is held stays good, whatever is read. Assumes nothing.
-use mathlib.Core.Path.{_≡_}
+use mathlib.Core.Path.{_≡_, refl}
 use mathlib.Core.Bool.{Bool, true, false≢true}
 use mathlib.Core.List.{List}
 use Prim.Native.Nat.{ℕ}
@@ -50,7 +50,7 @@ held-good stray fine = absurd (false≢true fine)
 held-good (lent held) fine = fine
 
 pub reading-good : (holding : Lent) (bytes : List ℕ) (end start : ℕ) (rows : List ℤ) → isHolding holding ≡ true → isHolding (lentAfter (reading holding bytes end start rows)) ≡ true
-unfolding lentAfter isHolding heldIn
+unfolding lentAfter isHolding heldIn good
 reading-good stray bytes stop start rows fine = absurd (false≢true fine)
 reading-good (lent held) bytes stop start rows fine =
-    reading-ends (λ o. isHolding (lentAfter o) ≡ true) table bytes stop start rows (lent held) (λ r missing. fine) fine (stays-good held fine (bitsFrom bytes stop start))
+    reading-ends (λ o. isHolding (lentAfter o) ≡ true) table bytes stop start rows (lent held) (λ r missing. fine) refl fine (stays-good held fine (bitsFrom bytes stop start))

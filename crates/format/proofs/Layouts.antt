@@ -296,7 +296,7 @@ pub reading-means : (holding : Lent) (bytes : List ℕ) (end start : ℕ) (rows 
     → reading holding bytes end start rows ≡ accepted m next → Means (heldIn holding) bytes start next (m .content)
 reading-means holding bytes end start rows =
     reading-ends (λ o. (m : Message) (next : ℕ) → o ≡ accepted m next → Means (heldIn holding) bytes start next (m .content))
-    table bytes end start rows holding (λ r missing m next e. absurd (false≢true cc)) (λ m next e. absurd (false≢true cc))
+    table bytes end start rows holding (λ r missing m next e. absurd (false≢true cc)) (λ m next e. absurd (false≢true cc)) (λ m next e. absurd (false≢true cc))
     (λ n taken ran m next e.
     let l : List Bool = bitsFrom bytes end start in
     let same : n ≡ m = cc in

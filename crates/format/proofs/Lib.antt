@@ -8,6 +8,7 @@ pub mod Openings
 pub mod Sames
 pub mod Texts
 pub mod SavedForm
+pub mod Steadiness
 pub mod InputLines
 pub mod Steps
 pub mod Makes
@@ -28,6 +29,7 @@ pub mod Together
 pub mod Ends
 pub mod Walks
 pub mod Verdicts
+pub mod Refusals
 pub mod CutWalks
 pub mod ShortReadings
 pub mod AlikeWalks

@@ -4,7 +4,7 @@ use Prim.Native.Nat.{ℕ, suc, _≤_}
 use native.Mathlib.Omega.{arith}
 use denote.Enum.Declared.{tagOf}
 use Rattle.format.specs.declared.Refusal.{Refusal}
-use Rattle.format.specs.declared.Refusal.the-variants.{Room, Place, Short, Number, SubType, NoMask, OtherIssue, System, Reserved, Size, Network, Value}
+use Rattle.format.specs.declared.Refusal.the-variants.{Room, Place, Short, Number, SubType, NoMask, OtherIssue, System, Reserved, Size, Network, Value, Changed}
 use Rattle.format.specs.Answers.{numberOf}
 use Rattle.format.proofs.Refusal.{the-type}
 
@@ -22,12 +22,13 @@ number-tag Reserved = refl
 number-tag Size = refl
 number-tag Network = refl
 number-tag Value = refl
+number-tag Changed = refl
 
 -- so is what each arm of a match answers
 pub by-tag : (r : Refusal) (k : ℕ) → tagOf the-type r ≡ k → suc k ≡ numberOf r
 by-tag r k e = sym (number-tag r ∙ ap suc e)
 
-pub number-small : (r : Refusal) → numberOf r ≤ 12
+pub number-small : (r : Refusal) → numberOf r ≤ 13
 unfolding numberOf
 number-small Room = omega arith
 number-small Place = omega arith
@@ -41,3 +42,4 @@ number-small Reserved = omega arith
 number-small Size = omega arith
 number-small Network = omega arith
 number-small Value = omega arith
+number-small Changed = omega arith

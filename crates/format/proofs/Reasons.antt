@@ -1,7 +1,7 @@
--- Why a program ends badly (document 02, Ask 7): a message is short for want of bits alone, always by one or more, and is refused for any other reason with none
--- missing.
+-- Why a program ends badly: a message is short for want of bits alone, always by one or more (document 02, Ask 7), and is refused by a test of its own, 4 to 11,
+-- with none missing.
 -- Assumes nothing.
-use mathlib.Core.Path.{_≡_, refl, sym, ap, _∙_}
+use mathlib.Core.Path.{_≡_, refl, sym, subst, _∙_}
 use mathlib.Core.Bool.{Bool, true, false}
 use mathlib.Core.List.{List}
 use mathlib.Core.Logic.{_⊎_, inl, inr}
@@ -15,16 +15,15 @@ use Rattle.format.specs.Answers.{numberOf}
 use Rattle.format.specs.Masks as Masks
 use Rattle.format.specs.Masks.{Held, nothing, mask, Sky, Satellite}
 use Rattle.format.specs.Messages.{BothMasks, Common, Heading, body, bodied, common, Keys, selection, flagged, packet, rowsAlone, systemId, systemSignals, systemMasks, fewCells, flaggedCells, systemCells, system, systems, maskMessage}
-use Rattle.format.specs.Missing.{Reason}
 use Rattle.format.specs.Programs.{Program, done, refuse, field, _>>=_, _>>_, taking, numbered, require, Ended, well, badly, later, run}
 use Rattle.format.specs.Rows.{Column, Line}
 use Rattle.format.specs.Table.{Kind, other, free, masked, adopts, alone, withFlags, kinds, table, gate, underMask, keeping, byKind, opening, message, messageBy}
 use Rattle.format.proofs.Runs.{run-field, run-short, later-badly, not-well}
 use Rattle.format.proofs.Tables.{Each, end, then, in-table}
 
--- another reason than missing bits
-abbrev Other : Refusal → Type 0
-Other r = numberOf r ≡ 3 → ⊥
+-- another reason than missing bits: a test of a field, 4 to 11
+abbrev pub Other : Refusal → Type 0
+Other r = (3 < numberOf r) × (numberOf r < 12)
 
 -- all of a program's own tests have one
 pub data Reasoned {A : Type 0} : Program A → Type 0 where
@@ -67,20 +66,20 @@ bodied-reasoned it = bind _ it λ d. bind _ (asks λ b. made) λ rows. made
 selection-reasoned : (keys : Keys) (sky : Sky) (flag : ℕ) → Reasoned (selection keys sky flag)
 unfolding selection numberOf
 selection-reasoned keys sky zero = made
-selection-reasoned keys sky (suc one) = number _ _ λ _. test _ _ _ (λ e. omega arith) (bits _ _ λ _. test _ _ _ (λ e. omega arith) made)
+selection-reasoned keys sky (suc one) = number _ _ λ _. test _ _ _ (omega arith, omega arith) (bits _ _ λ _. test _ _ _ (omega arith, omega arith) made)
 
 id-reasoned : (ids : List ℕ) → Reasoned (systemId ids)
 unfolding systemId numberOf
-id-reasoned ids = number _ _ λ _. test _ _ _ (λ e. omega arith) made
+id-reasoned ids = number _ _ λ _. test _ _ _ (omega arith, omega arith) made
 
 masks-reasoned : (n id : ℕ) → Reasoned (systemMasks n id)
 unfolding systemMasks systemSignals numberOf
 masks-reasoned n id =
-    bits _ _ λ sats. test _ _ _ (λ e. omega arith) (test _ _ _ (λ e. omega arith) (bits _ _ λ signals. test _ _ _ (λ e. omega arith) made))
+    bits _ _ λ sats. test _ _ _ (omega arith, omega arith) (test _ _ _ (omega arith, omega arith) (bits _ _ λ signals. test _ _ _ (omega arith, omega arith) made))
 
 cells-reasoned : (before : List Masks.System) (id : ℕ) (k : BothMasks) → Reasoned (systemCells before id k)
 unfolding systemCells flaggedCells fewCells numberOf
-cells-reasoned before id k = number _ _ λ flag. bits _ _ λ b. test _ _ _ (λ e. omega arith) made
+cells-reasoned before id k = number _ _ λ flag. bits _ _ λ b. test _ _ _ (omega arith, omega arith) made
 
 systems-reasoned : (n : ℕ) (before : List Masks.System) → Reasoned (systems n before)
 unfolding systems system
@@ -124,12 +123,12 @@ kinds-reasoned =
 
 gate-reasoned : (held : Held) (iod : ℕ) → Reasoned (gate held iod)
 unfolding gate numberOf
-gate-reasoned nothing iod = refused {r = NoMask} (λ e. omega arith)
-gate-reasoned (mask m) iod = test _ _ _ (λ e. omega arith) made
+gate-reasoned nothing iod = refused {r = NoMask} (omega arith, omega arith)
+gate-reasoned (mask m) iod = test _ _ _ (omega arith, omega arith) made
 
 kind-reasoned : (n : ℕ) (k : Kind) → KindReasoned n k → (held : Held) → Reasoned (byKind k held)
 unfolding byKind KindReasoned keeping underMask numberOf
-kind-reasoned n other it held = refused {r = SubType} (λ e. omega arith)
+kind-reasoned n other it held = refused {r = SubType} (omega arith, omega arith)
 kind-reasoned n (free k) it held = bind _ (bodied-reasoned it) λ c. made
 kind-reasoned n (masked k) it held = bind _ (bodied-reasoned (bind _ (common-reasoned 12) λ h. bind _ (gate-reasoned held _) λ m. it _ h)) λ c. made
 kind-reasoned n (adopts k) it held = bind _ it λ d. made
@@ -137,20 +136,23 @@ kind-reasoned n (adopts k) it held = bind _ it λ d. made
 pub message-reasoned : (held : Held) → Reasoned (message held)
 unfolding messageBy opening numberOf KindReasoned
 message-reasoned held =
-    bind _ (number _ _ λ _. test _ _ _ (λ e. omega arith) (number _ _ λ _. made)) λ n. kind-reasoned n (table n) (in-table kinds-reasoned (λ k. tt) n) held
+    bind _ (number _ _ λ _. test _ _ _ (omega arith, omega arith) (number _ _ λ _. made)) λ n. kind-reasoned n (table n) (in-table kinds-reasoned (λ k. tt) n) held
 
 -- ---- how such a program ends badly
 
-pub ends-so : {A : Type 0} {p : Program A} (l : List Bool) (why : Refusal) (missing : ℕ) → Reasoned p → run p l ≡ badly why missing → Reason why missing
-unfolding run numberOf
+abbrev pub Own : Refusal → ℕ → Type 0
+Own r missing = ((r ≡ Short) × (0 < missing)) ⊎ (Other r × (missing ≡ 0))
+
+pub ends-so : {A : Type 0} {p : Program A} (l : List Bool) (why : Refusal) (missing : ℕ) → Reasoned p → run p l ≡ badly why missing → Own why missing
+unfolding run
 ends-so l why missing (made {a}) e = absurd (not-well why missing a 0 (sym e))
 ends-so l why missing (refused {r} reason) e =
     let same : r ≡ why = cc in
     let none : 0 ≡ missing = cc in
-    inr ((λ three. reason (ap numberOf same ∙ three)), sym none)
+    inr (subst Other same reason, sym none)
 ends-so {A} l why missing (asks {w} {next} it) e = go (decLt (length l) w) (ends-so (drop w l) why missing (it (take w l)))
   where
-    go : Dec (length l < w) → (run (next (take w l)) (drop w l) ≡ badly why missing → Reason why missing) → Reason why missing
+    go : Dec (length l < w) → (run (next (take w l)) (drop w l) ≡ badly why missing → Own why missing) → Own why missing
     go (yes over) rest =
         let same : _≡_ {A = Ended A} (badly Short (w - length l)) (badly why missing) = sym (run-short w next l over) ∙ e in
         let short : why ≡ Short = cc in

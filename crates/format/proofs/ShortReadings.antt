@@ -26,85 +26,26 @@ use Rattle.format.specs.Table.{Message, table, message}
 use Rattle.format.specs.Walking.{handedAt, Walk, hand, goOn, walkOn, walk}
 use Rattle.format.specs.Writing as Writing
 use Rattle.format.specs.Writing.{writing}
-use Rattle.format.proofs.CutWalks.{message-bits}
+use Rattle.format.proofs.CutWalks.{message-bits, accepts-steady}
 use Rattle.format.proofs.Missing.{lacks}
 use Rattle.format.proofs.Placed.{Inside, inside, is-placed}
-use Rattle.format.proofs.Reasons.{message-reasoned, ends-so}
+use Rattle.format.proofs.Refusals.{Why, by-test, by-bits, by-change, ByBits, refused-why, reading-reason}
 use Rattle.format.proofs.Runs.{run-append}
 use Rattle.format.proofs.Verdicts.{AllHold, all-hold, holds-all, EachElse, judged-why}
 use Rattle.format.proofs.Walks.{walk-step, Law, every-walk, walk-stops, refusal-ends}
-
--- ---- where a reading is refused
-
--- by the bits from its start on, what is lent having passed the tests
-pub record ByBits (holding : Lent) (bytes : List ℕ) (end start : ℕ) (rows : List ℤ) (r : Refusal) (missing : ℕ) (left : Lent) : Type 0 where
-  pub tests : AllHold (lentTests (isHolding holding) bytes end start (length rows))
-  pub some : blank (bitsFrom bytes end start) ≡ false
-  pub ran : run (message (heldIn holding)) (bitsFrom bytes end start) ≡ badly r missing
-  pub kept : left ≡ lent (heldIn holding)
-
--- or by a test of what is lent: not with 3, and none are missing
-abbrev ByTest : Refusal → ℕ → Type 0
-ByTest r missing = ¬ (numberOf r ≡ numberOf Short) × (missing ≡ 0)
-
--- one of these tests
-by-test : (q : Refusal) → ¬ (numberOf q ≡ 3) → (holding left : Lent) (r : Refusal) (missing : ℕ) → refused q 0 holding ≡ refused r missing left → ByTest r missing
-unfolding numberOf
-by-test q other holding left r missing e =
-    let same : q ≡ r = cc in
-    let none : 0 ≡ missing = cc in
-    ((λ three. other (ap numberOf same ∙ three)), sym none)
-
--- what the bits say
-from-bits : (held : Held) (start : ℕ) (l : List Bool) (r : Refusal) (missing : ℕ) (left : Lent) → readFrom table held start l ≡ refused r missing left
-    → (blank l ≡ false) × (run (message held) l ≡ badly r missing) × (left ≡ lent held)
-unfolding readFrom endedAt
-from-bits held start l r missing left = go (blank l) (run (message held) l) refl refl
-  where
-    go : (b : Bool) (e : Ended Message) → blank l ≡ b → run (message held) l ≡ e → cond b (idle (lent held)) (endedAt held start e) ≡ refused r missing left
-        → (blank l ≡ false) × (run (message held) l ≡ badly r missing) × (left ≡ lent held)
-    go true e none ran said = absurd (false≢true cc)
-    go false (well m taken) some ran said = absurd (false≢true cc)
-    go false (badly q n) some ran said =
-        let same : q ≡ r = cc in
-        let count : n ≡ missing = cc in
-        let kept : lent held ≡ left = cc in
-        (some, ran ∙ (λ i. badly (same i) (count i)), sym kept)
-
-module _ (holding : Lent) (bytes : List ℕ) (end start : ℕ) (rows : List ℤ) (r : Refusal) (missing : ℕ) (left : Lent)
-    (e : reading holding bytes end start rows ≡ refused r missing left) where
-  pub refused-why : ByBits holding bytes end start rows r missing left ⊎ ByTest r missing
-  unfolding readingBy lentTests EachElse numberOf
-  refused-why =
-      go (judged-why (λ q. refused q 0 holding) (readFrom table (heldIn holding) start (bitsFrom bytes end start)) (refused r missing left)
-      (lentTests (isHolding holding) bytes end start (length rows))
-      (by-test Room (λ z. omega arith) holding left r missing, (by-test Place (λ z. omega arith) holding left r missing, (by-test Value (λ z. omega arith) holding left r missing, tt))) e)
-    where
-      go : ((readFrom table (heldIn holding) start (bitsFrom bytes end start) ≡ refused r missing left) × AllHold (lentTests (isHolding holding) bytes end start (length rows))) ⊎ ByTest r missing
-          → ByBits holding bytes end start rows r missing left ⊎ ByTest r missing
-      go (inl it) =
-          let said = from-bits (heldIn holding) start (bitsFrom bytes end start) r missing left (it .0) in
-          inl (record { tests = it .1; some = said .0; ran = said .1; kept = said .2 })
-      go (inr it) = inr it
-
-  -- 3 and some bits, or another number and none
-  pub reading-reason : Reason r missing
-  reading-reason = go refused-why
-    where
-      go : ByBits holding bytes end start rows r missing left ⊎ ByTest r missing → Reason r missing
-      go (inl it) = ends-so (bitsFrom bytes end start) r missing (message-reasoned (heldIn holding)) (it .ran)
-      go (inr it) = inr it
 
 -- ---- a reading that is short
 
 module _ (holding : Lent) (bytes : List ℕ) (end start : ℕ) (rows : List ℤ) (missing : ℕ) (left : Lent)
     (e : reading holding bytes end start rows ≡ refused Short missing left) where
-  by-bits : ByBits holding bytes end start rows Short missing left
-  by-bits = go (refused-why holding bytes end start rows Short missing left e)
+  by-its-bits : ByBits holding bytes end start rows Short missing left
+  unfolding numberOf
+  by-its-bits = go (refused-why holding bytes end start rows Short missing left e)
     where
-      go : ByBits holding bytes end start rows Short missing left ⊎ ByTest Short missing → ByBits holding bytes end start rows Short missing left
-      go (inl it) = it
-      go (inr it) = absurd (it .0 refl)
+      go : Why holding bytes end start rows Short missing left → ByBits holding bytes end start rows Short missing left
+      go (by-test it) = absurd (it .whole refl)
+      go (by-bits it) = it
+      go (by-change it) = absurd (omega (arith, ap numberOf (it .is)))
 
   some-missing : 0 < missing
   some-missing = go (reading-reason holding bytes end start rows Short missing left e)
@@ -115,7 +56,7 @@ module _ (holding : Lent) (bytes : List ℕ) (end start : ℕ) (rows : List ℤ)
 
   -- so many bits are missing of the message that begins there
   pub reading-short : Lacks (message (heldIn holding)) (bitsFrom bytes end start) missing
-  reading-short = lacks (message (heldIn holding)) (bitsFrom bytes end start) missing (by-bits .ran) some-missing
+  reading-short = lacks (message (heldIn holding)) (bitsFrom bytes end start) missing (by-its-bits .ran) some-missing
 
 -- so it is where a walk stops, by what is held then
 pub walk-short : (holding : Lent) (bytes : List ℕ) (end : ℕ) (rows : List ℤ) (missing : ℕ) (left : Lent) → walk holding bytes end rows .stop ≡ refused Short missing left
@@ -125,7 +66,7 @@ walk-short holding bytes end rows missing left e =
     let w = walk holding bytes end rows in
     let it = walk-stops table holding bytes end 0 rows in
     let said : reading (it .0) bytes end (w .place) (w .rows) ≡ refused Short missing left = sym (it .1) ∙ e in
-    let kept = by-bits (it .0) bytes end (w .place) (w .rows) missing left said .kept in
+    let kept = by-its-bits (it .0) bytes end (w .place) (w .rows) missing left said .kept in
     rw kept (reading-short (it .0) bytes end (w .place) (w .rows) missing left said)
 
 pub walk-reason : (holding : Lent) (bytes : List ℕ) (end : ℕ) (rows : List ℤ) (r : Refusal) (missing : ℕ) (left : Lent) → walk holding bytes end rows .stop ≡ refused r missing left
@@ -164,7 +105,7 @@ module _ (more : List Bool) (bytes : List ℕ) (end : ℕ) (others : List ℕ) (
       → length more < missing → reading holding others far start rows ≡ refused Short (missing - length more) left
   unfolding readingBy lentTests AllHold readFrom endedAt
   longer-reading holding start rows missing left e less =
-      let it = by-bits holding bytes end start rows missing left e in
+      let it = by-its-bits holding bytes end start rows missing left e in
       let f = inside bytes end start (it .tests .1 .0) in
       let short = reading-short holding bytes end start rows missing left e .fewer more less in
       holds-all (λ r. refused r 0 holding) _ (lentTests (isHolding holding) others far start (length rows)) (it .tests .0, (is-placed others far start (there start f), it .tests .1 .1))
@@ -178,8 +119,9 @@ module _ (more : List Bool) (bytes : List ℕ) (end : ℕ) (others : List ℕ) (
       let all = all-hold (λ r. refused r 0 holding) _ (accepted m (start + taken)) _ (λ r f. false≢true cc) e .1 in
       let f = inside bytes end start (all .1 .0) in
       let again = run-append (message (heldIn holding)) (bitsFrom bytes end start) more m taken ran in
+      let stays = accepts-steady table holding bytes end start rows m (start + taken) e in
       holds-all (λ r. refused r 0 holding) _ (lentTests (isHolding holding) others far start (length rows)) (all .0, (is-placed others far start (there start f), all .1 .1))
-      ∙ rw (bits-longer start f, message-bits table (heldIn holding) (bitsFrom bytes end start ++ more) m taken again, again)
+      ∙ rw (bits-longer start f, message-bits table (heldIn holding) (bitsFrom bytes end start ++ more) m taken again, again, stays)
 
   -- so a walk that is short, with fewer bits more, hands out the same, and stops where it did, by that many less
   abbrev Longer : Lent → ℕ → List ℤ → Walk → Type 0

@@ -1,6 +1,6 @@
--- How a reading ends; and a stop changes nothing: neither the holding nor the row buffer. Assumes nothing.
-use mathlib.Core.Path.{_≡_, refl}
-use mathlib.Core.Bool.{Bool, true, false, cond}
+-- How a reading ends; and a stop leaves the row buffer (what it leaves of the holding: proofs/Refusals.antt). Assumes nothing.
+use mathlib.Core.Path.{_≡_, refl, sym, ap, _∙_}
+use mathlib.Core.Bool.{Bool, true, false, cond, false≢true}
 use mathlib.Core.List.{List, [], _∷_}
 use Prim.Native.Nat.{ℕ, _+_}
 use native.Mathlib.Omega.{arith}
@@ -8,14 +8,15 @@ use lib.Dec.{leb}
 use lib.IntN.{ℤ}
 use lib.ListN.{length}
 use Rattle.format.specs.declared.Refusal.{Refusal}
-use Rattle.format.specs.declared.Refusal.the-variants.{Room, Place, Value}
+use Rattle.format.specs.declared.Refusal.the-variants.{Room, Place, Value, Changed}
 use Rattle.format.specs.Answers as Answers
 use Rattle.format.specs.Assigned.{blank}
 use Rattle.format.specs.Good.{good, isHolding}
-use Rattle.format.specs.Masks.{Held, Lent, stray, lent, heldIn}
+use Rattle.format.specs.Masks.{Held, nothing, Lent, stray, lent, heldIn}
 use Rattle.format.specs.Programs.{Ended, well, badly, run}
-use Rattle.format.specs.Reading.{rowRoom, placed, Outcome, accepted, idle, refused, endedAt, readFrom, bitsFrom, lentTests, readingBy, reading, lentAfter, answerOf, rowsAfter}
-use Rattle.format.specs.Table.{Kind, Message, table, messageBy}
+use Rattle.format.specs.Reading.{rowRoom, placed, Outcome, accepted, idle, refused, endedAt, readFrom, bitsFrom, lentTests, readingBy, answerOf, rowsAfter}
+use Rattle.format.specs.Steady.{steady}
+use Rattle.format.specs.Table.{Kind, Message, messageBy}
 use Rattle.format.specs.Tests.{Test, verdict}
 
 -- ---- tests in their order
@@ -39,11 +40,11 @@ module _ (P : Outcome → Type 0) where
   branch false a b pa pb = pb
 
   -- a program's end
-  ended : (held : Held) → ((r : Refusal) (missing : ℕ) → P (refused r missing (lent held))) → (place : ℕ) (e : Ended Message)
+  ended : (held : Held) → ((r : Refusal) (missing : ℕ) → P (refused r missing (lent held))) → P (refused Changed 0 (lent nothing)) → (place : ℕ) (e : Ended Message)
       → ((m : Message) (taken : ℕ) → e ≡ well m taken → P (accepted m (place + taken))) → P (endedAt held place e)
   unfolding endedAt
-  ended held stop place (well m taken) said = said m taken refl
-  ended held stop place (badly r missing) said = stop r missing
+  ended held stop drop place (well m taken) said = branch (steady held (m .after)) _ _ (said m taken refl) drop
+  ended held stop drop place (badly r missing) said = stop r missing
 
   module _ (t : ℕ → Kind) (bytes : List ℕ) (end start : ℕ) (rows : List ℤ) where
     -- what is no holding is refused
@@ -54,25 +55,25 @@ module _ (P : Outcome → Type 0) where
         (record { holds = leb rowRoom (length rows); else = Room } ∷ record { holds = placed bytes end start; else = Place } ∷ [])
         stop (stop Value)
 
-    -- what holds of stops that keep what is held, and of whatever message is read, holds of reading the bits from a place on
+    -- what holds of stops that keep what is held, of a mask that changed, and of whatever message is read, holds of reading the bits from a place on
     pub read-ends :
-        (held : Held) → ((r : Refusal) (missing : ℕ) → P (refused r missing (lent held))) → P (idle (lent held))
+        (held : Held) → ((r : Refusal) (missing : ℕ) → P (refused r missing (lent held))) → P (refused Changed 0 (lent nothing)) → P (idle (lent held))
         → ((m : Message) (taken : ℕ) → run (messageBy t held) (bitsFrom bytes end start) ≡ well m taken → P (accepted m (start + taken)))
         → P (readFrom t held start (bitsFrom bytes end start))
     unfolding readFrom
-    read-ends held stop none said =
+    read-ends held stop drop none said =
         let l : List Bool = bitsFrom bytes end start in
-        branch (blank l) _ _ none (ended held stop start (run (messageBy t held) l) said)
+        branch (blank l) _ _ none (ended held stop drop start (run (messageBy t held) l) said)
 
     -- and of a reading, where what is lent is kept
     pub reading-ends :
-        (holding : Lent) → ((r : Refusal) (missing : ℕ) → P (refused r missing holding)) → P (idle holding)
+        (holding : Lent) → ((r : Refusal) (missing : ℕ) → P (refused r missing holding)) → P (refused Changed 0 (lent nothing)) → P (idle holding)
         → ((m : Message) (taken : ℕ) → run (messageBy t (heldIn holding)) (bitsFrom bytes end start) ≡ well m taken → P (accepted m (start + taken)))
         → P (readingBy t holding bytes end start rows)
     unfolding readingBy heldIn isHolding
-    reading-ends stray stop none said = stray-refused (λ r. stop r 0)
-    reading-ends (lent held) stop none said =
-        judged P (λ r. refused r 0 (lent held)) _ (lentTests (good held) bytes end start (length rows)) (λ r. stop r 0) (read-ends held stop none said)
+    reading-ends stray stop drop none said = stray-refused (λ r. stop r 0)
+    reading-ends (lent held) stop drop none said =
+        judged P (λ r. refused r 0 (lent held)) _ (lentTests (good held) bytes end start (length rows)) (λ r. stop r 0) (read-ends held stop drop none said)
 
 -- ---- stops
 
@@ -89,14 +90,30 @@ said-stopped place (accepted m next) e = absurd (let z : _≡_ {A = ℕ} 0 1 = c
 said-stopped place (idle holding) e = tt
 said-stopped place (refused r by holding) e = tt
 
-pub stop-holds : (holding : Lent) (bytes : List ℕ) (end start : ℕ) (rows : List ℤ) → Stopped (reading holding bytes end start rows)
-    → lentAfter (reading holding bytes end start rows) ≡ holding
-unfolding lentAfter
-stop-holds holding bytes end start rows =
-    reading-ends (λ o. Stopped o → lentAfter o ≡ holding) table bytes end start rows holding (λ r missing _. refl) (λ _. refl) (λ m taken e stopped. absurd stopped)
-
 pub stop-leaves : (o : Outcome) (rows : List ℤ) → Stopped o → rowsAfter o rows ≡ rows
 unfolding rowsAfter
 stop-leaves (accepted m next) rows stopped = absurd stopped
 stop-leaves (idle holding) rows stopped = refl
 stop-leaves (refused r missing holding) rows stopped = refl
+
+-- ---- what was accepted
+
+-- a program's end that is a message: what is held may become what it leaves
+pub record Read (held : Held) (place : ℕ) (e : Ended Message) (m : Message) (next : ℕ) : Type 0 where
+  pub taken : ℕ
+  pub ran : e ≡ well m taken
+  pub sum : place + taken ≡ next
+  pub stays : steady held (m .after) ≡ true
+
+pub read-so : (held : Held) (place : ℕ) (e : Ended Message) (m : Message) (next : ℕ) → endedAt held place e ≡ accepted m next → Read held place e m next
+unfolding endedAt
+read-so held place (badly r missing) m next e = absurd (false≢true cc)
+read-so held place (well k taken) m next e = go (steady held (k .after)) refl e
+  where
+    go : (b : Bool) → steady held (k .after) ≡ b → cond b (accepted k (place + taken)) (refused Changed 0 (lent nothing)) ≡ accepted m next
+        → Read held place (well k taken) m next
+    go false changed e = absurd (false≢true cc)
+    go true same e =
+        let is : k ≡ m = cc in
+        let sum : place + taken ≡ next = cc in
+        record { taken = taken; ran = ap (λ (x : Message). well x taken) is; sum = sum; stays = ap (λ (x : Message). steady held (x .after)) (sym is) ∙ same }

@@ -1,6 +1,6 @@
 -- Laws of the walk: what a message takes at the least, that the fuel suffices, how a walk goes on, and where it stops.
 -- Assumes nothing.
-use mathlib.Core.Path.{_≡_, refl, sym, ap, _∙_}
+use mathlib.Core.Path.{_≡_, refl, sym, ap, subst, _∙_}
 use mathlib.Core.Bool.{Bool, true}
 use mathlib.Core.List.{List, []}
 use Prim.Native.Nat.{ℕ, zero, suc, _+_, _-_, _*_, _≤_, _<_}
@@ -10,17 +10,19 @@ use lib.ListN.{length, length-append, length-drop, length-take}
 use lib.Seq.{length-take-le}
 use Rattle.bits.proofs.BitLists.{length-spell}
 use Rattle.format.specs.declared.Refusal.{Refusal}
+use Rattle.format.specs.declared.Refusal.the-variants.{Changed}
 use Rattle.format.specs.Good.{isHolding}
-use Rattle.format.specs.Masks.{Held, Lent, stray, lent, heldIn}
+use Rattle.format.specs.Masks.{Held, nothing, Lent, stray, lent, heldIn}
 use Rattle.format.specs.Programs.{Program, well, run}
-use Rattle.format.specs.Reading.{Outcome, accepted, idle, refused, bitsFrom, readingBy, lentAfter, rowsAfter}
+use Rattle.format.specs.Reading.{Outcome, accepted, idle, refused, bitsFrom, readingBy, keptBy, lentAfter, rowsAfter}
 use Rattle.format.specs.Table.{Message, Kind, table, byKind, messageBy, message}
 use Rattle.format.specs.Walking.{handedAt, Walk, hand, goOn, walkFrom, walkOn, walk, messages}
-use Rattle.format.proofs.HeldGood.{held-good, stays-good}
+use Rattle.format.proofs.HeldGood.{held-good, stays-good, reading-good}
 use Rattle.format.proofs.Lengths.{message-enough}
 use Rattle.format.proofs.Runs.{taken-le}
 use Rattle.format.proofs.Steps.{Gives, gives-so, gives-itself}
-use Rattle.format.proofs.Stops.{reading-ends, stray-refused, Stopped, stop-holds}
+use Rattle.format.proofs.Refusals.{stop-holds}
+use Rattle.format.proofs.Stops.{reading-ends, stray-refused, Stopped}
 use Rattle.format.proofs.Tables.{gives-message}
 
 -- ---- what a message takes at the least
@@ -59,7 +61,7 @@ module _ (t : ℕ → Kind) (holding : Lent) (bytes : List ℕ) (end place : ℕ
       → goOn (readingBy t holding bytes end place rows) place rows f ≡ goOn (readingBy t holding bytes end place rows) place rows g
   unfolding goOn
   goes-same rows f g same =
-      reading-ends (λ o. goOn o place rows f ≡ goOn o place rows g) t bytes end place rows holding (λ r missing. refl) refl
+      reading-ends (λ o. goOn o place rows f ≡ goOn o place rows g) t bytes end place rows holding (λ r missing. refl) refl refl
       (λ m taken e.
       let inside = ends-inside m taken e in
       ap (hand (handedAt place m (place + taken))) (same m (place + taken) (omega arith) (inside .1)))
@@ -117,6 +119,7 @@ module _ (t : ℕ → Kind) (bytes : List ℕ) (end : ℕ) where
         → P holding place rows (goOn o place rows (λ m next. walkFrom t fuel (lent (m .after)) bytes end next (rowsAfter (accepted m next) rows))))
         t bytes end place rows holding
         (λ r missing e. law .stops holding place rows (refused r missing holding) e tt)
+        (λ e. law .stops holding place rows (refused Changed 0 (lent nothing)) e tt)
         (λ e. law .stops holding place rows (idle holding) e tt)
         (λ m taken ran e.
         let inside = ends-inside t holding bytes end place m taken ran in
@@ -194,22 +197,23 @@ module _ (holding : Lent) (bytes : List ℕ) (end : ℕ) (rows : List ℤ) where
 
 -- ---- what is held after a walk
 
--- where no message was handed out, what was lent
-all-kept : (bytes : List ℕ) (end : ℕ) → Law table bytes end (λ holding place rows w. messages w ≡ 0 → lentAfter (w .stop) ≡ holding)
+-- where no message was handed out, what its stop leaves of what was lent
+all-kept : (bytes : List ℕ) (end : ℕ) → Law table bytes end (λ holding place rows w. messages w ≡ 0 → lentAfter (w .stop) ≡ keptBy (w .stop) holding)
 unfolding hand messages
 all-kept bytes end = record {
   stops = λ holding place rows o e stopped none. rw e at (stop-holds holding bytes end place rows (rw e stopped));
   goes = λ holding place rows m taken w e ran it none. absurd (omega arith);
 }
 
-pub none-kept : (holding : Lent) (bytes : List ℕ) (end : ℕ) (rows : List ℤ) → messages (walk holding bytes end rows) ≡ 0 → lentAfter (walk holding bytes end rows .stop) ≡ holding
+pub none-kept : (holding : Lent) (bytes : List ℕ) (end : ℕ) (rows : List ℤ) → messages (walk holding bytes end rows) ≡ 0
+    → lentAfter (walk holding bytes end rows .stop) ≡ keptBy (walk holding bytes end rows .stop) holding
 none-kept holding bytes end rows = every-walk table bytes end _ (all-kept bytes end) holding 0 rows
 
 -- what it leaves is good where what it found was
 pub all-good : (bytes : List ℕ) (end : ℕ) → Law table bytes end (λ holding place rows w. isHolding holding ≡ true → isHolding (lentAfter (w .stop)) ≡ true)
 unfolding hand messages isHolding heldIn
 all-good bytes end = record {
-  stops = λ holding place rows o e stopped fine. rw (all-kept bytes end .stops holding place rows o e stopped refl) fine;
+  stops = λ holding place rows o e stopped fine. subst (λ (x : Outcome). isHolding (lentAfter x) ≡ true) e (reading-good holding bytes end place rows fine);
   goes = λ holding place rows m taken w e ran it fine. it (stays-good (heldIn holding) (held-good holding fine) (bitsFrom bytes end place) m taken ran);
 }
 

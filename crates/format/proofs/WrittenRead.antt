@@ -28,6 +28,8 @@ use Rattle.format.proofs.Placed.{Inside, inside, is-placed}
 use Rattle.format.proofs.RoundTrips.{exact-reads, written-again}
 use Rattle.format.proofs.Runs.{drop-take, taken-le}
 use Rattle.format.proofs.Sames.{and-true, true-and}
+use Rattle.format.proofs.Steadiness.{steady-itself}
+use Rattle.format.proofs.Stops.{read-so}
 use Rattle.format.proofs.Verdicts.{AllHold, all-hold, holds-all}
 use Rattle.format.proofs.Walks.{ends-inside}
 
@@ -42,7 +44,7 @@ pub record Took (holding : Lent) (bytes : List ℕ) (end start : ℕ) (m : Messa
 
 pub took : (holding : Lent) (bytes : List ℕ) (end start : ℕ) (rows : List ℤ) (m : Message) (next : ℕ) → reading holding bytes end start rows ≡ accepted m next
     → Took holding bytes end start m next
-unfolding readingBy readFrom endedAt lentTests AllHold
+unfolding readingBy readFrom lentTests AllHold
 took holding bytes end start rows m next e =
     let it = all-hold (λ r. Reading.refused r 0 holding) _ (accepted m next) _ (λ r f. false≢true cc) e in
     let l : List Bool = bitsFrom bytes end start in
@@ -52,11 +54,9 @@ took holding bytes end start rows m next e =
         → cond none (idle (lent (heldIn holding))) (endedAt (heldIn holding) start r) ≡ accepted m next
         → isHolding holding ≡ true → Inside bytes end start → Took holding bytes end start m next
     go true r ran e held within = absurd (false≢true cc)
-    go false (badly r missing) ran e held within = absurd (false≢true cc)
-    go false (well k taken) ran e held within =
-        let same : k ≡ m = cc in
-        let sum : start + taken ≡ next = cc in
-        record { held = held; within = within; taken = taken; ran = ran ∙ ap (λ (x : Message). well x taken) same; sum = sum }
+    go false r ran e held within =
+        let it = read-so (heldIn holding) start r m next e in
+        record { held = held; within = within; taken = it .taken; ran = ran ∙ it .ran; sum = it .sum }
 
 -- ---- reading what was written
 
@@ -121,7 +121,7 @@ module _ (holding : Lent) (h : Head) (rows : List ℤ) (count : ℕ) (bytes : Li
         holds-all (λ r. Reading.refused r 0 holding) _ (lentTests (isHolding holding) after end start (length buffer))
         (le-leb _ _ enough, (is-placed after end start there, (w .held, tt)))
         ∙ ap (λ (l : List Bool). readFrom table (heldIn holding) start l) (stretch end room)
-        ∙ rw (not-blank more, exact-reads (heldIn holding) h (rowsIn count rows) (w .right) more)
+        ∙ rw (not-blank more, exact-reads (heldIn holding) h (rowsIn count rows) (w .right) more, steady-itself (heldIn holding))
 
 -- ---- writing what was read
 

@@ -4,7 +4,7 @@ use Rattle.format.specs.declared.Answer.{Answer}
 use Rattle.format.specs.declared.Answer.the-variants.{Message, Idle, Refused}
 use Rattle.format.specs.declared.Head.{Head}
 use Rattle.format.specs.declared.Refusal.{Refusal}
-use Rattle.format.specs.declared.Refusal.the-variants.{Room, Place, Short, Number, SubType, NoMask, OtherIssue, System, Reserved, Size, Network, Value}
+use Rattle.format.specs.declared.Refusal.the-variants.{Room, Place, Short, Number, SubType, NoMask, OtherIssue, System, Reserved, Size, Network, Value, Changed}
 
 unfoldable pub numberOf : Refusal → ℕ
 numberOf Room = 1
@@ -19,12 +19,13 @@ numberOf Reserved = 9
 numberOf Size = 10
 numberOf Network = 11
 numberOf Value = 12
+numberOf Changed = 13
 
 -- and of idle
 abbrev pub idleNumber : ℕ
 idleNumber = 0
 
--- What an answer to reading at a start says on paper: each of 0 to 12 its number, the start asked for, and how many bits were missing (document 02,
+-- What an answer to reading at a start says on paper: each of 0 to 13 its number, the start asked for, and how many bits were missing (document 02,
 -- Ask 7: none but with 3); a message, which has no number there, its head, the place after it and its row count.
 pub data Said : Type 0 where
   stop : ℕ → ℕ → ℕ → Said

@@ -16,6 +16,7 @@ pub mod Walking
 pub mod Writing
 pub mod Text
 pub mod Saved
+pub mod Steady
 pub mod Listing
 pub mod Lengths
 pub mod Layouts

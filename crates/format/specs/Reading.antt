@@ -1,20 +1,22 @@
--- Reading one message: the reader's order 1, 2, 12, 0, then field by field. By a table of sub types; ours is `table`.
+-- Reading one message: the reader's order 1, 2, 12, 0, then field by field, and 13 last (document 02, Ask 2). By a table of sub types; ours is `table`.
 use mathlib.Core.Bool.{Bool, cond, _&&_}
 use mathlib.Core.List.{List, [], _∷_, _++_, flatten}
 use Prim.Native.Nat.{ℕ, _+_, _*_}
-use lib.Dec.{leb}
+use lib.Dec.{leb, eqb}
 use lib.IntN.{ℤ}
 use lib.ListN.{length, take, drop}
 use Rattle.bits.specs.BitLists.{bits, number}
 use Rattle.format.specs.declared.Answer.{Answer}
 use Rattle.format.specs.declared.Answer.the-variants as Answers
 use Rattle.format.specs.declared.Refusal.{Refusal}
-use Rattle.format.specs.declared.Refusal.the-variants.{Room, Place, Value}
+use Rattle.format.specs.declared.Refusal.the-variants.{Room, Place, Value, Changed}
+use Rattle.format.specs.Answers.{numberOf}
 use Rattle.format.specs.Assigned.{blank}
 use Rattle.format.specs.Good.{isHolding}
-use Rattle.format.specs.Masks.{Held, Lent, lent, heldIn}
+use Rattle.format.specs.Masks.{Held, nothing, Lent, lent, heldIn}
 use Rattle.format.specs.Table.{Kind, Message, table, messageBy}
 use Rattle.format.specs.Programs.{Ended, well, badly, run}
+use Rattle.format.specs.Steady.{steady}
 use Rattle.format.specs.Tests.{Test, verdict}
 
 -- 30 data parts of 1,695 bits; 256 rows of eight numbers
@@ -30,9 +32,9 @@ pub data Outcome : Type 0 where
   idle : Lent → Outcome
   refused : Refusal → ℕ → Lent → Outcome
 
--- what a program's end is to the place where it began
+-- What a program's end is to the place where it began. Every refusal leaves what is held but one: a mask that changed under one issue drops it.
 unfoldable pub endedAt : Held → ℕ → Ended Message → Outcome
-endedAt held place (well m taken) = accepted m (place + taken)
+endedAt held place (well m taken) = cond (steady held (m .after)) (accepted m (place + taken)) (refused Changed 0 (lent nothing))
 endedAt held place (badly r missing) = refused r missing (lent held)
 
 -- reading the bits from a place on: idle where they are all zero, or none
@@ -67,6 +69,12 @@ abbrev pub reading : Lent → List ℕ → ℕ → ℕ → List ℤ → Outcome
 reading holding bytes end start rows = readingBy table holding bytes end start rows
 
 -- ---- what a reading leaves
+
+-- Every stop leaves what was lent, but for 13, which leaves the empty holding (proofs/Refusals.antt, `stop-holds`).
+unfoldable pub keptBy : Outcome → Lent → Lent
+keptBy (accepted m next) holding = holding
+keptBy (idle left) holding = holding
+keptBy (refused r missing left) holding = cond (eqb (numberOf r) (numberOf Changed)) (lent nothing) holding
 
 unfoldable pub lentAfter : Outcome → Lent
 lentAfter (accepted m next) = lent (m .after)

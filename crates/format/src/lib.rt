@@ -30,6 +30,7 @@ pub enum Refusal {
     Size,
     Network,
     Value,
+    Changed,
 }
 
 // Document 01's number of a refusal.
@@ -49,6 +50,7 @@ pub fn number(r: Refusal) -> u64
         Refusal::Size => 10,
         Refusal::Network => 11,
         Refusal::Value => 12,
+        Refusal::Changed => 13,
     }
 }
 
