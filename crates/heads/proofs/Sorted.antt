@@ -1,7 +1,7 @@
 -- Reading a message by its sub type is crate format's reading: its opening, then its heading and body, or a mask. Assumes nothing.
-use Rattle.bits.proofs.Words.{_≡_, refl, ap, _∙_, Bool, true, false, List, [], ℕ, zero, suc, _+_, _-_, eqb, take, ℤ}
+use Rattle.bits.proofs.Words.{_≡_, refl, ap, _∙_, Bool, true, false, cond, List, ℕ, zero, suc, _+_, _-_, eqb, take, ℤ}
 use native.Mathlib.Nat.{add-zero}
-use Rattle.format.specs.declared.Refusal.the-variants.{OtherIssue}
+use Rattle.format.specs.declared.Refusal.the-variants.{OtherIssue, Changed}
 use Rattle.format.specs.Ends.{Within, endFrom}
 use Rattle.format.specs.Masks.{Held, nothing, mask, lent, Sky, skyOf}
 use Rattle.format.specs.Messages as Messages
@@ -9,12 +9,14 @@ use Rattle.format.specs.Messages.{Common, common, bodied, body, maskMessage}
 use Rattle.format.specs.Programs.{Program, done, _>>=_, _>>_, require, Ended, well, badly, later, unlessShort, run}
 use Rattle.format.specs.Reading.{Outcome, accepted, refused, endedAt, bitsFrom}
 use Rattle.format.specs.Rows.{bodyWidth, rowsOf}
+use Rattle.format.specs.Steady.{steady}
 use Rattle.format.specs.Table.{Message, gate, underMask, keeping, byKind}
 use Rattle.format.proofs.Ends.{by-end, then-well, then-badly}
 use Rattle.format.proofs.Placed.{length-from}
 use Rattle.format.proofs.Runs.{run-bind, run-bind-badly, bind-assoc}
+use Rattle.format.proofs.Steadiness.{steady-itself}
 use Rattle.heads.specs.Headings.{gateBy, gatedBy, underBy}
-use Rattle.heads.specs.Sorting.{headingFor, underWith, bodiedBy, headedAt, adoptedBy, seenOf, skyHeld}
+use Rattle.heads.specs.Sorting.{headingFor, underWith, bodiedBy, headedAt, maskSaid, adoptedBy, seenOf, skyHeld}
 use Rattle.holding.specs.Held.{isHeld, issueOf, satellitesHeld, cellsHeld}
 use Rattle.table.specs.declared.Kind.{Kind}
 use Rattle.table.specs.declared.Kind.the-variants.{Other, Mask as IsMask, Packet, Masked}
@@ -24,7 +26,7 @@ use Rattle.table.specs.Kinds.{programBy, maskedBy, kindBy}
 -- ---- an outcome by the place where a program ends
 
 unfoldable pub endedBy : Held → Ended Message → Outcome
-endedBy held (well m next) = accepted m next
+endedBy held (well m next) = cond (steady held (m .after)) (accepted m next) (refused Changed 0 (lent nothing))
 endedBy held (badly r missing) = refused r missing (lent held)
 
 pub ended-from : (held : Held) (place : ℕ) (e : Ended Message) → endedAt held place e ≡ endedBy held (later place e)
@@ -48,7 +50,7 @@ module _ {bs : List ℕ} {end place : ℕ} (at : Within bs end place) (held : He
       go : (missing : ℕ)
           → let m = with-rows d (rowsOf (d .lines) (take (bodyWidth (d .lines)) (bitsFrom bs end next))) in
           endedBy held (later next (unlessShort missing (well m (bodyWidth (d .lines) + 0)))) ≡ bodiedBy held m (next + bodyWidth (d .lines)) missing
-      go zero = rw add-zero
+      go zero = rw (add-zero, steady-itself held)
       go (suc missing) = refl
 
   keeping-parts : (p : Program Messages.Heading) → keeping held p ≡ p >>= then-body
@@ -66,7 +68,7 @@ module _ {bs : List ℕ} {end place : ℕ} (at : Within bs end place) (held : He
 -- ---- a mask
 
 abbrev made : Messages.Adopted → Program Message
-made d = done (record { content = record { head = d .head; rows = [] }; after = mask (d .made) })
+made d = done (maskSaid d)
 
 pub adopted-ended : (held : Held) (place : ℕ) (n : ℕ) (l : List Bool) → endedAt held place (run (byKind (kindBy n IsMask) held) l) ≡ adoptedBy held place (run maskMessage l)
 unfolding byKind kindBy adoptedBy endedAt later run
