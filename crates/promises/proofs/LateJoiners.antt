@@ -11,19 +11,19 @@ use Rattle.format.specs.Masks.{Held, nothing, lent, heldIn}
 use Rattle.format.specs.Reading.{bitsFrom, subTypeIn}
 use Rattle.format.specs.Table.{Kind, table, kinds}
 use Rattle.promises.specs.LateJoiners.{Turn, received, first, second, heldAfter, firstAfter, secondAfter, Throughout, Unrefused, RoomEnough, SameIssueSameMask, StoppedWith, OpensWithMask, ShowsTheTruth, ShowsTheTruthBut}
-use Rattle.promises.proofs.TwoTables.{Weaker, weaker-refl, Adopts, Sure}
-use Rattle.promises.proofs.TwoWalks.{Along, two-walks}
+use Rattle.promises.proofs.TwoTables.{Weaker, weaker-refl, Adopts}
+use Rattle.promises.proofs.TwoWalks.{Along, Whole, two-walks}
 
 -- ---- two tables, of which the second refuses more
 
 module _ {More : Refusal → Type 0} (t u : ℕ → Kind) (weak : (n : ℕ) → Weaker More (t n) (u n)) (adopting : Adopts (t 1)) where
   module _ (f s : Held) (x : Turn) (fine : good s ≡ true) (ends : Unrefused t f s x) (room : RoomEnough f s x) (equal : SameIssueSameMask f s x) where
     -- a stretch that the second gets
-    got : x .gets ≡ true → Along More (Sure f s (t (subTypeIn (bitsFrom (x .bytes) (x .end) 0)))) (first t f x) (second u s x)
+    got : x .gets ≡ true → Along More (Whole f s (t (subTypeIn (bitsFrom (x .bytes) (x .end) 0))) 0 (second u s x)) (first t f x) (second u s x)
     unfolding Unrefused RoomEnough SameIssueSameMask first second received heldIn
     got gets = two-walks More t u (x .bytes) (x .end) weak (lent f) 0 (x .rows) s (record { sound = λ _. fine; equal = equal gets }) (x .others) (room gets) ends
 
-    -- what the demand says of it: the mask refuses nothing where it opens with a mask message or both then hold the same
+    -- what the demand says of it: the mask refuses nothing where both then hold the same, or where it opens with a mask message that is not itself refused
     turn-truth : ShowsTheTruthBut More t u f s x
     unfolding ShowsTheTruthBut OpensWithMask
     turn-truth gets =
@@ -31,7 +31,7 @@ module _ {More : Refusal → Type 0} (t u : ℕ → Kind) (weak : (n : ℕ) → 
         record {
           opening = it .opening;
           stopping = it .stopping;
-          all = λ either. it .all (⊎-elim (λ opens. inr (subst (λ (n : ℕ). Adopts (t n)) (sym opens) adopting)) inl either);
+          all = λ either. it .all (⊎-elim (λ opens. inr (subst (λ (n : ℕ). Adopts (t n)) (sym (opens .0)) adopting, opens .1)) inl either);
         }
 
     -- what the second holds after a turn

@@ -1,5 +1,5 @@
--- Runs of late joiners, computed: two of which all is true that demand 3 supposes, and one where two masks of one issue differ, which shows that this is needed.
--- Assumes nothing.
+-- Runs of late joiners, computed: three of which all is true that demand 3 supposes, and one where two masks of one issue differ, which shows that this is
+-- needed. Assumes nothing.
 use mathlib.Core.Path.{_≡_, refl, ap}
 use mathlib.Core.Bool.{Bool, true, false, cond, false≢true}
 use mathlib.Core.List.{List, [], _∷_, _++_, flatMap, flatten}
@@ -140,15 +140,60 @@ lags-truth : Throughout table table (ShowsTheTruth table) nothing nothing lags
 unfolding Throughout lags
 lags-truth = late-joiners lags lags-unrefused (enough _ _ _ _, (enough _ _ _ _, (enough _ _ _ _, tt))) lags-equal
 
--- ---- two masks of one issue: the second misses the later one, and shows a neighbour's clock
+-- ---- one that is told of a change: it misses a mask, the number comes back with another one, and it refuses that as "changed mask" and then holds nothing
+
+drops : List Turn
+drops =
+    turn true (maskOf 3 one-and-three)
+    ∷ turn false (maskOf 4 one-and-three)
+    ∷ turn true (maskOf 3 one-and-two ++ clock 3)
+    ∷ turn true (maskOf 3 one-and-two ++ clock 3)
+    ∷ []
+
+-- of the stretch that opens with the changed mask it hands out nothing, and of the next, which opens with it again, all
+drops-report :
+    reports nothing nothing drops
+    ≡ ((0 at 110 after 1 and 0 says (saidMask 110 3 1 ∷ [])) ∷ (0 at 110 after 1 and 0 says (saidMask 110 3 1 ∷ [])) ∷ [])
+    ∷ ((0 at 110 after 1 and 0 says (saidMask 110 4 1 ∷ [])) ∷ [])
+    ∷ ((0 at 177 after 2 and 2 says (saidMask 110 3 1 ∷ saidClocks 110 3 2)) ∷ (13 at 0 after 0 and 0 says []) ∷ [])
+    ∷ ((0 at 177 after 2 and 2 says (saidMask 110 3 1 ∷ saidClocks 110 3 2)) ∷ (0 at 177 after 2 and 2 says (saidMask 110 3 1 ∷ saidClocks 110 3 2)) ∷ [])
+    ∷ []
+unfolding runs drops
+drops-report = refl
+
+-- what it held before the stretch that it misses is dropped
+drops-empty : secondAfter table (secondAfter table nothing (turn true (maskOf 3 one-and-three))) (turn true (maskOf 3 one-and-two ++ clock 3)) ≡ nothing
+unfolding runs
+drops-empty = refl
+
+-- none refused
+drops-unrefused : Throughout table table (Unrefused table) nothing nothing drops
+unfolding runs drops
+drops-unrefused = (tt, (tt, (tt, (tt, tt))))
+
+-- masks of one issue are equal: where the changed one comes, they hold masks of two issues
+drops-equal : Throughout table table SameIssueSameMask nothing nothing drops
+unfolding runs drops issueOf
+drops-equal = (
+  (λ _ m n _ e _. cc),
+  ((λ gets. absurd (false≢true gets)), ((λ _ m n e g same. absurd (omega (arith, ap issueOf e, ap issueOf g, same))), ((λ _ m n _ e _. cc), tt))),
+)
+
+-- so the demand speaks of this run
+drops-truth : Throughout table table (ShowsTheTruth table) nothing nothing drops
+unfolding Throughout drops
+drops-truth = late-joiners drops drops-unrefused (enough _ _ _ _, (enough _ _ _ _, (enough _ _ _ _, (enough _ _ _ _, tt)))) drops-equal
+
+-- ---- two masks of one issue: the second misses all masks until the number comes back with another one, and shows a neighbour's clock
 
 clashes : List Turn
-clashes = turn true (maskOf 3 one-and-three) ∷ turn false (maskOf 3 one-and-two) ∷ turn true (clock 3) ∷ []
+clashes = turn true (maskOf 3 one-and-three) ∷ turn false (maskOf 4 one-and-three) ∷ turn false (maskOf 3 one-and-two) ∷ turn true (clock 3) ∷ []
 
 -- both read the last stretch to its end, to different satellites
 clashes-report :
     reports nothing nothing clashes
     ≡ ((0 at 110 after 1 and 0 says (saidMask 110 3 1 ∷ [])) ∷ (0 at 110 after 1 and 0 says (saidMask 110 3 1 ∷ [])) ∷ [])
+    ∷ ((0 at 110 after 1 and 0 says (saidMask 110 4 1 ∷ [])) ∷ [])
     ∷ ((0 at 110 after 1 and 0 says (saidMask 110 3 1 ∷ [])) ∷ [])
     ∷ ((0 at 67 after 1 and 2 says saidClocks 0 3 2) ∷ (0 at 67 after 1 and 2 says saidClocks 0 3 3) ∷ [])
     ∷ []
@@ -158,17 +203,18 @@ clashes-report = refl
 -- none refused
 clashes-unrefused : Throughout table table (Unrefused table) nothing nothing clashes
 unfolding runs clashes
-clashes-unrefused = (tt, (tt, (tt, tt)))
+clashes-unrefused = (tt, (tt, (tt, (tt, tt))))
 
 -- what it hands out is no opening part of the first receiver's messages
 clashes-untrue : Throughout table table (ShowsTheTruth table) nothing nothing clashes → ⊥
 unfolding runs clashes
 clashes-untrue truth =
-    let other : pos 2 ≡ pos 3 = ap (numberAt 9) (truth .1 .1 .0 refl .opening .1) in
+    let other : pos 2 ≡ pos 3 = ap (numberAt 9) (truth .1 .1 .1 .0 refl .opening .1) in
     let z : _≡_ {A = ℕ} 2 3 = cc in
     omega arith
 
 -- so it is supposed that masks of one issue are equal, and of this run it is not so
 clashes-unequal : Throughout table table SameIssueSameMask nothing nothing clashes → ⊥
 unfolding Throughout clashes
-clashes-unequal equal = clashes-untrue (late-joiners clashes clashes-unrefused (enough _ _ _ _, (enough _ _ _ _, (enough _ _ _ _, tt))) equal)
+clashes-unequal equal =
+    clashes-untrue (late-joiners clashes clashes-unrefused (enough _ _ _ _, (enough _ _ _ _, (enough _ _ _ _, (enough _ _ _ _, tt)))) equal)

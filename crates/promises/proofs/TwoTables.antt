@@ -1,5 +1,5 @@
--- One message read by two receivers, each by a table of its own, of which the second's may refuse more: the second says the same, or is refused for its mask,
--- or with what its table refuses more. Assumes nothing.
+-- The bits of one message read by two receivers, each by a table of its own, of which the second's may refuse more: the second says the same, or is refused
+-- for its mask, or with what its table refuses more. Whether a mask may be adopted is not asked here: see TwoReadings. Assumes nothing.
 use mathlib.Core.Path.{_≡_, refl, sym, _∙_}
 use mathlib.Core.Bool.{Bool, true, false, cond, false≢true}
 use mathlib.Core.List.{List}
@@ -54,7 +54,7 @@ level held = record { sound = λ fine. fine; equal = λ m n first second issue. 
 abbrev pub Adopts : Kind → Type 0
 Adopts k = elim k [ other ↦ ⊥ | free x ↦ ⊥ | masked x ↦ ⊥ | adopts x ↦ Unit {0} ]
 
--- where the mask can refuse nothing: both hold the same, or the message is a mask
+-- where no bits are refused for the mask: both hold the same, or the message is a mask
 abbrev pub Sure : Held → Held → Kind → Type 0
 Sure f s k = (f ≡ s) ⊎ Adopts k
 

@@ -1,5 +1,5 @@
--- Demand 3: late joiners show the truth or refuse by name. What is supposed of two receivers, and what then holds, in the demand's order.
--- Each by a table of sub types of its own; one edition is the case of one table.
+-- Demand 3: late joiners show the truth or refuse by name. What is supposed of two receivers, and what then holds, in the demand's order; its last two
+-- sentences as document 02, Ask 2 has changed them. Each by a table of sub types of its own; one edition is the case of one table.
 use mathlib.Core.Path.{_≡_}
 use mathlib.Core.Bool.{Bool, true, cond}
 use mathlib.Core.List.{List, [], _∷_, _++_}
@@ -8,7 +8,7 @@ use Prim.Native.Nat.{ℕ, _≤_}
 use lib.IntN.{ℤ}
 use lib.ListN.{length}
 use Rattle.format.specs.declared.Refusal.{Refusal}
-use Rattle.format.specs.declared.Refusal.the-variants.{NoMask, OtherIssue}
+use Rattle.format.specs.declared.Refusal.the-variants.{NoMask, OtherIssue, Changed}
 use Rattle.format.specs.Masks.{Mask, Held, mask, Lent, lent, heldIn}
 use Rattle.format.specs.Messages.{maskType}
 use Rattle.format.specs.Reading.{rowRoom, Outcome, accepted, idle, refused, bitsFrom, subTypeIn, lentAfter}
@@ -83,22 +83,28 @@ AtTheEnd a b = IsIdle (b .stop) × (b .place ≡ a .place)
 unfoldable pub StoppedWith : (Refusal → Type 0) → Outcome → Type 0
 StoppedWith Named o = (r : Refusal) × (missing : ℕ) × (holding : Lent) × (o ≡ refused r missing holding) × Named r
 
--- "no mask" or "other issue"
+-- "no mask" or "other issue"; by Ask 2 "the second receiver may then stop with 'changed mask' as well"
 pub data OfTheMask : Refusal → Type 0 where
   no-mask : OfTheMask NoMask
   other-issue : OfTheMask OtherIssue
+  changed-mask : OfTheMask Changed
 
 -- "if the stretch opens with a mask message"
 unfoldable pub OpensWithMask : Turn → Type 0
 OpensWithMask x = subTypeIn (bitsFrom (x .bytes) (x .end) 0) ≡ maskType
 
+-- By Ask 2 "unless that message is so refused": a walk that stopped with "changed mask" at a place. At 0 that is its opening message.
+unfoldable pub ChangedAt : ℕ → Walk → Type 0
+ChangedAt place b = (b .place ≡ place) × StoppedWith (λ r. r ≡ Changed) (b .stop)
+
 pub record Truth (f s : Held) (x : Turn) (a b : Walk) : Type 0 where
   -- "it hands out an opening part of the first receiver's messages, record for record"
   pub opening : OpeningPart (b .handed) (a .handed)
-  -- "stopping at the end or with 'no mask' or 'other issue'"
+  -- "stopping at the end or with 'no mask' or 'other issue'", by Ask 2 with "changed mask" as well
   pub stopping : AtTheEnd a b ⊎ StoppedWith OfTheMask (b .stop)
-  -- "It hands out all of them if the stretch opens with a mask message or both then hold the same"
-  pub all : OpensWithMask x ⊎ (f ≡ s) → b .handed ≡ a .handed
+  -- "It hands out all of them if the stretch opens with a mask message or both then hold the same"; by Ask 2 "a stretch that opens with a mask message is
+  -- handed out whole unless that message is so refused". Where both hold the same, nothing was added: no mask that the first takes is then refused.
+  pub all : (OpensWithMask x × ¬ ChangedAt 0 b) ⊎ (f ≡ s) → b .handed ≡ a .handed
 
 unfoldable pub ShowsTheTruth : (ℕ → Kind) → Held → Held → Turn → Type 0
 ShowsTheTruth t f s x = x .gets ≡ true → Truth f s x (first t f x) (second t s x)
@@ -110,4 +116,5 @@ pub record TruthBut (More : Refusal → Type 0) (sure : Type 0) (a b : Walk) : T
   pub all : sure → (b .handed ≡ a .handed) ⊎ StoppedWith More (b .stop)
 
 unfoldable pub ShowsTheTruthBut : (Refusal → Type 0) → (ℕ → Kind) → (ℕ → Kind) → Held → Held → Turn → Type 0
-ShowsTheTruthBut More t u f s x = x .gets ≡ true → TruthBut More (OpensWithMask x ⊎ (f ≡ s)) (first t f x) (second u s x)
+ShowsTheTruthBut More t u f s x =
+    x .gets ≡ true → TruthBut More ((OpensWithMask x × ¬ ChangedAt 0 (second u s x)) ⊎ (f ≡ s)) (first t f x) (second u s x)
