@@ -18,3 +18,4 @@ pub mod SoundTested
 pub mod OneSlot
 pub mod TestedSound
 pub mod Shapes
+pub mod Compared

@@ -7,3 +7,4 @@ pub mod Testing
 pub mod Assigning
 pub mod Gathering
 pub mod Outlines
+pub mod Comparing
