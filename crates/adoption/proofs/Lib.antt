@@ -2,3 +2,4 @@ pub mod Bitwise
 pub mod Strips
 pub mod StageEnds
 pub mod ManySystems
+pub mod Offered

@@ -1,17 +1,22 @@
 // The systems of a mask message, one after the other, read into the one holding that they make.
 ghost use mathlib.Core.Path.{_≡_};
+ghost use mathlib.Core.Bool.{true};
 ghost use mathlib.Core.List.{[]};
 ghost use Prim.Native.Nat.{_≤_, _<_};
 ghost use lib.ListN.{length, take};
 ghost use Rattle.adoption.specs.Adoptions.{made, madeBy};
 ghost use Rattle.adoption.specs.Stages.{untested, endSystem, FitsSystem, withSystems};
 ghost use Rattle.format.specs.Ends.{Within, endFrom};
+ghost use Rattle.holding.specs.Outlines.{wholeOf};
+ghost use Rattle.holding.specs.Pictures.{sound};
 use crate::Adoption;
 use crate::cells;
 use crate::cells::Masks;
 use crate::cells::System;
 use crate::grow;
-use crate::refused;
+use crate::keeping;
+use crate::settle::Offer;
+use crate::settle::settled;
 use crate::stages;
 use crate::stages::Masked;
 use crate::stages::Named;
@@ -20,6 +25,7 @@ use format::Head;
 use format::Refusal;
 use heads::front_at;
 use holding::Holding;
+use holding::Outline;
 use holding::set_places;
 
 // The system at a place up to its cells, after count others with nsat satellites.
@@ -60,21 +66,22 @@ pub struct Before {
     pub place: usize,
 }
 
-// The systems from a place on, and the message that they end. The holding is written out here and changed in place: each
-// function that it went through by value would be a copy. What is lent gets its masks and strips where all is well. The
-// test of 256 cells comes after the cell mask, or after a zero flag (document 01, "Reader's order").
+// The systems from a place on, and the message that they end. The holding that they make is written out here and changed in
+// place: each function that it went through by value would be a copy. The test of 256 cells comes after the cell mask, or
+// after a zero flag (document 01, "Reader's order").
 pub fn all(
+    held: Outline,
     before: Before,
     bytes: &[u8],
     end: usize,
     satellites: &mut [u64; Holding::SYSTEMS],
     strips: &mut [u16; Holding::SATELLITES],
 ) -> Adoption
-    requires { ⌜ (before .iod < 16) × Within (now bytes) end (before .place) ⌝ }
-    ensures { λ r. ⌜ made r (now (satellites .exit)) (now (strips .exit)) ≡ madeBy (endFrom (withSystems (before .head) (before .systems) (record { iod = before .iod; systems = [] })) (now (bytes .entry)) end (before .place)) (now (satellites .entry)) (now (strips .entry)) ⌝ }
+    requires { ⌜ (before .iod < 16) × Within (now bytes) end (before .place) × (sound (wholeOf held (now satellites) (now strips)) ≡ true) ⌝ }
+    ensures { λ r. ⌜ made held r (now (satellites .exit)) (now (strips .exit)) ≡ madeBy (wholeOf held (now (satellites .entry)) (now (strips .entry))) (endFrom (withSystems (before .head) (before .systems) (record { iod = before .iod; systems = [] })) (now (bytes .entry)) end (before .place)) ⌝ }
 {
     let n = before.systems;
-    let mut at = before.place;
+    let mut next = before.place;
     let mut h = Holding {
         held: true,
         iod: before.iod,
@@ -90,12 +97,12 @@ pub fn all(
     while h.count < n {
         let i = h.count;
         let first = h.nsat;
-        match read_system(&h.ids, i, first, bytes, end, at) {
-            System::Refused(r, missing) => return refused(r, missing),
+        match read_system(&h.ids, i, first, bytes, end, next) {
+            System::Refused(r, missing) => return keeping(Answer::Refused(r, missing)),
             System::Fine(m, flag, from) => {
                 h.ncell += grow::strips(&mut h.strips, first, m, flag, bytes, from);
                 if h.ncell > Holding::CELLS {
-                    return refused(Refusal::Size, 0);
+                    return keeping(Answer::Refused(Refusal::Size, 0));
                 }
                 h.nsat = first + set_places::count(m.satellites);
                 h.ids[i] = m.id;
@@ -103,17 +110,18 @@ pub fn all(
                 h.signals[i] = m.signals;
                 h.flags[i] = flag;
                 h.count = i + 1;
-                at = from + cells::width(m, flag);
+                next = from + cells::width(m, flag);
             }
         }
     }
     let head = before.head;
+    let outline = h.outline();
+    let offer = Offer {
+        head,
+        next,
+        outline,
+    };
     let masks = h.satellites;
     let cells = h.strips;
-    *satellites = masks;
-    *strips = cells;
-    Adoption {
-        answer: Answer::Message(head, at, 0),
-        outline: h.outline(),
-    }
+    settled(held, offer, &masks, &cells, satellites, strips)
 }

@@ -18,7 +18,7 @@ use Rattle.format.specs.Good.{isHolding}
 use Rattle.format.specs.Masks.{Held, nothing, Lent, stray, lent, heldIn}
 use Rattle.format.specs.Missing.{Reason}
 use Rattle.format.specs.Programs.{Ended, well, badly, run}
-use Rattle.format.specs.Reading.{Outcome, accepted, idle, refused, endedAt, readFrom, bitsFrom, lentTests, readingBy, reading, keptBy, lentAfter}
+use Rattle.format.specs.Reading.{Outcome, accepted, idle, refused, endedAt, readFrom, bitsFrom, lentTests, readingBy, reading, changed, keptBy, lentAfter}
 use Rattle.format.specs.Steady.{steady}
 use Rattle.format.specs.Table.{Message, table, message}
 use Rattle.format.proofs.Reasons.{Own, message-reasoned, ends-so}
@@ -137,7 +137,7 @@ module _ (holding : Lent) (bytes : List ℕ) (end start : ℕ) (rows : List ℤ)
   -- every refusal but 13 leaves what is held, and so does idle; 13 leaves the empty holding
   pub stop-holds : Stopped (reading holding bytes end start rows)
       → lentAfter (reading holding bytes end start rows) ≡ keptBy (reading holding bytes end start rows) holding
-  unfolding lentAfter keptBy numberOf
+  unfolding lentAfter keptBy changed numberOf
   stop-holds = go (reading holding bytes end start rows) refl
     where
       why : (r : Refusal) (missing : ℕ) (left : Lent) → Why holding bytes end start rows r missing left → left ≡ keptBy (refused r missing left) holding

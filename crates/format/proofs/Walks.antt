@@ -220,7 +220,9 @@ all-good bytes end = record {
 pub walk-good : (holding : Lent) (bytes : List ℕ) (end : ℕ) (rows : List ℤ) → isHolding holding ≡ true → isHolding (lentAfter (walk holding bytes end rows .stop)) ≡ true
 walk-good holding bytes end rows = every-walk table bytes end _ (all-good bytes end) holding 0 rows
 
--- under what is no holding nothing is handed out
-pub walk-stray : (bytes : List ℕ) (end : ℕ) (rows : List ℤ) → messages (walk stray bytes end rows) ≡ 0
-unfolding messages
-walk-stray bytes end rows = rw (stop-ends table stray bytes end 0 rows _ refl (stray-refused Stopped table bytes end 0 rows (λ r. tt)))
+-- under what is no holding nothing is handed out, and it stays none
+pub walk-stray : (bytes : List ℕ) (end : ℕ) (rows : List ℤ) → (messages (walk stray bytes end rows) ≡ 0) × (lentAfter (walk stray bytes end rows .stop) ≡ stray)
+unfolding messages lentAfter
+walk-stray bytes end rows =
+    let it = stray-refused (λ o. Stopped o × (lentAfter o ≡ stray)) table bytes end 0 rows (λ r. (tt, refl)) in
+    rw (stop-ends table stray bytes end 0 rows _ refl (it .0)) (refl, it .1)

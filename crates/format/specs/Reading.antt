@@ -1,5 +1,5 @@
 -- Reading one message: the reader's order 1, 2, 12, 0, then field by field, and 13 last (document 02, Ask 2). By a table of sub types; ours is `table`.
-use mathlib.Core.Bool.{Bool, cond, _&&_}
+use mathlib.Core.Bool.{Bool, false, cond, _&&_}
 use mathlib.Core.List.{List, [], _∷_, _++_, flatten}
 use Prim.Native.Nat.{ℕ, _+_, _*_}
 use lib.Dec.{leb, eqb}
@@ -70,11 +70,15 @@ reading holding bytes end start rows = readingBy table holding bytes end start r
 
 -- ---- what a reading leaves
 
+-- whether it is 13
+unfoldable pub changed : Outcome → Bool
+changed (accepted m next) = false
+changed (idle holding) = false
+changed (refused r missing holding) = eqb (numberOf r) (numberOf Changed)
+
 -- Every stop leaves what was lent, but for 13, which leaves the empty holding (proofs/Refusals.antt, `stop-holds`).
 unfoldable pub keptBy : Outcome → Lent → Lent
-keptBy (accepted m next) holding = holding
-keptBy (idle left) holding = holding
-keptBy (refused r missing left) holding = cond (eqb (numberOf r) (numberOf Changed)) (lent nothing) holding
+keptBy o holding = cond (changed o) (lent nothing) holding
 
 unfoldable pub lentAfter : Outcome → Lent
 lentAfter (accepted m next) = lent (m .after)

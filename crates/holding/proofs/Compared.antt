@@ -1,7 +1,7 @@
 -- Structs compared: lists element by element, and of sound ones the test of the code is that of their `S` lines (document 02, Ask 2). Assumes nothing.
 use Rattle.bits.proofs.Words.{_≡_, refl, sym, ap, _∙_, Bool, true, false, cond, _&&_, List, map, ℕ, _+_, _≤_, _<_, add-one, arith, eqb, length, getD, drop}
 use mathlib.Core.Bool as Bools
-use borrow.Author.Tests.{eq-eqb}
+use borrow.Author.Tests.{eq-eqb, not-true}
 use lib.ListN.{drop-of-length-le}
 use lib.Seq.{drop-cons}
 use Rattle.format.proofs.Sames.{sameHeld-sound, sameHeld-refl, same-test}
@@ -88,6 +88,15 @@ pub same-parts : (g h : Holding)
     ≡ sameHolding g h
 unfolding sameHolding
 same-parts g h = simp (← and-assoc)
+
+-- where nothing is held, or a mask of another issue
+pub steady-free : (g h : Holding) → g .held ≡ false → steadyBy g h ≡ true
+unfolding steadyBy
+steady-free g h none = rw none
+
+pub steady-other : (g h : Holding) → Bools.not (eqb (h .iod) (g .iod)) ≡ true → steadyBy g h ≡ true
+unfolding steadyBy
+steady-other g h differs = rw (not-true (eqb (h .iod) (g .iod)) differs, Bools.and-false (g .held))
 
 -- of one issue
 pub steady-same : (g h : Holding) → g .held ≡ true → h .iod ≡ g .iod → sameHolding g h ≡ steadyBy g h

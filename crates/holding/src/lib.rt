@@ -14,7 +14,6 @@ ghost use Prim.Native.Nat.{_<_};
 ghost use lib.ListN.{length};
 ghost use Rattle.format.specs.Masks.{nothing};
 ghost use Rattle.holding.specs.Building.{withSystem};
-ghost use Rattle.holding.specs.Comparing.{steadyBy};
 ghost use Rattle.holding.specs.Outlines.{outlineOf, wholeOf};
 ghost use Rattle.holding.specs.Pictures.{pictureOf, sound};
 
@@ -84,26 +83,6 @@ impl Outline {
             self.nsat,
             self.ncell,
         )
-    }
-
-    // Whether a new mask may follow it (document 02, Ask 2): of its own issue none but itself.
-    pub fn steady(
-        self,
-        satellites: &[u64; Holding::SYSTEMS],
-        strips: &[u16; Holding::SATELLITES],
-        new: Outline,
-        masks: &[u64; Holding::SYSTEMS],
-        cells: &[u16; Holding::SATELLITES],
-    ) -> bool
-        ensures { λ r. ⌜ r ≡ steadyBy (wholeOf self (now (satellites .entry)) (now (strips .entry))) (wholeOf new (now (masks .entry)) (now (cells .entry))) ⌝ }
-    {
-        if !self.held {
-            return true;
-        }
-        if new.iod != self.iod {
-            return true;
-        }
-        same::same(self, satellites, strips, new, masks, cells)
     }
 
     // A new mask replaces what was held, whole; its masks and strips stand where the old ones did.

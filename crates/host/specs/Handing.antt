@@ -1,8 +1,8 @@
 -- What the host is handed: docs/HOST.md.
-use mathlib.Core.Bool.{cond}
+use mathlib.Core.Bool.{Bool, cond}
 use mathlib.Core.List.{List}
 use Prim.Native.Nat.{ℕ}
-use lib.Dec.{eqb, leb}
+use lib.Dec.{leb}
 use lib.IntN.{ℤ}
 use lib.ListN.{length}
 use Rattle.bits.specs.Parts.{startOf, countOf}
@@ -69,9 +69,9 @@ walkedTo w =
     let said = saidAt (w .place) (answerOf (w .stop)) in
     record { answer = numberSaid said; place = w .place; missing = missingSaid said; messages = messages w; rows = rowCount (w .handed) }
 
--- what is written after so many messages: nothing where none was accepted
-unfoldable pub leftBytes : ℕ → Holding → List ℕ → List ℕ
-leftBytes n after bs = cond (eqb n 0) bs (over (bytesOf after) bs)
+-- what is written after a walk: nothing where the bytes were no holding
+unfoldable pub leftBytes : Bool → Holding → List ℕ → List ℕ
+leftBytes held after bs = cond held (over (bytesOf after) bs) bs
 
 abbrev pub walkBytes : Walk → List ℕ → List ℕ
 walkBytes w bs = holdingBytes (w .stop) bs

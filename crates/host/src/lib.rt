@@ -144,7 +144,7 @@ fn opened(
     held.outline()
 }
 
-// Adopts the mask message behind its number and sub type: where it is accepted, the holding's bytes are the mask's.
+// Reads the mask message behind its number and sub type: the holding's bytes become those of what is held after it.
 fn adopt(holding: &mut [u8], bytes: &[u8], end: usize, place: usize) -> Answer
     requires { ⌜ Within (now bytes) end place × (sound (holdingIn (now holding)) ≡ true) × (size ≤ length (now holding)) × (over (bytesOf (holdingIn (now holding))) (now holding) ≡ now holding) ⌝ }
     ensures { λ r. ⌜ r ≡ answerOf (adoptedBy (maskOf (holdingIn (now (holding .entry)))) place (run maskMessage (bitsFrom (now (bytes .entry)) end place))) ⌝ }
@@ -152,16 +152,13 @@ fn adopt(holding: &mut [u8], bytes: &[u8], end: usize, place: usize) -> Answer
 {
     let mut satellites = [0u64; Holding::SYSTEMS];
     let mut strips = [0u16; Holding::SATELLITES];
-    let held = opened(holding, &mut satellites, &mut strips);
-    let adoption = adoption::adopt(bytes, end, place, &mut satellites, &mut strips);
-    let answer = adoption.answer;
-    let new = adoption.outline;
-    if let Answer::Message(_, _, _) = answer {
-        let after = held.adopt(new);
-        let whole = after.with(satellites, strips);
-        passing::give::holding_over(holding, whole);
+    let mut held = opened(holding, &mut satellites, &mut strips);
+    let adoption = adoption::adopt(held, bytes, end, place, &mut satellites, &mut strips);
+    if !adoption.kept {
+        held = held.adopt(adoption.outline);
     }
-    answer
+    passing::give::holding_over(holding, held.with(satellites, strips));
+    adoption.answer
 }
 
 // Makes the empty holding.
@@ -210,12 +207,12 @@ pub extern "C" fn hundurzek_read(
     }
 }
 
-// What is held after so many messages: where none was accepted it is as it was.
-fn leave(holding: &mut [u8], messages: usize, after: Holding)
-    requires { ⌜ (¬ (messages ≡ 0) → (size ≤ length (now holding)) × (sound after ≡ true)) ⌝ }
-    ensures { λ _. ⌜ now (holding .exit) ≡ leftBytes messages after (now (holding .entry)) ⌝ }
+// What is held after a walk; bytes that were no holding stay as they were.
+fn leave(holding: &mut [u8], held: bool, after: Holding)
+    requires { ⌜ (held ≡ true → (size ≤ length (now holding)) × (sound after ≡ true)) ⌝ }
+    ensures { λ _. ⌜ now (holding .exit) ≡ leftBytes held after (now (holding .entry)) ⌝ }
 {
-    if messages == 0 {
+    if !held {
         return;
     }
     passing::give::holding_over(holding, after);
@@ -242,7 +239,7 @@ pub extern "C" fn hundurzek_walk(
     let tally = stopped.tally;
     let left = stopped.outline;
     let after = left.with(satellites, strips);
-    leave(holding, tally.messages, after);
+    leave(holding, is, after);
     Walked {
         answer: answer_number(stop),
         place: tally.place,

@@ -81,18 +81,16 @@ pub fn adopted(holding: Holding, bytes: &[u8], end: usize, place: usize) -> Read
 {
     let mut satellites = holding.satellites;
     let mut strips = holding.strips;
-    let held = holding.outline();
-    let adoption = adoption::adopt(bytes, end, place, &mut satellites, &mut strips);
+    let mut held = holding.outline();
+    let adoption = adoption::adopt(held, bytes, end, place, &mut satellites, &mut strips);
     let answer = adoption.answer;
-    let new = adoption.outline;
-    if let Answer::Message(_, _, _) = answer {
-        let after = held.adopt(new);
-        return Reading {
-            answer,
-            holding: after.with(satellites, strips),
-        };
+    if !adoption.kept {
+        held = held.adopt(adoption.outline);
     }
-    Reading { answer, holding }
+    Reading {
+        answer,
+        holding: held.with(satellites, strips),
+    }
 }
 
 // What answers to a refusal that comes before the sub type: idle where no bit is set. A set bit of a front that the

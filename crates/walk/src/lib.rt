@@ -70,8 +70,12 @@ fn on(
                 outline,
             };
         }
-        let adoption = adoption::adopt(bytes, end, here.place + OPENING, satellites, strips);
+        let place = here.place + OPENING;
+        let adoption = adoption::adopt(outline, bytes, end, place, satellites, strips);
         let answer = adoption.answer;
+        if !adoption.kept {
+            outline = outline.adopt(adoption.outline);
+        }
         let Answer::Message(_, next, _) = answer else {
             return Stopped {
                 stop: answer,
@@ -79,8 +83,6 @@ fn on(
                 outline,
             };
         };
-        let new = adoption.outline;
-        outline = outline.adopt(new);
         tally = Tally {
             place: next,
             messages: here.messages + 1,

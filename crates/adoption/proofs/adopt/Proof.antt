@@ -13,6 +13,7 @@ use Rattle.heads.specs.declared.Front.{Front}
 use Rattle.heads.specs.Fronts.{Opens}
 use Rattle.heads.specs.Headings.{headWith}
 use Rattle.heads.specs.Heads.{commonOf}
+use Rattle.holding.specs.Outlines.{wholeOf}
 use Rattle.adoption.proofs.adopt.Statement.{statement}
 use Rattle.adoption.proofs.adopt.Tie as tie
 
@@ -22,11 +23,11 @@ module _ (c : tie.After-front-at) where
   bs = c .before .before .args .bytes .now
 
   opens : Opens bs (c .front-at .result)
-  opens = opens-at (c .before .before .pre) (c .front-at .ensures)
+  opens = opens-at (c .before .before .pre .0) (c .front-at .ensures)
 
   -- what is made where its program ends so
   abbrev over : Ended Adopted → Made
-  over e = madeBy e (c .before .before .args .satellites .now) (c .before .before .args .strips .now)
+  over e = let x = c .before .before .args in madeBy (wholeOf (x .held) (x .satellites .now) (x .strips .now)) e
 
   abbrev answer : Front → Made
   answer f = over (endFrom maskMessage bs (f .end) (f .start))
@@ -46,12 +47,12 @@ returns c =
     let t = p .before in
     let cut = common-short (opens t .within) 20 (sym (p .head .ensures (bs t) (opens t)) ∙ c .before .before .missing .given .1) in
     let x = t .before .before .args in
-    ap (λ (a : Adoption). made a (x .satellites .now) (x .strips .now)) (c .refused .ensures) ∙ ap (over t) (sym (then-badly (opens t .within) (common 20) _ cut)) ∙ ap (answer t) (t .front-at .ensures)
+    ap (λ (a : Adoption). made (x .held) a (x .satellites .now) (x .strips .now)) (c .keeping .ensures) ∙ ap (over t) (sym (then-badly (opens t .within) (common 20) _ cut)) ∙ ap (answer t) (t .front-at .ensures)
 
 pub adopt-spec : {M : Type 1} → statement M
 unfolding maskMessage afterCommonHead withSystems headWith commonOf
 adopt-spec =
     tie.close
     (tie.spec (λ c κs. search needs) (λ c κs. record { bytes = bs c; opens = opens c }) (λ c. search needs) (λ c κs. search needs) (λ c. search needs)
-    (λ c κs. let k = c .before .before in (read k .small, read k .after, opens (t k))) returns
+    (λ c κs. let k = c .before .before in (read k .small, read k .after, opens (t k), t k .before .before .pre .1)) returns
     (λ c. let k = c .before .before .before in let t = t k in c .after-head .ensures ∙ ap (over t) (sym (then-well (opens t .within) (common 20) _ (read k .ran))) ∙ ap (answer t) (t .front-at .ensures)))

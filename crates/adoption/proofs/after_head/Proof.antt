@@ -6,7 +6,7 @@ use Rattle.adoption.proofs.ManySystems.{ended, firstMask}
 use Rattle.format.specs.Messages.{Adopted, maskType}
 use Rattle.format.specs.Programs.{Ended}
 use Rattle.format.proofs.Ends.{after-field, fits, number-whole, number-short}
-use Rattle.adoption.specs.Adoptions.{made, madeBy}
+use Rattle.adoption.specs.Adoptions.{Made, made, madeBy}
 use Rattle.adoption.specs.declared.Adoption.{Adoption}
 use Rattle.adoption.specs.Stages.{afterCommonHead}
 use Rattle.bits.specs.declared.read.Taken.the-variants.{Whole}
@@ -14,6 +14,7 @@ use Rattle.bits.specs.Short.{takenAt}
 use Rattle.format.specs.declared.Head.{Head}
 use Rattle.format.specs.Rows.{absent}
 use Rattle.heads.specs.Headings.{headWith}
+use Rattle.holding.specs.Outlines.{wholeOf}
 use Rattle.adoption.proofs.after_head.Statement.{statement}
 use Rattle.adoption.proofs.after_head.Tie as tie
 
@@ -37,8 +38,8 @@ returns c =
     let took = c .before .before .before .before in
     let p = took .before .before .pre in
     let x = took .before .before .args in
-    ap (λ (a : Adoption). made a (x .satellites .now) (x .strips .now)) (c .refused .ensures)
-    ∙ ap (λ (e : Ended Adopted). madeBy e (x .satellites .now) (x .strips .now)) (sym (number-short (p .1) 4 (sym (took .taken .ensures _ (p .2)) ∙ c .before .before .taken2 .given .1) _))
+    ap (λ (a : Adoption). made (x .held) a (x .satellites .now) (x .strips .now)) (c .keeping .ensures)
+    ∙ ap (λ (e : Ended Adopted). madeBy (wholeOf (x .held) (x .satellites .now) (x .strips .now)) e) (sym (number-short (p .1) 4 (sym (took .taken .ensures _ (p .2)) ∙ c .before .before .taken2 .given .1) _))
 
 returns-2 : tie.Need-returns-2
 unfolding afterCommonHead
@@ -46,12 +47,12 @@ returns-2 c =
     let p = c .before .before .before .before .before .before in
     let x = s p .args in
     let numbers = c .before .before .before .before .before .head .ensures ∙ ap (λ (z : ℤ). headWith maskType (x .h) z absent absent) (toZ-pos w32 {n = n p} (omega (arith, few p))) in
-    c .all .ensures ∙ ap (λ (k : Head). madeBy (ended k (x .bytes .now) (x .f .end) (firstMask (x .h .iod)) (x .f .start + 29 + 4) (n p)) (x .satellites .now) (x .strips .now)) numbers
-    ∙ ap (λ (e : Ended Adopted). madeBy e (x .satellites .now) (x .strips .now)) (sym (number-whole (s p .pre .1) 4 (there p) _))
+    let over : Ended Adopted → Made = λ e. madeBy (wholeOf (x .held) (x .satellites .now) (x .strips .now)) e in
+    c .all .ensures ∙ ap (λ (k : Head). over (ended k (x .bytes .now) (x .f .end) (firstMask (x .h .iod)) (x .f .start + 29 + 4) (n p))) numbers ∙ ap over (sym (number-whole (s p .pre .1) 4 (there p) _))
 
 pub after-head-spec : {M : Type 1} → statement M
 after-head-spec =
     tie.close
     (tie.spec (λ c κs. (record { bytes = _; opens = c .before .pre .2 }, omega arith, c .before .pre .1 .room)) (λ c. search needs) (λ c κs. search needs) (λ c. search needs) (λ c. record { sfits = omega (arith, few c) })
     (λ c κs. search needs) (λ c. search needs) (λ c. omega (arith, after-field (s (c .before .before) .pre .1) 4 (there (c .before .before)))) (λ c. search needs)
-    (λ c κs. let p = c .before .before .before .before .before in (s p .pre .0 .iod, after-field (s p .pre .1) 4 (there p))) returns returns-2)
+    (λ c κs. let p = c .before .before .before .before .before in (s p .pre .0 .iod, after-field (s p .pre .1) 4 (there p), s p .pre .3)) returns returns-2)
