@@ -1,46 +1,42 @@
 -- What the reader makes of a mask message. Assumes nothing.
-use Rattle.bits.proofs.Words.{_≡_, refl, sym, ap, true, List, ℕ, arith}
-use mathlib.Core.Logic.{_⊎_, inl, inr}
-use denote.Enum.Declared.{tagOf}
-use Rattle.adoption.specs.Adoptions.{Made, madeBy, adoptionBy}
-use Rattle.format.proofs.Answer.{the-type}
-use Rattle.format.specs.declared.Answer.the-variants.{Refused}
+use Rattle.bits.proofs.Words.{_≡_, refl, sym, ap, Bool, true, false, cond, not, ℕ, _+_}
+use borrow.Author.Tests.{not-true, not-false}
+use Rattle.adoption.specs.Adoptions.{Made, dropped, madeBy}
+use Rattle.format.specs.declared.Answer.the-variants.{Message, Refused}
+use Rattle.format.specs.declared.Refusal.the-variants.{Changed}
+use Rattle.format.specs.Masks.{nothing, mask, lent}
 use Rattle.format.specs.Messages.{Adopted}
 use Rattle.format.specs.Programs.{Ended, well, badly, later}
-use Rattle.format.specs.Reading.{lentAfter, answerOf}
-use Rattle.heads.specs.Sorting.{adoptedBy}
+use Rattle.format.specs.Reading.{accepted, refused, lentAfter, answerOf}
+use Rattle.format.specs.Steady.{steady}
+use Rattle.heads.specs.Sorting.{maskSaid, adoptedBy}
 use Rattle.holding.specs.declared.Holding.{Holding}
-use Rattle.holding.specs.Outlines.{wholeOf}
-use Rattle.holding.specs.Pictures.{maskOf, sound}
+use Rattle.holding.specs.declared.Outline.{Outline}
+use Rattle.holding.specs.Pictures.{pictureOf, maskOf, sound}
 use Rattle.reader.specs.declared.Reading.{Reading}
 use Rattle.reader.specs.Readings.{structOf, readingOf}
 use Rattle.reader.proofs.Lents.{kept}
 
-module _ (h : Holding) (fine : sound h ≡ true) (place : ℕ) (satellites strips : List ℕ) {m : Made} where
-  pub adopted-answer : (e : Ended Adopted) → m ≡ madeBy (later place e) satellites strips → m .adoption .answer ≡ answerOf (adoptedBy (maskOf h) place e)
-  unfolding madeBy adoptionBy later answerOf adoptedBy
-  adopted-answer (well d taken) is = rw is
-  adopted-answer (badly r missing) is = rw is
+-- what the code makes of one, as a reading
+abbrev pub asReading : Made → Reading
+asReading m = record { answer = m .answer; holding = m .holding }
 
-  -- accepted, it is what is held
-  pub adopted-new : (e : Ended Adopted) → m ≡ madeBy (later place e) satellites strips → tagOf the-type (m .adoption .answer) ≡ 0
-      → _≡_ {A = Reading} (record { answer = m .adoption .answer; holding = wholeOf (m .adoption .outline) (m .satellites) (m .strips) }) (readingOf h (adoptedBy (maskOf h) place e))
-  unfolding madeBy adoptionBy later readingOf structOf lentAfter answerOf adoptedBy
-  adopted-new (well d taken) is tag = rw is
-  adopted-new (badly r missing) is tag = absurd (omega (arith, rw is at tag))
+-- is what reading there comes to
+pub made-reads : (h : Holding) → sound h ≡ true → (place : ℕ) (e : Ended Adopted) → asReading (madeBy h (later place e)) ≡ readingOf h (adoptedBy (maskOf h) place e)
+unfolding madeBy later readingOf structOf lentAfter answerOf adoptedBy
+made-reads h fine place (well d taken) = go (steady (maskOf h) (mask (d .made)))
+  where
+    go : (b : Bool)
+        → asReading (cond b (record { answer = Message (d .head) (place + taken) 0; holding = pictureOf (mask (d .made)) }) dropped)
+        ≡ readingOf h (cond b (accepted (maskSaid d) (place + taken)) (refused Changed 0 (lent nothing)))
+    go true = refl
+    go false = refl
+made-reads h fine place (badly r missing) = ap (λ (g : Holding). record { answer = Refused r missing; holding = g }) (sym (kept h fine))
 
-  -- refused, it leaves what was held
-  pub adopted-not : (e : Ended Adopted) → m ≡ madeBy (later place e) satellites strips → (tagOf the-type (m .adoption .answer) ≡ 1) ⊎ (tagOf the-type (m .adoption .answer) ≡ 2)
-      → _≡_ {A = Reading} (record { answer = m .adoption .answer; holding = h }) (readingOf h (adoptedBy (maskOf h) place e))
-  unfolding madeBy adoptionBy later readingOf lentAfter answerOf adoptedBy
-  adopted-not (well d taken) is (inl tag) = absurd (omega (arith, rw is at tag))
-  adopted-not (well d taken) is (inr tag) = absurd (omega (arith, rw is at tag))
-  adopted-not (badly r missing) is tag = rw is (ap (λ (g : Holding). record { answer = Refused r missing; holding = g }) (sym (kept h fine)))
+-- the outline of what is held then, by whether that was kept
+module _ (kept : Bool) (old new : Outline) {held : Outline} where
+  pub new-outline : not kept ≡ true → held ≡ new → held ≡ cond kept old new
+  new-outline e is = rw (not-true kept e) is
 
-  -- and what is lent for masks and strips
-  pub adopted-leaves : (e : Ended Adopted) → m ≡ madeBy (later place e) satellites strips → (tagOf the-type (m .adoption .answer) ≡ 1) ⊎ (tagOf the-type (m .adoption .answer) ≡ 2)
-      → (m .satellites ≡ satellites) × (m .strips ≡ strips)
-  unfolding madeBy adoptionBy later
-  adopted-leaves (well d taken) is (inl tag) = absurd (omega (arith, rw is at tag))
-  adopted-leaves (well d taken) is (inr tag) = absurd (omega (arith, rw is at tag))
-  adopted-leaves (badly r missing) is tag = rw is (refl, refl)
+  pub old-outline : not kept ≡ false → held ≡ old → held ≡ cond kept old new
+  old-outline e is = rw (not-false kept e) is

@@ -1,10 +1,12 @@
 -- What is lent as a struct, and what is lent after a reading as that struct again. Assumes nothing.
 use Rattle.bits.proofs.Words.{_≡_, refl, ap, _∙_, Bool, true, false, cond, List, ℕ, ℤ}
-use Rattle.format.proofs.Stops.{Stopped, stop-holds}
+use Rattle.format.proofs.Refusals.{stop-holds}
+use Rattle.format.proofs.Stops.{Stopped}
 use Rattle.format.specs.Good.{isHolding}
-use Rattle.format.specs.Masks.{stray, lent}
+use Rattle.format.specs.Masks.{nothing, stray, lent}
+use Rattle.format.specs.Reading.{reading, changed, keptBy}
 use Rattle.holding.specs.declared.Holding.{Holding}
-use Rattle.holding.specs.Pictures.{maskOf, sound, lentBy}
+use Rattle.holding.specs.Pictures.{pictureOf, maskOf, sound, lentBy}
 use Rattle.holding.proofs.Sounds.{sounds}
 use Rattle.reader.specs.Readings.{structOf, holdingAfter, outcomeAt}
 
@@ -35,7 +37,12 @@ module _ (h : Holding) where
   unfolding structOf
   kept e = sounds h e .picture
 
-  -- so a stop leaves the struct as it was
-  pub stop-struct : (bytes : List ℕ) (end start : ℕ) (rows : List ℤ) → Stopped (outcomeAt h bytes end start rows) → holdingAfter h (outcomeAt h bytes end start rows) ≡ h
-  unfolding outcomeAt
-  stop-struct bytes end start rows stopped = ap (structOf h) (stop-holds (lentBy h) bytes end start rows stopped) ∙ lent-back
+  -- so a stop leaves the struct as it was, but for 13, which leaves the empty one
+  pub stop-struct : (bytes : List ℕ) (end start : ℕ) (rows : List ℤ) → Stopped (outcomeAt h bytes end start rows)
+      → holdingAfter h (outcomeAt h bytes end start rows) ≡ cond (changed (outcomeAt h bytes end start rows)) (pictureOf nothing) h
+  unfolding outcomeAt keptBy structOf
+  stop-struct bytes end start rows stopped = ap (structOf h) (stop-holds (lentBy h) bytes end start rows stopped) ∙ go (changed (reading (lentBy h) bytes end start rows))
+    where
+      go : (b : Bool) → structOf h (cond b (lent nothing) (lentBy h)) ≡ cond b (pictureOf nothing) h
+      go true = refl
+      go false = lent-back

@@ -62,7 +62,7 @@ module _ (holding : Lent) (bs : List ℕ) (end start : ℕ) (rows : List ℤ) wh
   within : Inside bs end start → Raw bs start (reading holding bs end start rows)
   unfolding rawTo answerOf rawEnd
   within known =
-      reading-ends (Raw bs start) table bs end start rows holding (λ r missing. refl) refl
+      reading-ends (Raw bs start) table bs end start rows holding (λ r missing. refl) refl refl
       (λ m taken e.
       let few = taken-le (message (heldIn holding)) (bitsFrom bs end start) m taken e in
       rw (in-stretch bs end start taken known (omega (arith, few, length-from bs end (known .lent) start))))

@@ -191,6 +191,7 @@ few-rows h fine bytes stop start m next =
     read-ends (λ o. o ≡ accepted m next → length (m .content .rows) ≤ 256) table bytes stop start [] (maskOf h)
     (λ r missing e. absurd (let z : _≡_ {A = ℕ} 0 1 = cc in omega arith))
     (λ e. absurd (let z : _≡_ {A = ℕ} 0 1 = cc in omega arith))
+    (λ e. absurd (let z : _≡_ {A = ℕ} 0 1 = cc in omega arith))
     (λ k taken ran e.
     let same : k ≡ m = cc in
     subst (λ (x : Message). length (x .content .rows) ≤ 256) same (message-rowed (maskOf h) .gives (bitsFrom bytes stop start) k taken ran
@@ -206,6 +207,7 @@ pub accepted-eight : (holding : Lent) (bytes : List ℕ) (stop start : ℕ) (row
 accepted-eight holding bytes stop start rows m next =
     reading-ends (λ o. o ≡ accepted m next → Eight (m .content .rows)) table bytes stop start rows holding
     (λ r missing e. absurd (let z : _≡_ {A = ℕ} 0 1 = cc in omega arith))
+    (λ e. absurd (let z : _≡_ {A = ℕ} 0 1 = cc in omega arith))
     (λ e. absurd (let z : _≡_ {A = ℕ} 0 1 = cc in omega arith))
     (λ k taken ran e.
     let same : k ≡ m = cc in

@@ -1,30 +1,45 @@
 -- `reader::message::adopted` meets its contract. Assumes nothing.
-use Rattle.bits.proofs.Words.{ap, _∙_, arith, needs}
+use Rattle.bits.proofs.Words.{_≡_, ap, _∙_, true, arith, needs}
+use mathlib.Core.Logic.{⊎-elim}
+use Rattle.adoption.specs.Adoptions.{madeBy}
 use Rattle.format.specs.Ends.{endFrom}
+use Rattle.format.specs.Messages.{maskMessage}
 use Rattle.holding.specs.declared.Holding.{Holding}
 use Rattle.holding.specs.declared.Outline.{Outline}
 use Rattle.holding.specs.Outlines.{wholeOf}
-use Rattle.reader.proofs.Adopted.{adopted-new, adopted-not}
+use Rattle.holding.specs.Pictures.{sound}
+use Rattle.reader.proofs.Adopted.{asReading, made-reads, new-outline, old-outline}
 use Rattle.reader.proofs.message.adopted.Statement.{statement}
 use Rattle.reader.proofs.message.adopted.Tie as tie
 
-abbrev s : tie.After-adopt → tie.Start
-s a = a .before .before .before .before .before .before .before
+-- what is lent is the holding in parts
+module _ (c : tie.After-outline) where
+  abbrev s : tie.Start
+  s = c .before .before .before .before
+
+  abbrev h : Holding
+  h = s .args .holding
+
+  firm : sound (wholeOf (c .outline .result) (h .satellites) (h .strips)) ≡ true
+  firm = ap (λ (o : Outline). sound (wholeOf o (h .satellites) (h .strips))) (c .outline .ensures) ∙ s .pre .3
 
 returns : tie.Need-returns
 unfolding endFrom
 returns c =
-    let t = c .before .before in
-    let a = t .before .before .before in
-    let x = s a .args in
-    ap (λ (g : Holding). record { answer = a .adopt .result .answer; holding = g })
-    (c .with .ensures ∙ ap (λ (o : Outline). wholeOf o (a .adopt .last .1 .1 .1 .0) (a .adopt .last .1 .1 .1 .1 .0)) (c .before .adopt2 .ensures))
-    ∙ adopted-new (x .holding) (s a .pre .3) (x .place) (x .holding .satellites) (x .holding .strips) _ (a .adopt .ensures) (t .before .match .keys1)
+    let j = c .before in
+    let a = j .before .before in
+    let o = a .before .before .before in
+    let x = s o .args in
+    let satellites = a .adopt .last .1 .1 .1 .1 .0 in
+    let strips = a .adopt .last .1 .1 .1 .1 .1 .0 in
+    let r = a .adopt .result in
+    let held = ⊎-elim (λ t. new-outline (r .kept) (o .outline .result) (r .outline) (t .0 .taken) (t .2 ∙ t .1 .ensures)) (λ e. old-outline (r .kept) (o .outline .result) (r .outline) (e .0 .left) (e .1)) (j .if1 .came) in
+    ap (λ (g : Holding). record { answer = a .adopt .result .answer; holding = g }) (c .with .ensures ∙ ap (λ (o : Outline). wholeOf o satellites strips) held)
+    ∙ ap asReading (a .adopt .ensures ∙ ap (λ (p : Outline). madeBy (wholeOf p (x .holding .satellites) (x .holding .strips)) (endFrom maskMessage (x .bytes .now) (x .end) (x .place))) (o .outline .ensures))
+    ∙ made-reads (x .holding) (s o .pre .3) (x .place) _
 
 pub adopted-spec : {M : Type 1} → statement M
 unfolding endFrom
 adopted-spec =
     tie.close
-    (tie.spec (λ c κs. search needs) (λ c κs. let p = c .before .before .before .before .before .before .pre in record { inside = p .0; short = omega (arith, p .1); room = p .2 }) (λ c. search needs) (λ c κs. search needs) (λ c κs. search needs)
-    returns
-    (λ c. let a = c .before .before in let x = s a .args in adopted-not (x .holding) (s a .pre .3) (x .place) (x .holding .satellites) (x .holding .strips) _ (a .adopt .ensures) (c .match .keys2)))
+    (tie.spec (λ c κs. search needs) (λ c κs. let o = c .before .before in let p = s o .pre in (record { inside = p .0; short = omega (arith, p .1); room = p .2 }, firm o)) (λ c κs. search needs) (λ c κs. search needs) returns)
