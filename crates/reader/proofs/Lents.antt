@@ -1,9 +1,10 @@
 -- What is lent as a struct, and what is lent after a reading as that struct again. Assumes nothing.
 use Rattle.bits.proofs.Words.{_≡_, refl, ap, _∙_, Bool, true, false, cond, List, ℕ, ℤ}
+use mathlib.Core.Bool.{false≢true}
 use Rattle.format.proofs.Refusals.{stop-holds}
 use Rattle.format.proofs.Stops.{Stopped}
 use Rattle.format.specs.Good.{isHolding}
-use Rattle.format.specs.Masks.{nothing, stray, lent}
+use Rattle.format.specs.Masks.{nothing, Lent, stray, lent, heldIn}
 use Rattle.format.specs.Reading.{reading, changed, keptBy}
 use Rattle.holding.specs.declared.Holding.{Holding}
 use Rattle.holding.specs.Pictures.{pictureOf, maskOf, sound, lentBy}
@@ -36,6 +37,12 @@ module _ (h : Holding) where
   pub kept : sound h ≡ true → structOf h (lent (maskOf h)) ≡ h
   unfolding structOf
   kept e = sounds h e .picture
+
+  -- a holding as a struct pictures what it holds
+  pub struct-held : (l : Lent) → isHolding l ≡ true → structOf h l ≡ pictureOf (heldIn l)
+  unfolding isHolding heldIn structOf
+  struct-held stray e = absurd (false≢true e)
+  struct-held (lent held) e = refl
 
   -- so a stop leaves the struct as it was, but for 13, which leaves the empty one
   pub stop-struct : (bytes : List ℕ) (end start : ℕ) (rows : List ℤ) → Stopped (outcomeAt h bytes end start rows)

@@ -1,5 +1,6 @@
 -- What a walk does by what is found where it stands: a message under the mask, a stop, a mask. Assumes nothing.
 use mathlib.Core.Path.{_≡_, refl, sym, ap, subst, _∙_}
+use mathlib.Core.Bool.{Bool, true, false, cond}
 use mathlib.Core.List.{List, [], flatten}
 use mathlib.Core.Logic.{_⊎_, inl, inr}
 use Prim.Native.Nat.{ℕ, _+_}
@@ -11,14 +12,16 @@ use denote.Enum.Declared.{tagOf}
 use Rattle.format.specs.declared.Answer.{Answer}
 use Rattle.format.specs.declared.Answer.the-variants as Answers
 use Rattle.format.specs.declared.Head.{Head}
+use Rattle.format.specs.declared.Refusal.the-variants.{Changed}
 use Rattle.format.specs.Reading.{Outcome, accepted, idle, refused, lentAfter, answerOf, over, rowsAfter}
-use Rattle.format.specs.Masks.{Held, mask}
+use Rattle.format.specs.Masks.{Held, nothing, mask, lent}
 use Rattle.format.specs.Messages.{Adopted}
 use Rattle.format.specs.Programs.{Ended, well, badly}
+use Rattle.format.specs.Steady.{steady}
 use Rattle.format.specs.Table.{Message}
 use Rattle.format.proofs.Answer as Answer
 use Rattle.format.proofs.Stops.{Stopped, stop-leaves}
-use Rattle.heads.specs.Sorting.{adoptedBy}
+use Rattle.heads.specs.Sorting.{maskSaid, adoptedBy}
 use Rattle.holding.specs.Pictures.{pictureOf, maskOf}
 use Rattle.reader.specs.declared.message.Found.{Found}
 use Rattle.reader.specs.declared.message.Found.the-variants.{Mask, Answered}
@@ -30,7 +33,7 @@ use Rattle.reader.proofs.message.Found.{the-type}
 use Rattle.walk.specs.declared.Halt.{Halt}
 use Rattle.walk.specs.Standing.{Stand, standAt, Stands, walkedFrom, rowsFrom}
 use Rattle.walk.specs.Pausing.{behind}
-use Rattle.walk.proofs.Going.{nextStand, Goes, within, next-goes, stop-lent, stop-walked, stop-numbers}
+use Rattle.walk.proofs.Going.{nextStand, Goes, within, next-goes, stop-walked, stop-numbers}
 
 -- a mask, or a stop
 unfoldable pub Halts : Found → Type 0
@@ -76,9 +79,13 @@ stop-of (refused r missing holding) a e halts = tt
 -- a mask has no rows
 adopted-none : (held : Held) (place : ℕ) (e : Ended Adopted) (m : Message) (next : ℕ) → adoptedBy held place e ≡ accepted m next → m .content .rows ≡ []
 unfolding adoptedBy
-adopted-none held place (well d taken) m next e =
-    let same : record { content = record { head = d .head; rows = [] }; after = mask (d .made) } ≡ m = cc in
-    sym (ap (λ (n : Message). n .content .rows) same)
+adopted-none held place (well d taken) m next e = go (steady held (mask (d .made))) e
+  where
+    go : (b : Bool) → cond b (accepted (maskSaid d) (place + taken)) (refused Changed 0 (lent nothing)) ≡ accepted m next → m .content .rows ≡ []
+    go true e =
+        let same : maskSaid d ≡ m = cc in
+        sym (ap (λ (n : Message). n .content .rows) same)
+    go false e = absurd (let z : _≡_ {A = ℕ} 0 1 = cc in omega arith)
 adopted-none held place (badly r missing) m next e = absurd (let z : _≡_ {A = ℕ} 0 1 = cc in omega arith)
 
 module _ (bytes : List ℕ) (end : ℕ) (s : Stand) (stands : Stands bytes end s) where
@@ -87,10 +94,6 @@ module _ (bytes : List ℕ) (end : ℕ) (s : Stand) (stands : Stands bytes end s
 
   abbrev found : Found
   found = foundAt (s .holding) bytes end (s .tally .place)
-
-  -- a stop leaves the holding as it was
-  stop-keeps : Stopped outcome → holdingAfter (s .holding) outcome ≡ s .holding
-  stop-keeps stopped = ap (structOf (s .holding)) (stop-lent bytes end s stands stopped) ∙ kept (s .holding) (stands .held)
 
   -- ---- any message but a mask, answered
 
@@ -136,9 +139,8 @@ module _ (bytes : List ℕ) (end : ℕ) (s : Stand) (stands : Stands bytes end s
       unfolding readingOf
       mask-stop halts =
           let answer : r .answer ≡ answerOf outcome = ap (λ (x : Reading). x .answer) said in
-          let stopped = stop-of outcome (r .answer) answer halts in
-          let hold : r .holding ≡ s .holding = ap (λ (x : Reading). x .holding) said ∙ stop-keeps stopped in (
-            (λ i. record { stop = answer i; tally = s .tally; holding = hold i }) ∙ stop-walked bytes end s stands stopped,
+          let stopped = stop-of outcome (r .answer) answer halts in (
+            ap (λ (x : Reading). record { stop = x .answer; tally = s .tally; holding = x .holding }) said ∙ stop-walked bytes end s stands stopped,
             stop-numbers bytes end s stands stopped,
           )
 
@@ -154,8 +156,9 @@ module _ (bytes : List ℕ) (end : ℕ) (s : Stand) (stands : Stands bytes end s
   pub answered-stop : (a : Answer) → found ≡ Answered a → Halts (Answered a)
       → (_≡_ {A = Halt} (record { stop = a; tally = s .tally; holding = s .holding }) (walkedFrom bytes end s)) × (s .rows ≡ rowsFrom bytes end s)
   answered-stop a e halts =
-      let said = answered a e .says in
-      let stopped = stop-of outcome a said halts in (
-        ap (λ (b : Answer). record { stop = b; tally = s .tally; holding = s .holding }) said ∙ stop-walked bytes end s stands stopped,
+      let it = answered a e in
+      let stopped = stop-of outcome a (it .says) halts in
+      let hold : s .holding ≡ holdingAfter (s .holding) outcome = sym (ap (structOf (s .holding)) (it .keeps) ∙ kept (s .holding) (stands .held)) in (
+        (λ i. record { stop = it .says i; tally = s .tally; holding = hold i }) ∙ stop-walked bytes end s stands stopped,
         stop-numbers bytes end s stands stopped,
       )

@@ -17,14 +17,14 @@ use Rattle.format.specs.Tests.{verdict}
 use Rattle.format.specs.Walking.{HandedOut, handedAt, Walk, hand, goOn, walkOn, messages, rowCount}
 use Rattle.format.proofs.CutWalks.{over-long}
 use Rattle.format.proofs.HeldGood.{reading-good}
-use Rattle.format.proofs.Stops.{Stopped, reading-ends, stop-holds}
+use Rattle.format.proofs.Stops.{Stopped, reading-ends}
 use Rattle.format.proofs.Walks.{ends-inside, walk-step, stop-ends}
 use Rattle.holding.specs.Pictures.{pictureOf, maskOf}
 use Rattle.holding.proofs.Pictured.{mask-picture, sound-picture}
 use Rattle.holding.proofs.Sounds.{sounds}
-use Rattle.reader.specs.Readings.{outcomeAt, readAt}
+use Rattle.reader.specs.Readings.{holdingAfter, outcomeAt, readAt}
 use Rattle.reader.proofs.RowsRead.{few-rows}
-use Rattle.reader.proofs.Lents.{sound-lent}
+use Rattle.reader.proofs.Lents.{sound-lent, struct-held}
 use Rattle.walk.specs.Standing.{Stand, Stands, restOf, walkedWith, walkedFrom, rowsFrom}
 
 -- the walk went from one stand to another, and not back: what it answers and leaves is the same from both
@@ -47,6 +47,7 @@ moves : (holding : Lent) (bytes : List ℕ) (end place : ℕ) (rows : List ℤ) 
 moves holding bytes end place rows m next =
     reading-ends (λ o. o ≡ accepted m next → (place < next) × (next ≤ end)) table bytes end place rows holding
     (λ r missing e. absurd (let z : _≡_ {A = ℕ} 0 1 = cc in omega arith))
+    (λ e. absurd (let z : _≡_ {A = ℕ} 0 1 = cc in omega arith))
     (λ e. absurd (let z : _≡_ {A = ℕ} 0 1 = cc in omega arith))
     (λ n taken ran e.
     let inside = ends-inside table holding bytes end place n taken ran in
@@ -97,13 +98,18 @@ module _ (bytes : List ℕ) (end : ℕ) (s : Stand) (stands : Stands bytes end s
   unfolding outcomeAt
   outcome-there = rw (sound-lent (s .holding) (stands .held)) there
 
+  -- and leaves a holding
+  holds : isHolding (lentAfter found) ≡ true
+  unfolding isHolding
+  holds = subst (λ (o : Outcome). isHolding (lentAfter o) ≡ true) there (reading-good held bytes end (s .tally .place) (s .rows) good-held)
+
   module _ (m : Message) (next : ℕ) (said : found ≡ accepted m next) where
     abbrev t : Stand
     t = nextStand s m next
 
     good-after : good (m .after) ≡ true
     unfolding lentAfter isHolding
-    good-after = rw (there ∙ said) at (reading-good held bytes end (s .tally .place) (s .rows) good-held)
+    good-after = rw said at holds
 
     rest-next : restOf bytes end s ≡ hand (handedAt (s .tally .place) m next) (restOf bytes end t)
     unfolding restOf goOn
@@ -146,17 +152,10 @@ module _ (bytes : List ℕ) (end : ℕ) (s : Stand) (stands : Stands bytes end s
     unfolding restOf
     rest-stop = stop-ends table held bytes end (s .tally .place) (s .rows) found there stopped
 
-    -- what is lent stays
-    pub stop-lent : lentAfter found ≡ held
-    stop-lent = ap lentAfter (sym there) ∙ stop-holds held bytes end (s .tally .place) (s .rows) (subst Stopped (sym there) stopped)
-
-    kept : pictureOf (heldIn (lentAfter found)) ≡ s .holding
-    unfolding heldIn
-    kept = ap (λ (l : Lent). pictureOf (heldIn l)) stop-lent ∙ sounds (s .holding) (stands .held) .picture
-
-    pub stop-walked : record { stop = answerOf found; tally = s .tally; holding = s .holding } ≡ walkedFrom bytes end s
+    -- what is held is what it leaves
+    pub stop-walked : record { stop = answerOf found; tally = s .tally; holding = holdingAfter (s .holding) found } ≡ walkedFrom bytes end s
     unfolding walkedFrom walkedWith messages rowCount
-    stop-walked = rw (rest-stop, kept, add-zero (s .tally .messages), add-zero (s .tally .rows))
+    stop-walked = rw (rest-stop, struct-held (s .holding) (lentAfter found) holds, add-zero (s .tally .messages), add-zero (s .tally .rows))
 
     pub stop-numbers : s .rows ≡ rowsFrom bytes end s
     unfolding rowsFrom

@@ -2,6 +2,7 @@
 use mathlib.Core.Path.{_≡_, refl, sym, ap, subst, _∙_}
 use mathlib.Core.Bool.{true}
 use mathlib.Core.List.{List}
+use mathlib.Core.Logic.{⊎-elim}
 use Prim.Native.Nat.{ℕ, _+_, _-_}
 use native.Mathlib.Omega.{arith}
 use lib.IntN.{ℤ}
@@ -15,10 +16,13 @@ use Rattle.format.specs.Programs.{run}
 use Rattle.format.specs.Reading.{Outcome, bitsFrom}
 use Rattle.heads.specs.Sorting.{adoptedBy}
 use Rattle.holding.specs.declared.Holding.{Holding}
+use Rattle.holding.specs.declared.Outline.{Outline}
 use Rattle.holding.specs.Outlines.{wholeOf}
 use Rattle.holding.specs.Pictures.{maskOf, sound}
+use Rattle.adoption.specs.Adoptions.{made}
+use Rattle.reader.specs.declared.Reading.{Reading}
 use Rattle.reader.specs.Readings.{readAt, readingOf, foundAt}
-use Rattle.reader.proofs.Adopted.{adopted-new, adopted-not, adopted-leaves}
+use Rattle.reader.proofs.Adopted.{asReading, made-reads, new-outline, old-outline}
 use Rattle.reader.proofs.message.Found.{the-type}
 use Rattle.walk.specs.declared.Halt.{Halt}
 use Rattle.walk.specs.declared.under.Pause.{Pause}
@@ -82,6 +86,9 @@ module _ (c : tie.After-under Inv-loop μ-loop) where
   firm : sound hold ≡ true
   firm = l .loop .inv .0 .held
 
+  long : length left ≡ length (s .args .rows .now)
+  long = c .under .kept .1 .1 .1 .1 .1 .1 .1 .0 ∙ l .loop .inv .2
+
 returns : tie.Need-returns Inv-loop μ-loop
 returns c =
     let u = c .before .before .before .before .before in
@@ -110,72 +117,79 @@ module _ (c : tie.After-enum-told Inv-loop μ-loop) where
   abbrev outcome : Outcome
   outcome = readAt (hold u) (bytes u) (end u) (u .under .result .tally .place)
 
-add-adopt : tie.Need-add-adopt Inv-loop μ-loop
-add-adopt c = omega (arith, stands (c .before) .there, stands (c .before) .limit)
+add-place : tie.Need-add-place Inv-loop μ-loop
+add-place c = omega (arith, stands (c .before) .there, stands (c .before) .limit)
 
 module _ (c : tie.After-adopt Inv-loop μ-loop) where
   abbrev q : tie.After-enum-told Inv-loop μ-loop
   q = c .before .before .before .before
 
   abbrev satellites : List ℕ
-  satellites = c .adopt .last .1 .1 .1 .0
+  satellites = c .adopt .last .1 .1 .1 .1 .0
 
   abbrev strips : List ℕ
-  strips = c .adopt .last .1 .1 .1 .1 .0
+  strips = c .adopt .last .1 .1 .1 .1 .1 .0
 
-  adopts : readingOf (hold (u q)) (outcome q) ≡ readingOf (hold (u q)) (adoptedBy (maskOf (hold (u q))) (place q) (run maskMessage (bitsFrom (bytes (u q)) (end (u q)) (place q))))
-  adopts = ap (readingOf (hold (u q))) (mask-found _ _ (here (u q)) (stands q) (masked q) .adopts)
+  -- what it leaves is what the reading there comes to
+  reads : asReading (made (l (u q) .loop .outline) (c .adopt .result) satellites strips) ≡ readingOf (hold (u q)) (outcome q)
+  unfolding endFrom
+  reads =
+      ap asReading (c .adopt .ensures) ∙ made-reads (hold (u q)) (firm (u q)) (place q) _
+      ∙ sym (ap (readingOf (hold (u q))) (mask-found _ _ (here (u q)) (stands q) (masked q) .adopts))
 
-returns-2 : tie.Need-returns-2 Inv-loop μ-loop
-unfolding endFrom
-returns-2 c =
-    let d = c .before in
-    let v = u (q d) in
-    let h = hold v in
-    let leaves = adopted-leaves h (firm v) (place (q d)) (h .satellites) (h .strips) _ (d .adopt .ensures) (c .match2 .keys2) in
-    let reads = adopted-not h (firm v) (place (q d)) (h .satellites) (h .strips) _ (d .adopt .ensures) (c .match2 .keys2) ∙ sym (adopts d) in
-    let stop = mask-stop _ _ (here v) (stands (q d)) (masked (q d)) _ reads (no-message _ (c .match2 .keys2)) in
-    let answer = d .adopt .result .answer in
-    let tally = v .under .result .tally in
-    let same : _≡_ {A = Halt} (record { stop = answer; tally = tally; holding = wholeOf (l v .loop .outline) (satellites d) (strips d) }) (record { stop = answer; tally = tally; holding = h }) =
-    λ i. record { stop = answer; tally = tally; holding = wholeOf (l v .loop .outline) (leaves .0 i) (leaves .1 i) } in
-    (same ∙ stop .0 ∙ sym (gone v .walked), stop .1 ∙ sym (gone v .numbers))
-
-module _ (c : tie.After-known-told2 Inv-loop μ-loop) where
+-- and it is held then
+module _ (c : tie.Joined1 Inv-loop μ-loop) where
   abbrev d : tie.After-adopt Inv-loop μ-loop
-  d = c .before .before .before
+  d = c .before .before
 
   abbrev v : tie.After-under Inv-loop μ-loop
   v = u (q d)
 
-  goes : Goes (bytes v) (end v) (here v)
-      (standAt (wholeOf (d .adopt .result .outline) (satellites d) (strips d)) (record { place = c .before .answer .given .0 .1 .0; messages = v .under .result .tally .messages + 1; rows = v .under .result .tally .rows }) (left v))
-  unfolding endFrom
+  abbrev r : Reading
+  r = record { answer = d .adopt .result .answer; holding = wholeOf (c .if1 .outline) (satellites d) (strips d) }
+
+  said : r ≡ readingOf (hold v) (outcome (q d))
+  said =
+      let a = d .adopt .result in
+      let old = l v .loop .outline in
+      ap (λ (o : Outline). record { answer = a .answer; holding = wholeOf o (satellites d) (strips d) })
+      (⊎-elim (λ t. new-outline (a .kept) old (a .outline) (t .0 .taken) (t .2 ∙ t .1 .ensures)) (λ e. old-outline (a .kept) old (a .outline) (e .0 .left) (e .1)) (c .if1 .came))
+      ∙ reads d
+
+returns-2 : tie.Need-returns-2 Inv-loop μ-loop
+returns-2 c =
+    let j = c .before in
+    let stop = mask-stop _ _ (here (v j)) (stands (q (d j))) (masked (q (d j))) (r j) (said j) (no-message _ (c .match2 .keys2)) in
+    (stop .0 ∙ sym (gone (v j) .walked), stop .1 ∙ sym (gone (v j) .numbers))
+
+module _ (c : tie.After-known-told2 Inv-loop μ-loop) where
+  abbrev j : tie.Joined1 Inv-loop μ-loop
+  j = c .before .before .before
+
+  goes : Goes (bytes (v j)) (end (v j)) (here (v j))
+      (standAt (r j .holding) (record { place = c .before .answer .given .0 .1 .0; messages = v j .under .result .tally .messages + 1; rows = v j .under .result .tally .rows }) (left (v j)))
   goes =
       let a = c .before .answer .given in
-      let h = hold v in
-      let reads = adopted-new h (firm v) (place (q d)) (h .satellites) (h .strips) _ (d .adopt .ensures) (ap (tagOf Answer.the-type) (a .1)) ∙ sym (adopts d) in
-      mask-goes _ _ (here v) (stands (q d)) (masked (q d)) _ reads (a .0 .0) (a .0 .1 .0) (a .0 .1 .1 .0) (a .1)
+      mask-goes _ _ (here (v j)) (stands (q (d j))) (masked (q (d j))) (r j) (said j) (a .0 .0) (a .0 .1 .0) (a .0 .1 .1 .0) (a .1)
 
-add-t21 : tie.Need-add-t21 Inv-loop μ-loop
-add-t21 c =
-    let stands = goes (c .before .before .before) .stands in
+add-t24 : tie.Need-add-t24 Inv-loop μ-loop
+add-t24 c =
+    let stands = goes (c .before) .stands in
     omega (arith, stands .few, stands .there, stands .limit)
 
 loop-less : tie.Need-loop-less Inv-loop μ-loop
 loop-less c =
-    let k = c .before .before .before in
-    omega (arith, goes k .past, goes k .stands .there, came (v k) .gone .forth)
+    let k = c .before in
+    omega (arith, goes k .past, goes k .stands .there, came (v (j k)) .gone .forth)
 
 loop-again : tie.Need-loop-again Inv-loop μ-loop
 loop-again c =
-    let k = c .before .before .before in
-    let w = v k in
-    rw (c .before .adopt2 .ensures)
-    (goes k .stands, gone-on (gone w) (goes k .gone), w .under .kept .1 .1 .1 .1 .1 .1 .1 .0 ∙ l w .loop .inv .2)
+    let k = c .before in
+    let w = v (j k) in
+    (goes k .stands, gone-on (gone w) (goes k .gone), long w)
 
 pub on-spec : {M : Type 1} → statement M
 on-spec =
     tie.close
-    (tie.spec Inv-loop μ-loop loop-holds (λ c κs. c .before .before .before .loop .inv .0) (λ c. search needs) (λ c. search needs) returns (λ c. search needs) add-adopt (λ c κs. room (c .before .before .before))
-    (λ c. search needs) (λ c. search needs) returns-2 (λ c κs. search needs) add-t21 loop-less loop-again)
+    (tie.spec Inv-loop μ-loop loop-holds (λ c κs. c .before .before .before .loop .inv .0) (λ c. search needs) (λ c. search needs) returns (λ c. search needs) add-place
+    (λ c κs. let e = c .before .before .before in (room e, firm (u e))) (λ c κs. search needs) (λ c. search needs) (λ c. long (v (c .before))) returns-2 add-t24 loop-less loop-again)
