@@ -1,4 +1,4 @@
-//! The answer numbers of document 01, "Answer numbers".
+//! The answer numbers of document 01, "Answer numbers", and of document 02, Ask 2.
 
 pub const IDLE: u8 = 0;
 pub const ROOM: u8 = 1;
@@ -13,12 +13,14 @@ pub const RESERVED: u8 = 9;
 pub const SIZE: u8 = 10;
 pub const NETWORK: u8 = 11;
 pub const VALUE: u8 = 12;
+/// "Changed mask" (document 02, Ask 2).
+pub const CHANGED_MASK: u8 = 13;
 
 /// How many of them there are.
-pub const STOPS: usize = VALUE as usize + 1;
+pub const STOPS: usize = CHANGED_MASK as usize + 1;
 
 /// Idle or a refusal: "each of 0 to 12 returns its number and the start asked
-/// for (0 for the saved form)".
+/// for (0 for the saved form)", and so does 13.
 #[derive(Clone, Copy, Debug, PartialEq, Eq)]
 pub struct Stop {
     pub number: u8,

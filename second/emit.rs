@@ -27,9 +27,11 @@
 //! Record of kind `fixed` (bench cases and sweeps), `read` (random single
 //! readings) or `stretch` (random stretches, each read until a stop): lent, then
 //!   u32       number n of readings, 1 or more; the first is made at the start
-//!             and each other at the place that the one before answered
+//!             and each other at the place that the one before answered, so under
+//!             the holding that it left. A single reading that answers 13 is made
+//!             twice: the second time what it refused is taken (document 02, Ask 2)
 //!   n times, expected, as docs/HOST.md has it:
-//!     u8      answer: 0 to 12, or 255 for a message; 64 bits wide in C, but a
+//!     u8      answer: 0 to 13, or 255 for a message; 64 bits wide in C, but a
 //!             byte holds all there are
 //!     u64     place: after the message; else where the reading was made
 //!     u64     missing: with answer 3 how many bits were missing, 1 or more; with
@@ -43,7 +45,7 @@
 //!
 //! Record of kind `bench` (bench cases, and sweeps from place 0) or `walk`
 //! (random stretches), each as one walk: lent, then expected
-//!   u8        stop number, 0 to 12
+//!   u8        stop number, 0 to 13
 //!   u64       stop place
 //!   u64       missing: with stop 3 how many bits were missing, 1 or more; with
 //!             every other stop 0
@@ -63,9 +65,10 @@ pub mod writes;
 use std::collections::{BTreeMap, BTreeSet};
 use std::io::{self, Write};
 
-use super::answer::{Stop, NETWORK, SHORT, STOPS};
+use super::answer::{Stop, CHANGED_MASK, NETWORK, SHORT, STOPS};
 use super::bits::Fields;
-use super::generate::{bench, cuts, filled, plain, single, stretches, sweeps, Case};
+use super::difference;
+use super::generate::{bench, cuts, filled, plain, reissue_sweeps, single, stretches, sweeps, Case};
 use super::holding::Holding;
 use super::host::{self, Answer, MESSAGE};
 use super::pencil;
@@ -85,13 +88,16 @@ pub struct Answers {
     pub pairs: BTreeSet<(Option<u64>, usize)>,
     /// How often each field was refused with 3, and with 11, by the pencil's names.
     pub fields: Refused,
+    /// How often 13 was answered for each kind of difference, by its name.
+    pub changed: BTreeMap<&'static str, usize>,
 }
 
 /// A refusal's number and the name of the field, and how often it occurred.
 pub type Refused = BTreeMap<(u8, String), usize>;
 
 impl Answers {
-    /// Counts idle or a refusal of what stands at the place.
+    /// Counts idle or a refusal of what stands at the place, under what was held
+    /// before it.
     fn stopped(&mut self, case: &Case, stop: Stop, holding: &Holding) {
         let Stop { number, place, missing } = stop;
         self.stops[usize::from(number)] += 1;
@@ -106,6 +112,11 @@ impl Answers {
         if let Some(field) = field {
             *self.fields.entry((number, field)).or_default() += 1;
         }
+        if number == CHANGED_MASK {
+            if let Some(kind) = difference::kind_at(case, place, holding) {
+                *self.changed.entry(kind).or_default() += 1;
+            }
+        }
     }
 }
 
@@ -116,9 +127,23 @@ fn sub_type(case: &Case, place: usize) -> Option<u64> {
     fields.unsigned(4).ok()
 }
 
-/// Readings of a record: a single one, or as many as there are until a stop.
-const SINGLE: usize = 1;
-const WHOLE: usize = usize::MAX;
+/// Readings of a record: a single one, which 13 lets be made again, or as many as
+/// there are until a stop.
+#[derive(Clone, Copy)]
+enum Readings {
+    Single,
+    Whole,
+}
+
+impl Readings {
+    /// Whether there is one more after so many, the last of which was answered so.
+    fn go_on(self, count: usize, answer: u8) -> bool {
+        match self {
+            Readings::Single => count == 1 && answer == CHANGED_MASK,
+            Readings::Whole => answer == MESSAGE,
+        }
+    }
+}
 
 /// Writes the kind `fixed`.
 pub fn emit_fixed(output: &mut impl Write) -> io::Result<Answers> {
@@ -126,10 +151,10 @@ pub fn emit_fixed(output: &mut impl Write) -> io::Result<Answers> {
     let mut answers = Answers::default();
     put_header(output, b"fixed\0\0\0", readings.len() + stretches.len())?;
     for case in &readings {
-        put_readings(output, &mut answers, case, SINGLE)?;
+        put_readings(output, &mut answers, case, Readings::Single)?;
     }
     for case in &stretches {
-        put_readings(output, &mut answers, case, WHOLE)?;
+        put_readings(output, &mut answers, case, Readings::Whole)?;
     }
     Ok(answers)
 }
@@ -140,7 +165,7 @@ pub fn emit_read(output: &mut impl Write, seed: u64, count: usize) -> io::Result
     let mut random = Random::new(seed);
     put_header(output, b"read\0\0\0\0", count)?;
     for _ in 0..count {
-        put_readings(output, &mut answers, &single::case(&mut random), SINGLE)?;
+        put_readings(output, &mut answers, &single::case(&mut random), Readings::Single)?;
     }
     Ok(answers)
 }
@@ -151,7 +176,7 @@ pub fn emit_stretch(output: &mut impl Write, seed: u64, count: usize) -> io::Res
     let mut run = stretches::Run::new(seed);
     put_header(output, b"stretch\0", count)?;
     for _ in 0..count {
-        let holding = put_readings(output, &mut answers, &run.case(), WHOLE)?;
+        let holding = put_readings(output, &mut answers, &run.case(), Readings::Whole)?;
         run.keep(&host::decode(&holding));
     }
     Ok(answers)
@@ -185,23 +210,23 @@ pub fn emit_walk(output: &mut impl Write, seed: u64, count: usize) -> io::Result
 pub fn fixed_readings() -> Vec<Case> {
     let bench = bench::readings();
     let bench = bench.iter().map(|case| plain(case.name, &case.holding, &case.bits));
-    bench.chain(sweeps::cases()).chain(cuts::readings()).collect()
+    let sweeps = sweeps::cases().into_iter().chain(reissue_sweeps::readings());
+    bench.chain(sweeps).chain(cuts::readings()).collect()
 }
 
 /// The bench cases that are whole stretches, and the sweep of these.
 pub fn fixed_stretches() -> Vec<Case> {
     let bench = bench::stretches();
     let bench = bench.iter().map(|case| plain(case.name, &Holding::Empty, &case.bits));
-    bench.chain(cuts::stretches()).collect()
+    bench.chain(cuts::stretches()).chain(reissue_sweeps::stretches()).collect()
 }
 
-/// Writes the case with its readings, at most so many, and gives the bytes of
-/// the holding after them.
+/// Writes the case with its readings, and gives the bytes of the holding after them.
 fn put_readings(
     output: &mut impl Write,
     answers: &mut Answers,
     case: &Case,
-    most: usize,
+    wanted: Readings,
 ) -> io::Result<Vec<u8>> {
     let mut readings = Vec::new();
     let mut count = 0;
@@ -209,18 +234,19 @@ fn put_readings(
     let mut holding = case.holding.clone();
     let mut rows = filled(case.fill, case.room);
     loop {
+        let before = holding.clone();
         let answer = host::read(&mut holding, &case.bytes, case.bit_length, place, &mut rows);
         put_reading(&mut readings, &answer, &rows, &holding);
         match answer.number {
             MESSAGE => answers.accepted += 1,
             number => {
                 let stop = Stop { number, place: answer.place, missing: answer.missing };
-                answers.stopped(case, stop, &host::decode(&holding));
+                answers.stopped(case, stop, &host::decode(&before));
             }
         }
         place = answer.place;
         count += 1;
-        if answer.number != MESSAGE || count == most {
+        if !wanted.go_on(count, answer.number) {
             break;
         }
     }
@@ -238,10 +264,13 @@ fn put_walk(output: &mut impl Write, answers: &mut Answers, case: &Case) -> io::
     let mut rows = before.clone();
     let mut holding = case.holding.clone();
     let lent = host::decode(&holding);
-    let walk = walk(&lent, &case.bytes, case.bit_length, &mut rows, |_, _, _| {});
+    let mut held = lent.clone();
+    let walk = walk(&lent, &case.bytes, case.bit_length, &mut rows, |_, message, _| {
+        held = message.holding.clone();
+    });
     host::put(&walk.holding, &mut holding);
     let Stop { number, place, missing } = walk.stop;
-    answers.stopped(case, walk.stop, &walk.holding);
+    answers.stopped(case, walk.stop, &held);
     answers.accepted += walk.messages;
     let mut record = Vec::new();
     put_lent(&mut record, case);

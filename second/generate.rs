@@ -9,6 +9,8 @@
 //! - `holdings`: lent holdings, good, damaged, cut and longer than they need be;
 //! - `sweeps`: what one message and one holding can be damaged in, all of it;
 //! - `cuts`: good messages and a stretch, cut at every length;
+//! - `reissues`: masks that change under one issue;
+//! - `reissue_sweeps`: every single change of a few masks so;
 //! - `shorts`: messages that end inside a field, each as often;
 //! - `single`: cases of one reading;
 //! - `stretches`: cases of one stretch, the mask kept from stretch to stretch;
@@ -32,6 +34,8 @@ pub mod input_lines;
 pub mod inputs;
 pub mod masks;
 pub mod messages;
+pub mod reissue_sweeps;
+pub mod reissues;
 pub mod rounds;
 pub mod saved_lines;
 pub mod selections;

@@ -165,4 +165,11 @@ impl Holding {
             _ => Err(NO_MASK),
         }
     }
+
+    /// Whether this mask is "a different mask under the held number" (document 02,
+    /// Ask 2). "Masks are the same when their `S` lines are", and these say every
+    /// part of a mask: flag 0 too, which is not flag 1 with all cells.
+    pub fn is_changed_by(&self, mask: &Mask) -> bool {
+        matches!(self, Holding::Held(held) if held.iod == mask.iod && held != mask)
+    }
 }

@@ -6,7 +6,7 @@ use std::ops::Range;
 
 use super::answer::Stop;
 use super::holding::{Holding, Mask, System, MAX_SATELLITES, SIGNAL_BITS};
-use super::reader::{self, raw};
+use super::reader::{self, held_after, raw};
 use super::{ABSENT, COLUMNS};
 
 /// Bytes of a holding. A slice may be longer; later bytes are left alone.
@@ -21,7 +21,7 @@ const SYSTEMS: usize = 5;
 /// The answer to a reading, as the host gets it.
 #[derive(Clone, Debug, PartialEq, Eq)]
 pub struct Answer {
-    /// 0 to 12, or `MESSAGE`.
+    /// 0 to 13, or `MESSAGE`.
     pub number: u8,
     /// After the message; else the start asked for.
     pub place: usize,
@@ -41,11 +41,12 @@ pub fn read(
     start: usize,
     rows: &mut [i32],
 ) -> Answer {
-    let reading = reader::read(&decode(lent), bytes, bit_length, start, rows);
+    let held = decode(lent);
+    let reading = reader::read(&held, bytes, bit_length, start, rows);
+    put(&held_after(&reading, &held), lent);
     let raw = raw(&reading);
     match reading {
         Ok(message) => {
-            put(&message.holding, lent);
             let (place, rows, head) = (message.next, message.rows, message.head);
             Answer { number: MESSAGE, place, missing: 0, rows, raw, head }
         }

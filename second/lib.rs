@@ -1,7 +1,8 @@
 //! A second, independent codec for Compact SSR messages of sub types 1 to 7, 10
 //! and 11, made from document 01 ("Exact rules for the build") and, of document
-//! 02, from Ask 1 ("Accuracy and combined biases") and Ask 7 ("How many bits were
-//! missing"), so that another implementation can be compared with it.
+//! 02, from Ask 1 ("Accuracy and combined biases"), Ask 2 ("A mask that changes
+//! under one issue") and Ask 7 ("How many bits were missing"), so that another
+//! implementation can be compared with it.
 //!
 //! Clarity comes before speed everywhere: bits are taken one by one, masks are
 //! spelled out as lists, and a message is read whole before anything is lent
@@ -10,6 +11,7 @@
 pub mod answer;
 pub mod bits;
 pub mod compose;
+pub mod difference;
 pub mod emit;
 pub mod generate;
 pub mod holding;

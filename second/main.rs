@@ -8,6 +8,7 @@ mod tests;
 use std::io::{self, BufWriter, Write};
 use std::process::ExitCode;
 
+use codec::answer::CHANGED_MASK;
 use codec::emit::texts::{emit_sweep, emit_texts, Kind};
 use codec::emit::writes::{emit_changes, emit_rounds, emit_write};
 use codec::emit::{emit_bench, emit_fixed, emit_read, emit_stretch, emit_walk, Answers};
@@ -107,8 +108,8 @@ fn emit(emitted: impl FnOnce(&mut Output) -> io::Result<Answers>) -> io::Result<
 }
 
 /// The distribution over the answers, those of 3 and 11 also over the fields that
-/// they were for; where bits were missing, also how many pairs of a sub type and a
-/// number of missing bits there were.
+/// they were for, those of 13 over the kinds of change; where bits were missing, also
+/// how many pairs of a sub type and a number of missing bits there were.
 fn print_answers(answers: &Answers) {
     for (number, count) in answers.stops.iter().enumerate() {
         eprintln!("{number} {count}");
@@ -116,6 +117,9 @@ fn print_answers(answers: &Answers) {
     eprintln!("accepted {}", answers.accepted);
     for ((number, field), count) in &answers.fields {
         eprintln!("{number} at {field}: {count}");
+    }
+    for (kind, count) in &answers.changed {
+        eprintln!("{CHANGED_MASK} by: {kind}: {count}");
     }
     if !answers.pairs.is_empty() {
         eprintln!("pairs {}", answers.pairs.len());

@@ -1,9 +1,10 @@
-//! The reader of one message (document 01, "Answer numbers", "What is handed out").
+//! The reader of one message (document 01, "Answer numbers", "What is handed out";
+//! document 02, Ask 2 for 13).
 
 use std::ops::Range;
 
 use super::answer::Reason::{self, Plain};
-use super::answer::{Stop, IDLE, NETWORK, NUMBER, PLACE, ROOM, SUB_TYPE, VALUE};
+use super::answer::{Stop, CHANGED_MASK, IDLE, NETWORK, NUMBER, PLACE, ROOM, SUB_TYPE, VALUE};
 use super::bits::{bit, bytes_for, number, signed_number, Fields};
 use super::holding::{Holding, Mask};
 use super::layout::{self, Column, Row};
@@ -29,6 +30,16 @@ pub type Reading = Result<Message, Stop>;
 /// The raw part of any reading: on idle or a refusal the empty part at offset 0.
 pub fn raw(reading: &Reading) -> Range<usize> {
     reading.as_ref().map_or(0..0, |message| message.raw.clone())
+}
+
+/// What is held after any reading. 13 drops the held mask, "so that the next mask is
+/// taken": "this is the one refusal that changes the holding" (document 02, Ask 2).
+pub fn held_after(reading: &Reading, before: &Holding) -> Holding {
+    match reading {
+        Ok(message) => message.holding.clone(),
+        Err(Stop { number: CHANGED_MASK, .. }) => Holding::Empty,
+        Err(_) => before.clone(),
+    }
 }
 
 /// Reads one message. Rows reach the buffer only after the last refusal.
@@ -92,7 +103,7 @@ fn take_message(fields: &mut Fields, holding: &Holding) -> Result<Parts, Reason>
         return Err(Plain(NUMBER));
     }
     match fields.unsigned(4)? {
-        1 => take_mask_message(fields),
+        1 => take_mask_message(fields, holding),
         10 => take_service(fields, holding),
         sub_type @ (2..=7 | 11) => take_correction(fields, holding, sub_type),
         _ => Err(Plain(SUB_TYPE)),
@@ -109,10 +120,14 @@ fn take_head(fields: &mut Fields, sub_type: u64, epoch: usize) -> Result<[i32; C
     Ok(head)
 }
 
-/// Sub type 1: a is the number of systems, and the mask is adopted.
-fn take_mask_message(fields: &mut Fields) -> Result<Parts, Reason> {
+/// Sub type 1: a is the number of systems, and the mask is adopted. 13 comes "when
+/// all else in the mask message was good" (document 02, Ask 2).
+fn take_mask_message(fields: &mut Fields, holding: &Holding) -> Result<Parts, Reason> {
     let mut head = take_head(fields, 1, 20)?;
     let mask = take_mask(fields, head[4] as u8)?;
+    if holding.is_changed_by(&mask) {
+        return Err(Plain(CHANGED_MASK));
+    }
     head[5] = mask.systems.len() as i32;
     Ok(Parts { head, rows: Vec::new(), holding: Holding::Held(mask) })
 }

@@ -2,6 +2,8 @@
 
 mod bench;
 mod biases;
+mod changed;
+mod changed_cases;
 mod columns;
 mod coverage;
 mod hand;
@@ -53,16 +55,22 @@ impl Group {
     }
 }
 
-const GROUPS: [(&str, fn(&mut Group)); 35] = [
+const GROUPS: [(&str, fn(&mut Group)); 42] = [
     ("bench 1 the worked listing", bench::worked_listing),
-    ("bench 1 to 4 stretches", bench::stretches),
-    ("bench 5 to 14 and Ask 1 readings", bench::readings),
+    ("bench 1 to 4 and Ask 2 stretches", bench::stretches),
+    ("bench 5 to 14, Ask 1 and Ask 2 readings", bench::readings),
     ("reader: each answer number", reader::numbers),
     ("reader: order of refusals", reader::order),
     ("reader: messages by hand", hand::messages),
     ("biases and URA: layouts", biases::layouts),
     ("biases and URA: refusals", biases::refusals),
     ("biases and URA: writes", biases::writes),
+    ("changed masks: readings by hand", changed::readings),
+    ("changed masks: host's bytes by hand", changed::host_bytes),
+    ("changed masks: walks by hand", changed::walks),
+    ("changed masks: listings by hand", changed::listings),
+    ("changed masks: single changes", changed_cases::single_changes),
+    ("changed masks: generated cases", changed_cases::random),
     ("missing bits: by hand", missing::by_hand),
     ("missing bits: drawn messages cut", missing::drawn),
     ("missing bits: fixed cases", missing_cases::fixed),
@@ -87,6 +95,7 @@ const GROUPS: [(&str, fn(&mut Group)); 35] = [
     ("generated inputs of the listing", texts::inputs),
     ("streams: what the readings cover", coverage::readings),
     ("streams: sub types 6 and 7 refused", coverage::refused),
+    ("streams: changed masks", coverage::changed),
     ("streams: every answer number often", streams::answers),
     ("streams: their formats", streams::formats),
 ];

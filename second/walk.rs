@@ -1,9 +1,9 @@
 //! The walk over a stretch (document 01, "The walk reads from place 0 until
-//! idle or a refusal").
+//! idle or a refusal"; document 02, Ask 2 for what 13 leaves).
 
 use super::answer::{Stop, IDLE};
 use super::holding::Holding;
-use super::reader::{read, Message};
+use super::reader::{held_after, read, Message};
 
 /// Where and why the walk stopped, and what came before.
 #[derive(Clone, Debug, PartialEq, Eq)]
@@ -11,7 +11,8 @@ pub struct Walk {
     pub stop: Stop,
     pub messages: usize,
     pub rows: usize,
-    /// Masks adopted before a refusal stay.
+    /// Masks adopted before a refusal stay, but not before 13, which drops the held
+    /// mask even if it was adopted in this very stretch.
     pub holding: Holding,
 }
 
@@ -32,13 +33,14 @@ pub fn walk(
         holding: holding.clone(),
     };
     loop {
-        match read(&walk.holding, bytes, bit_length, place, rows) {
+        let reading = read(&walk.holding, bytes, bit_length, place, rows);
+        walk.holding = held_after(&reading, &walk.holding);
+        match reading {
             Ok(message) => {
                 show(place, &message, rows);
                 walk.messages += 1;
                 walk.rows += message.rows;
                 place = message.next;
-                walk.holding = message.holding;
             }
             Err(stop) => {
                 walk.stop = stop;

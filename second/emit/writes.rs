@@ -55,7 +55,7 @@ use super::super::generate::writes::{self, Writing};
 use super::super::host_lines::DONE;
 use super::super::host_write::{self, Written};
 use super::super::random::Random;
-use super::{put, put_counted, put_header, put_numbers, put_readings, Answers, SINGLE};
+use super::{put, put_counted, put_header, put_numbers, put_readings, Answers, Readings};
 
 /// Writes so many records of kind `write`.
 pub fn emit_write(output: &mut impl Write, seed: u64, count: usize) -> io::Result<Answers> {
@@ -92,7 +92,7 @@ pub fn emit_rounds(output: &mut impl Write, seed: u64, count: usize) -> io::Resu
     put_header(output, b"rounds\0\0", count)?;
     for _ in 0..count {
         let round = rounds::round(&mut random);
-        put_readings(output, &mut answers, &round.case, SINGLE)?;
+        put_readings(output, &mut answers, &round.case, Readings::Single)?;
         let mut record = Vec::new();
         put(&mut record, round.place as u64, 8);
         put(&mut record, round.room as u64, 4);

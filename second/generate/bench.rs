@@ -1,17 +1,24 @@
 //! Document 01's bench cases: 1 to 4 as whole stretches, the others as single
 //! readings, each with what the document says of it, and with how many bits are
 //! missing where that is 3 (document 02, Ask 7). And the like for sub types 6 and 7
-//! (Ask 1).
+//! (Ask 1), and for masks that change under one issue (Ask 2).
 
 use super::super::answer::Reason::{self, Plain, Short};
 use super::super::answer::Stop;
 use super::super::holding::{Holding, Mask, System};
-use super::hand::{fields, first, head_bits, held, listing_bits, mask_bits, place};
+use super::hand::{fields, first, head_bits, held, listing_bits, listing_mask, mask_bits};
+use super::hand::{of_issue, place};
 
 const GPS: i64 = 0;
 const GALILEO: i64 = 2;
 const BEIDOU: i64 = 3;
 const QZSS: i64 = 4;
+
+/// A system as it is sent: ID, satellite and signal mask, flag, cells.
+type Sent = (i64, i64, i64, i64, &'static [bool]);
+
+/// The listing's satellites, 1 and 3.
+const LISTED: i64 = 0xA0_0000_0000;
 
 /// A stretch for a fresh receiver, and where and why its walk stops.
 pub struct Stretch {
@@ -38,17 +45,26 @@ pub fn stretches() -> Vec<Stretch> {
     let mut other_issue = listing.clone();
     let iod = 114 + 33;
     other_issue.splice(iod..iod + 4, fields(&[(4, 4)]));
+    let same = [&listing[..], &listing[..114]].concat();
+    let changed = mask_bits(&[(GPS, LISTED, 0x8100, 1, &[true, false, true, false])]);
+    let twice = [&listing[..], &changed, &changed].concat();
+    let next = [listing.clone(), of_issue(4, changed.clone()), changed].concat();
     vec![
         stretch("bench 1: the listing's stretch", &listing, Plain(0), 181),
         stretch("bench 2: its first 180 bits", &listing[..180], Short(1), 114),
         stretch("bench 3: its last 67 bits", &listing[114..], Plain(6), 0),
         stretch("bench 4: its clock with IOD 4", &other_issue, Plain(7), 114),
+        stretch("Ask 2: the same mask again", &same, Plain(0), 181 + 114),
+        stretch("Ask 2: another cell, sent twice", &twice, Plain(13), 181),
+        stretch("Ask 2: another cell, a bit less", &twice[..181 + 113], Short(1), 181),
+        stretch("Ask 2: another cell, under number 4 and back", &next, Plain(0), 181 + 2 * 114),
     ]
 }
 
 pub fn readings() -> Vec<Reading> {
-    let all = [masks(), short_ones(), under_a_mask(), services(), biases(), accuracy()];
-    all.into_iter().flatten().collect()
+    let base = [masks(), short_ones(), under_a_mask(), services()];
+    let asked = [biases(), accuracy(), changed_masks(), changed_twice(), faulty_masks()];
+    base.into_iter().chain(asked).flatten().collect()
 }
 
 fn reading(
@@ -174,5 +190,91 @@ fn accuracy() -> Vec<Reading> {
         reading("Ask 1: one URA", &one, &message(6), Ok(43)),
         reading("Ask 1: one URA, a bit less", &one, &message(5), Err(Short(1))),
         reading("Ask 1: URA without a mask", &Holding::Empty, &message(6), Err(Plain(6))),
+    ]
+}
+
+/// Masks of issue 3 under the listing's, which has GPS with two satellites by two
+/// signals: the same, one with a single difference, and where that is no change.
+fn changed_masks() -> Vec<Reading> {
+    let listed = Holding::Held(listing_mask());
+    let cells = &[true, false, true, true];
+    let gps: Sent = (GPS, LISTED, 0x8100, 1, cells);
+    let under = |name, systems: &[Sent], expected| {
+        reading(name, &listed, &mask_bits(systems), expected)
+    };
+    let changed = |name, system: Sent| under(name, &[system], Err(Plain(13)));
+    let bits = mask_bits(&[(GPS, LISTED, 0x8100, 0, &[])]);
+    vec![
+        under("Ask 2: the same mask", &[gps], Ok(114)),
+        changed("Ask 2: a satellite fewer", (GPS, place(0, 40), 0x8100, 1, &[true, false])),
+        changed("Ask 2: another satellite", (GPS, 0x90_0000_0000, 0x8100, 1, cells)),
+        changed(
+            "Ask 2: a satellite more without a cell",
+            (GPS, first(3, 40), 0x8100, 1, &[true, false, false, false, true, true]),
+        ),
+        changed("Ask 2: another signal", (GPS, LISTED, 0x8080, 1, cells)),
+        changed(
+            "Ask 2: a signal more without a cell",
+            (GPS, LISTED, 0x8180, 1, &[true, false, false, true, true, false]),
+        ),
+        changed("Ask 2: another cell", (GPS, LISTED, 0x8100, 1, &[true, false, true, false])),
+        changed("Ask 2: no cell mask", (GPS, LISTED, 0x8100, 0, &[])),
+        changed("Ask 2: another ID", (BEIDOU, LISTED, 0x8100, 1, cells)),
+        under("Ask 2: a system more", &[gps, (GALILEO, 0, 0, 0, &[])], Err(Plain(13))),
+        under("Ask 2: no systems", &[], Err(Plain(13))),
+        reading("Ask 2: changed, number 4", &listed, &of_issue(4, bits.clone()), Ok(110)),
+        reading("Ask 2: changed, nothing held", &Holding::Empty, &bits, Ok(110)),
+    ]
+}
+
+/// The same between two masks, both ways: cell flag, order, and no systems.
+fn changed_twice() -> Vec<Reading> {
+    let plain: Sent = (GPS, first(2, 40), first(1, 16), 0, &[]);
+    let full: Sent = (GPS, first(2, 40), first(1, 16), 1, &[true, true]);
+    let (empty, flagged): (Sent, Sent) = ((QZSS, 0, 0, 0, &[]), (QZSS, 0, 0, 1, &[]));
+    let pairs = [
+        ("Ask 2: flag 0, flag 1 with all cells", vec![plain], vec![full]),
+        ("Ask 2: flag 0, flag 1 with no bits", vec![empty], vec![flagged]),
+        ("Ask 2: order", vec![plain, empty], vec![empty, plain]),
+        ("Ask 2: none, a system", vec![], vec![empty]),
+    ];
+    let mut all = Vec::new();
+    for (name, one, other) in pairs {
+        for (held, sent) in [(&one, &other), (&other, &one), (&one, &one), (&other, &other)] {
+            let bits = mask_bits(sent);
+            let expected = if held == sent { Ok(bits.len()) } else { Err(Plain(13)) };
+            all.push(reading(name, &held_of(held), &bits, expected));
+        }
+    }
+    all
+}
+
+/// The holding of issue 3 with these systems and their cell masks.
+fn held_of(systems: &[Sent]) -> Holding {
+    let system = |&(id, satellites, signals, flag, cells): &Sent| System {
+        id: id as u8,
+        satellites: satellites as u64,
+        signals: signals as u16,
+        cells: (flag == 1).then(|| cells.to_vec()),
+    };
+    Holding::Held(Mask { iod: 3, systems: systems.iter().map(system).collect() })
+}
+
+/// Masks that change under the listing's number and are refused for something else:
+/// 13 comes last.
+fn faulty_masks() -> Vec<Reading> {
+    let listed = Holding::Held(listing_mask());
+    let changed = (GPS, LISTED, 0x8100, 0, &[][..]);
+    let after = |name, system, number| {
+        reading(name, &listed, &mask_bits(&[changed, system]), Err(Plain(number)))
+    };
+    let short = mask_bits(&[changed]);
+    vec![
+        reading("Ask 2: changed, a bit less", &listed, &short[..109], Err(Short(1))),
+        after("Ask 2: changed, then ID 5", (5, 0, 0, 0, &[]), 8),
+        after("Ask 2: changed, then GPS twice", (GPS, 0, 0, 0, &[]), 8),
+        after("Ask 2: changed, then QZSS place 10", (QZSS, place(10, 40), 0, 0, &[]), 9),
+        after("Ask 2: changed, then signal place 15", (QZSS, 0, 1, 0, &[]), 9),
+        after("Ask 2: changed, then 260 cells", (BEIDOU, first(32, 40), 0xFF00, 0, &[]), 10),
     ]
 }

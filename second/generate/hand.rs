@@ -15,6 +15,13 @@ pub fn listing_bits() -> Vec<bool> {
     bits
 }
 
+/// The mask of that listing.
+pub fn listing_mask() -> Mask {
+    let cells = Some(vec![true, false, true, true]);
+    let gps = System { id: 0, satellites: 0xA0_0000_0000, signals: 0x8100, cells };
+    Mask { iod: 3, systems: vec![gps] }
+}
+
 /// Fields one after another, each value with its width.
 pub fn fields(values: &[(i64, usize)]) -> Vec<bool> {
     let mut bits = Vec::new();
@@ -38,6 +45,12 @@ pub fn mask_bits(systems: &[(i64, i64, i64, i64, &[bool])]) -> Vec<bool> {
         bits.extend(cells);
     }
     bits
+}
+
+/// A mask message under another number than IOD 3.
+pub fn of_issue(iod: i64, mut message: Vec<bool>) -> Vec<bool> {
+    message.splice(41..45, fields(&[(iod, 4)]));
+    message
 }
 
 /// The 37-bit head of a correction with epoch 100, interval 2.

@@ -6,6 +6,7 @@ use super::super::holding::{
     SIGNAL_BITS, SIGNAL_PLACES,
 };
 use super::super::random::Random;
+use super::reissues;
 
 const IDS: [u8; 5] = [0, 1, 2, 3, 4];
 const GPS: u8 = 0;
@@ -46,10 +47,20 @@ pub fn with_bare_satellite(random: &mut Random) -> Mask {
     }
 }
 
-/// Another issue of the mask, sometimes with the same systems.
+/// The next issue of the mask, sometimes with the same systems or with one change.
 pub fn successor(random: &mut Random, mask: &Mask) -> Mask {
-    let next = if random.chance(20) { mask.clone() } else { good(random) };
+    let next = match random.below(10) {
+        0 | 1 => mask.clone(),
+        2 | 3 => reissues::changed(random, mask),
+        _ => good(random),
+    };
     Mask { iod: (mask.iod + 1) % 16, ..next }
+}
+
+/// The mask under any number but this one, so that it is no changed mask to who
+/// holds one of this number (document 02, Ask 2).
+pub fn of_other_issue(random: &mut Random, mask: Mask, iod: u8) -> Mask {
+    Mask { iod: (iod + 1 + random.below(15) as u8) % 16, ..mask }
 }
 
 fn of_systems(random: &mut Random, ids: &[u8]) -> Mask {

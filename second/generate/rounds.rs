@@ -23,15 +23,19 @@ pub struct Round {
     pub room: usize,
 }
 
-/// What a message is made for: each sub type, the mask message under none or
-/// any other mask, what needs no mask without one.
+/// What a message is made for: each sub type, the mask message under none or any
+/// mask of another number, what needs no mask without one.
 pub fn scene(random: &mut Random, mask: Mask) -> Scene {
     let held = Holding::Held(mask.clone());
     let (drawn, held, after) = match random.below(10) {
         0 => (messages::service(random), Holding::Empty, Holding::Empty),
         1 => (messages::service(random), held.clone(), held),
         2 => (messages::mask(random, &mask), Holding::Empty, held),
-        3 => (messages::mask(random, &mask), Holding::Held(masks::good(random)), held),
+        3 => {
+            let other = masks::good(random);
+            let other = masks::of_other_issue(random, other, mask.iod);
+            (messages::mask(random, &mask), Holding::Held(other), held)
+        }
         _ => (messages::correction(random, &mask), held.clone(), held),
     };
     Scene { drawn, held, after }

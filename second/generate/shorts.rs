@@ -9,9 +9,10 @@ use super::super::ABSENT;
 use super::masks;
 use super::messages::{of_sub_type, without_cell, Drawn};
 
-/// Sub types 6 and 7 by how many fields each has, and any other as often as 7.
+/// Sub types 6 and 7 by how many fields each has, and any other as often as 7: of
+/// these 11 most often, because it has the most fields.
 fn sub_type(random: &mut Random) -> u64 {
-    let other = random.pick(&[1, 2, 3, 4, 5, 10, 11]);
+    let other = random.pick(&[1, 2, 3, 4, 5, 10, 11, 11]);
     random.pick(&[6, 6, 7, other])
 }
 
@@ -41,6 +42,13 @@ pub fn kept(random: &mut Random, drawn: &Drawn) -> usize {
     let fields = ends[1..].windows(2).filter(|field| field[0] < field[1]);
     let field = random.pick(&fields.collect::<Vec<&[usize]>>());
     field[0] + random.below(field[1] - field[0])
+}
+
+/// The same, or all but the last bits of the message, mostly but one.
+pub fn kept_nearly(random: &mut Random, drawn: &Drawn) -> usize {
+    let last = 1 + random.below(8);
+    let any = kept(random, drawn);
+    random.pick(&[drawn.bits.len() - 1, drawn.bits.len() - last, any])
 }
 
 /// The same, from right before the body to right after it.

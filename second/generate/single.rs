@@ -7,7 +7,7 @@ use super::super::random::Random;
 use super::super::STRETCH_BITS;
 use super::messages::Drawn;
 use super::{bad_room, flip, lend, mislength, misstart, weighted};
-use super::{holdings, masks, messages, shorts, Case};
+use super::{holdings, masks, messages, reissues, shorts, Case};
 
 /// The mask held, if any, and the message read under it.
 type Scene = (Option<Mask>, Drawn);
@@ -16,9 +16,9 @@ type Scene = (Option<Mask>, Drawn);
 /// with a good mask. The answer is always the reader's own.
 type Family = (&'static str, usize, fn(&mut Random, Mask) -> Scene);
 
-const FAMILIES: [Family; 22] = [
+const FAMILIES: [Family; 28] = [
     ("good mask", 8, |random, _| fresh(random, masks::good)),
-    ("good correction", 24, correction),
+    ("good correction", 27, correction),
     ("good service", 4, service),
     (IDLE, 4, service),
     ("number", 3, |random, held| (Some(held), messages::other_number(random))),
@@ -40,14 +40,29 @@ const FAMILIES: [Family; 22] = [
     (DAMAGED_HOLDING, 8, correction),
     (ROOM, 2, correction),
     (PLACE, 3, correction),
-    (TRUNCATED, 6, any_message),
-    (SHORT, 13, |random, _| {
+    (TRUNCATED, 7, any_message),
+    (SHORT, 15, |random, _| {
         let (held, drawn) = shorts::scene(random);
         (Some(held), drawn)
     }),
     (FLIPPED, 9, any_message),
     ("wrong count of systems", 3, |random, _| wrong_count(random)),
     (LONG, 1, correction),
+    ("changed mask", 6, changed_mask),
+    (CHANGED_SHORT, 2, changed_mask),
+    ("changed mask with a fault", 2, |random, held| {
+        with(held, |mask| {
+            let sent = reissues::faulty(random, mask);
+            messages::mask(random, &sent)
+        })
+    }),
+    ("changed mask, other issue", 1, |random, _| {
+        let (held, sent) = reissues::scene(random);
+        let sent = masks::of_other_issue(random, sent, held.iod);
+        (Some(held), messages::mask(random, &sent))
+    }),
+    ("changed mask, nothing held", 1, |random, held| (None, changed_mask(random, held).1)),
+    ("same mask", 2, same_mask),
 ];
 
 const IDLE: &str = "idle";
@@ -59,6 +74,7 @@ const TRUNCATED: &str = "truncated";
 const SHORT: &str = "short field";
 const FLIPPED: &str = "one bit flipped";
 const LONG: &str = "long stretch";
+const CHANGED_SHORT: &str = "changed mask, short";
 
 /// The next case of one reading.
 pub fn case(random: &mut Random) -> Case {
@@ -76,12 +92,32 @@ fn with(mask: Mask, draw: impl FnOnce(&Mask) -> Drawn) -> Scene {
     (Some(mask), drawn)
 }
 
-/// A mask message of its own, read while any mask or none is held.
+/// A mask message of its own, read while any mask of another number or none is held.
 fn fresh(random: &mut Random, make: impl FnOnce(&mut Random) -> Mask) -> Scene {
     let sent = make(random);
     let drawn = messages::mask(random, &sent);
-    let held = random.chance(70).then(|| masks::good(random));
+    let held = random.chance(70).then(|| {
+        let held = masks::good(random);
+        masks::of_other_issue(random, held, sent.iod)
+    });
     (held, drawn)
+}
+
+/// Another mask under the held number: mostly each sort of change as often as it
+/// says, else whatever the mask can have.
+fn changed_mask(random: &mut Random, held: Mask) -> Scene {
+    let (held, sent) = if random.chance(20) {
+        let sent = reissues::changed(random, &held);
+        (held, sent)
+    } else {
+        reissues::scene(random)
+    };
+    (Some(held), messages::mask(random, &sent))
+}
+
+/// The held mask itself.
+fn same_mask(random: &mut Random, held: Mask) -> Scene {
+    with(held, |mask| messages::mask(random, mask))
 }
 
 fn correction(random: &mut Random, held: Mask) -> Scene {
@@ -93,7 +129,7 @@ fn service(random: &mut Random, held: Mask) -> Scene {
 }
 
 fn other_issue(random: &mut Random, held: Mask) -> Scene {
-    let sent = Mask { iod: (held.iod + 1 + random.below(15) as u8) % 16, ..held.clone() };
+    let sent = masks::of_other_issue(random, held.clone(), held.iod);
     (Some(held), messages::correction(random, &sent))
 }
 
@@ -107,7 +143,8 @@ fn wrong_count(random: &mut Random) -> Scene {
 fn any_message(random: &mut Random, held: Mask) -> Scene {
     match random.below(10) {
         0 => service(random, held),
-        1..=3 => fresh(random, masks::good),
+        1 | 2 => fresh(random, masks::good),
+        3 => same_mask(random, held),
         4 => fresh(random, |random| masks::at_limit(random, 0)),
         _ => correction(random, held),
     }
@@ -151,6 +188,7 @@ fn spoil(random: &mut Random, case: &mut Case, drawn: &Drawn) {
     let family = case.family;
     match family {
         SHORT => keep(case, shorts::kept(random, drawn)),
+        CHANGED_SHORT => keep(case, shorts::kept_nearly(random, drawn)),
         WITHOUT_CELL if random.chance(50) => keep(case, shorts::kept_to_body(random, drawn)),
         _ if family == TRUNCATED || random.chance(2) => truncate(random, case, drawn),
         _ => {}

@@ -1,11 +1,13 @@
 //! Cases of one stretch: stretches from a sender that changes its mask now and
 //! then, received by a receiver that may have missed it. The receiver keeps its
-//! holding from stretch to stretch.
+//! holding from stretch to stretch. The sender may also change its mask under one
+//! number (document 02, Ask 2).
 
 use super::super::holding::{Holding, Mask};
 use super::super::random::Random;
 use super::super::STRETCH_BITS;
-use super::{bad_room, flip, holdings, lend, masks, messages, mislength, shorts, Case};
+use super::messages::Drawn;
+use super::{bad_room, flip, holdings, lend, masks, messages, mislength, reissues, shorts, Case};
 
 /// Families of stretches, by their names in reports.
 const PLAIN: &str = "plain";
@@ -14,6 +16,7 @@ const MISSED: &str = "mask missed";
 const DAMAGED: &str = "damaged holding";
 const FLIPPED: &str = "damaged bits";
 const CUT: &str = "cut";
+const CHANGED: &str = "changed mask";
 const PLACE: &str = "place";
 const ROOM: &str = "room";
 
@@ -47,7 +50,9 @@ impl Run {
             MISSED => self.sender = masks::successor(&mut self.random, &self.sender),
             _ => {}
         }
-        let bits = self.stretch();
+        // More masks where nothing is held, so that after 13 the next is taken often.
+        let opened = if self.receiver == Holding::Empty { 70 } else { 50 };
+        let bits = self.stretch(family, opened);
         let mut case = lend(&mut self.random, family, &self.receiver, &bits);
         match family {
             DAMAGED => holdings::damage(&mut self.random, &mut case.holding),
@@ -61,16 +66,16 @@ impl Run {
     }
 
     /// The next stretch as a line can say it, with its family: as the sender
-    /// sends it, after a mask that was missed, damaged, or cut.
+    /// sends it, after a mask that was missed, damaged, cut, or with a changed mask.
     pub fn sent(&mut self) -> (&'static str, Vec<bool>) {
         let family = match self.family() {
-            family @ (MISSED | FLIPPED | CUT) => family,
+            family @ (MISSED | FLIPPED | CUT | CHANGED) => family,
             _ => PLAIN,
         };
         if family == MISSED {
             self.sender = masks::successor(&mut self.random, &self.sender);
         }
-        let mut bits = self.stretch();
+        let mut bits = self.stretch(family, 50);
         match family {
             FLIPPED => damage(&mut self.random, &mut bits),
             CUT => bits.truncate(self.random.below(bits.len() + 1)),
@@ -103,17 +108,21 @@ impl Run {
             23 => ROOM,
             24..=29 => FLIPPED,
             30..=35 => CUT,
+            36..=41 => CHANGED,
             _ => PLAIN,
         }
     }
 
-    /// Mostly up to nine messages, rarely as many as a stretch can hold.
-    fn stretch(&mut self) -> Vec<bool> {
+    /// Mostly up to nine messages, rarely as many as a stretch can hold; a mask opens
+    /// so many of a hundred.
+    fn stretch(&mut self, family: &'static str, opened: usize) -> Vec<bool> {
         let mut bits = Vec::new();
-        if self.random.chance(50) {
-            bits.extend(messages::mask(&mut self.random, &self.sender).bits);
+        if self.random.chance(opened) {
+            self.add_mask(&mut bits);
         }
-        if self.random.chance(1) {
+        if family == CHANGED {
+            self.add_changed(&mut bits);
+        } else if self.random.chance(1) {
             while bits.len() < STRETCH_BITS {
                 self.add(&mut bits, 0);
             }
@@ -123,6 +132,28 @@ impl Run {
             }
         }
         self.end(bits)
+    }
+
+    fn add_mask(&mut self, bits: &mut Vec<bool>) {
+        bits.extend(messages::mask(&mut self.random, &self.sender).bits);
+    }
+
+    /// Up to three good messages, another mask under the number of the one before,
+    /// and up to three more. Either mask is then the sender's: the new one after a
+    /// missed turn of the counter, the old one after an error.
+    fn add_changed(&mut self, bits: &mut Vec<bool>) {
+        for _ in 0..self.random.below(4) {
+            self.add(bits, 0);
+        }
+        let changed = reissues::changed(&mut self.random, &self.sender);
+        let before = std::mem::replace(&mut self.sender, changed);
+        self.add_mask(bits);
+        if self.random.chance(30) {
+            self.sender = before;
+        }
+        for _ in 0..self.random.below(4) {
+            self.add(bits, 5);
+        }
     }
 
     /// One more message: a mask, the same or a new one, a correction, service
@@ -191,22 +222,25 @@ fn refused_bits(random: &mut Random, mask: &Mask) -> Vec<bool> {
         }
         3 => {
             let bad = masks::with_bad_system(random);
-            messages::mask(random, &bad)
+            bad_mask(random, mask.iod, bad)
         }
         4 => {
             let bad = masks::with_reserved_place(random);
-            messages::mask(random, &bad)
+            bad_mask(random, mask.iod, bad)
         }
         5 => {
             let bad = masks::at_limit(random, 1);
-            messages::mask(random, &bad)
+            bad_mask(random, mask.iod, bad)
         }
         6 => {
             let other = Mask { iod: (mask.iod + 1) % 16, ..mask.clone() };
             messages::correction(random, &other)
         }
         7 => messages::without_cell(random, mask),
-        _ => messages::correction(random, mask),
+        _ => {
+            let changed = reissues::changed(random, mask);
+            messages::mask(random, &changed)
+        }
     };
     let mut bits = drawn.bits;
     if random.chance(20) {
@@ -214,4 +248,11 @@ fn refused_bits(random: &mut Random, mask: &Mask) -> Vec<bool> {
         bits[place] = !bits[place];
     }
     bits
+}
+
+/// A bad mask under its own number or under that of the sender's mask, from which it
+/// differs too: what it is bad for comes before 13 (document 02, Ask 2).
+fn bad_mask(random: &mut Random, iod: u8, bad: Mask) -> Drawn {
+    let iod = random.pick(&[iod, bad.iod]);
+    messages::mask(random, &Mask { iod, ..bad })
 }

@@ -78,7 +78,7 @@ fn scenes(random: &mut Random, mask: &Mask) -> Vec<(Holding, Drawn)> {
 }
 
 /// The message after so many other bits.
-fn shifted(random: &mut Random, holding: &Holding, bits: &[bool], start: usize) -> Case {
+pub fn shifted(random: &mut Random, holding: &Holding, bits: &[bool], start: usize) -> Case {
     let all = [&random.bits(start)[..], bits].concat();
     let bytes = dirty_bytes(random, &all);
     Case { bytes, start, ..plain("sweep: message", holding, &all) }

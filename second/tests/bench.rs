@@ -1,8 +1,9 @@
 //! The 14 bench cases of document 01 with what it says of each, and those of sub
-//! types 6 and 7 with what document 02, Ask 1, says.
+//! types 6 and 7 and of changed masks with what document 02, Asks 1 and 2, says.
 
 use super::tools::*;
 use super::Group;
+use crate::codec::answer::CHANGED_MASK;
 use crate::codec::bits::pack;
 use crate::codec::generate::bench;
 use crate::codec::holding::Holding;
@@ -38,17 +39,19 @@ pub fn worked_listing(group: &mut Group) {
     group.check("later bytes stay", line[expected.len()..].iter().all(|&byte| byte == b'?'));
 }
 
-/// Cases 1 to 4; a mask before a refusal stays.
+/// Cases 1 to 4, and those of changed masks; a mask before a refusal stays, but not
+/// before 13.
 pub fn stretches(group: &mut Group) {
     for case in bench::stretches() {
         let walk = walked(&case.bits);
         group.same(case.name, walk.stop, case.stop);
         let adopted = walk.holding != Holding::Empty;
-        group.same("the mask before the stop", adopted, case.stop.place >= 114);
+        let expected = case.stop.place >= 114 && case.stop.number != CHANGED_MASK;
+        group.same("the mask before the stop", adopted, expected);
     }
 }
 
-/// Cases 5 to 14, and those of sub types 6 and 7.
+/// Cases 5 to 14, and those of document 02.
 pub fn readings(group: &mut Group) {
     for case in bench::readings() {
         let found = reading(&case.holding, &case.bits);

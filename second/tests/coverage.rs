@@ -1,15 +1,17 @@
 //! What the random readings must hold among them: every alignment, sub type,
 //! system and flag, the house limits, the extremes of fields, every kind of
 //! selection (document 01), and all lengths lent (docs/HOST.md); and how often sub
-//! types 6 and 7 are refused for each field (document 02, Ask 1).
+//! types 6 and 7 are refused for each field (document 02, Ask 1), and masks for each
+//! kind of change (Ask 2).
 
 use std::cmp::Ordering;
-use std::collections::HashMap;
 use std::io::sink;
 
+use super::tools::Seen;
 use super::Group;
-use crate::codec::answer::{NETWORK, SHORT};
-use crate::codec::emit::{emit_read, emit_stretch, Refused};
+use crate::codec::answer::{CHANGED_MASK, NETWORK, SHORT};
+use crate::codec::difference::KINDS;
+use crate::codec::emit::{emit_read, emit_stretch, emit_walk, Answers, Refused};
 use crate::codec::generate::{filled, single, Case};
 use crate::codec::holding::{Holding, Mask};
 use crate::codec::host::{decode, read, Answer, HOLDING_BYTES, MESSAGE};
@@ -25,22 +27,6 @@ const READ: usize = 60_000;
 const STRETCHES: usize = 4_400;
 const REFUSED: usize = 200;
 
-/// How often each thing was seen.
-#[derive(Default)]
-struct Seen(HashMap<String, usize>);
-
-impl Seen {
-    fn note(&mut self, what: String) {
-        *self.0.entry(what).or_default() += 1;
-    }
-
-    fn note_if(&mut self, is_so: bool, what: &str) {
-        if is_so {
-            self.note(what.to_string());
-        }
-    }
-}
-
 pub fn readings(group: &mut Group) {
     let mut random = Random::new(12);
     let mut seen = Seen::default();
@@ -54,10 +40,7 @@ pub fn readings(group: &mut Group) {
             note_message(&mut seen, &answer, &decode(&holding), &rows);
         }
     }
-    for what in wanted() {
-        let often = seen.0.get(&what).copied().unwrap_or(0);
-        group.check(&format!("{what}, {often} times"), often >= OFTEN);
-    }
+    seen.check_often(group, &wanted(), OFTEN);
 }
 
 fn wanted() -> Vec<String> {
@@ -171,5 +154,30 @@ pub fn refused(group: &mut Group) {
         let often = times(&read) + times(&stretches);
         let (number, name) = &field;
         group.check(&format!("{number} at {name}, {often} times"), often >= REFUSED);
+    }
+}
+
+/// A fifth of what a comparison of walks is made with, 50,000 of seed 1.
+const WALKS: usize = 10_000;
+
+/// Masks are refused with 13 for each kind of change often, in the readings and, taken
+/// together, in stretches and walks; each 13 is of a kind.
+pub fn changed(group: &mut Group) {
+    let read = emit_read(&mut sink(), 1, READ).unwrap_or_default();
+    let stretches = emit_stretch(&mut sink(), 1, STRETCHES).unwrap_or_default();
+    let walks = emit_walk(&mut sink(), 1, WALKS).unwrap_or_default();
+    let dropped = |answers: &Answers| answers.stops[usize::from(CHANGED_MASK)];
+    for answers in [&read, &stretches, &walks] {
+        group.same("each of a kind", answers.changed.values().sum(), dropped(answers));
+    }
+    let (single, whole) = (dropped(&read), dropped(&stretches) + dropped(&walks));
+    group.check(&format!("readings: 13, {single} times"), single >= 2_000 / 5);
+    group.check(&format!("stretches and walks: 13, {whole} times"), whole >= 2_000 / 5);
+    for (name, _) in KINDS {
+        let times = |answers: &Answers| answers.changed.get(name).copied().unwrap_or(0);
+        let (single, whole) = (times(&read), times(&stretches) + times(&walks));
+        group.check(&format!("readings: 13 by {name}, {single} times"), single >= REFUSED);
+        let what = format!("stretches and walks: 13 by {name}, {whole} times");
+        group.check(&what, whole >= REFUSED / 5);
     }
 }

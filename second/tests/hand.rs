@@ -34,8 +34,8 @@ fn expect(group: &mut Group, what: &str, bits: &[bool], head: [i32; 8], rows: &[
 }
 
 fn mask(group: &mut Group) {
-    let bits = mask_bits(&[(4, place(9, 40), 0, 1, &[])]);
-    expect(group, "mask", &bits, [1, 100, 5, 0, 3, 1, NO, NO], &[]);
+    let bits = of_issue(4, mask_bits(&[(4, place(9, 40), 0, 1, &[])]));
+    expect(group, "mask", &bits, [1, 100, 5, 0, 4, 1, NO, NO], &[]);
     let epoch = fields(&[(4073, 12), (1, 4), (0xFFFFF, 20), (15, 4), (1, 1), (15, 4), (0, 4)]);
     let head = [1, 0xFFFFF, 15, 1, 15, 0, NO, NO];
     expect(group, "greatest mask head", &epoch, head, &[]);

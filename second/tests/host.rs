@@ -11,7 +11,7 @@ use crate::codec::random::Random;
 const CASES: usize = 40_000;
 
 /// The bytes at these offsets, all others zero.
-fn bytes(set: &[(usize, u8)]) -> Vec<u8> {
+pub fn bytes(set: &[(usize, u8)]) -> Vec<u8> {
     let mut bytes = vec![0; HOLDING_BYTES];
     for &(offset, byte) in set {
         bytes[offset] = byte;
@@ -21,7 +21,7 @@ fn bytes(set: &[(usize, u8)]) -> Vec<u8> {
 
 /// The mask of document 01's worked listing, byte by byte: GPS satellites 1 and
 /// 3, signal places 0 and 7, cells 1011.
-fn listing_bytes() -> Vec<u8> {
+pub fn listing_bytes() -> Vec<u8> {
     let numbers = [(0, 1), (1, 3), (2, 1), (3, 2), (4, 3), (11, 1)];
     let masks = [(17, 0x81), (30, 0xA0), (67, 0x80), (69, 0x81)];
     bytes(&[&numbers[..], &masks[..]].concat())

@@ -5,9 +5,9 @@ use super::Group;
 use crate::codec::listing::listing;
 
 /// The clock of the worked listing alone, its spare bit zero.
-const CLOCK: &str = "67\tFE930642180058000\n";
+pub const CLOCK: &str = "67\tFE930642180058000\n";
 
-fn listed(input: &[u8]) -> String {
+pub fn listed(input: &[u8]) -> String {
     let mut output = Vec::new();
     let mut input = input;
     match listing(&mut input, &mut output) {

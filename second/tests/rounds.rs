@@ -3,7 +3,7 @@
 
 use super::tools::row_buffer;
 use super::Group;
-use crate::codec::answer::STOPS;
+use crate::codec::answer::{CHANGED_MASK, STOPS};
 use crate::codec::bits::bit;
 use crate::codec::generate::messages::Drawn;
 use crate::codec::generate::rounds::{scene, Scene};
@@ -11,7 +11,7 @@ use crate::codec::generate::{filled, masks, single, Case};
 use crate::codec::holding::Holding;
 use crate::codec::host::decode;
 use crate::codec::random::Random;
-use crate::codec::reader::{raw, read, Message};
+use crate::codec::reader::{held_after, raw, read, Message};
 use crate::codec::writer::write;
 use crate::codec::{COLUMNS, STRETCH_BITS};
 
@@ -74,7 +74,7 @@ fn check_read(
 }
 
 /// Every kind of generated case: an accepted one writes back to its very bits,
-/// and any other changes nothing.
+/// and any other changes nothing, but for what 13 drops (document 02, Ask 2).
 pub fn generated(group: &mut Group) {
     let mut random = Random::new(8);
     let mut seen = [0; STOPS];
@@ -89,6 +89,9 @@ pub fn generated(group: &mut Group) {
             Err(stop) => {
                 group.check(case.family, rows == old && stop.place == case.start);
                 group.check("no raw part", raw(&reading) == (0..0));
+                let dropped = stop.number == CHANGED_MASK;
+                let expected = if dropped { Holding::Empty } else { holding.clone() };
+                group.check("what is held", held_after(&reading, &holding) == expected);
                 seen[usize::from(stop.number)] += 1;
             }
         }

@@ -11,7 +11,7 @@ use crate::codec::saved::{load, save};
 const CASES: usize = 5_000;
 const REFUSED: Stop = Stop::plain(12, 0);
 
-fn saved(holding: &Holding) -> String {
+pub fn saved(holding: &Holding) -> String {
     let mut buffer = [0; 1_000];
     let length = save(holding, &mut buffer).unwrap_or(0);
     String::from_utf8_lossy(&buffer[..length]).into_owned()

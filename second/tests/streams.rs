@@ -23,6 +23,7 @@ pub fn answers(group: &mut Group) {
         group.check(&format!("write: answer {number}, {count} times"), count >= CASES / 60);
     }
     group.check("write: written", write.accepted >= CASES / 5);
+    group.same("write: never 13", write.stops[13], 0);
     let rounds = emit_rounds(&mut sink(), 1, 300).unwrap_or_default();
     group.same("rounds: all are messages", rounds.accepted, 300);
 }
@@ -117,7 +118,7 @@ fn skip_readings(left: &mut &[u8]) -> Option<()> {
         skip_missing(left, answer)?;
         skip(left, 32)?;
         let rows = take(left, 4)?;
-        if !matches!(answer, 0..=12 | 255) || rows > 256 {
+        if !matches!(answer, 0..=13 | 255) || rows > 256 {
             return None;
         }
         skip(left, 8 + 8 + 32 * rows as usize + holding)?;

@@ -119,8 +119,20 @@ pub fn inputs(group: &mut Group) {
         group.check("each of its form", ends.clone().all(is_end));
         let short = ends.filter(|line| line.starts_with("E\t3\t")).count();
         group.check("some with missing bits", short >= 10);
+        let changed = output.lines().filter(|line| line.starts_with("E\t13\t")).count();
+        group.check("some with a changed mask", changed >= 10);
+        group.check("and more after one", after_changed(&output) >= 2);
         group.check("the same seed", input == self::input(seed).0);
     }
+}
+
+/// How often the stretch after one that stopped with 13 opens with a mask that is
+/// taken (document 02, Ask 2).
+fn after_changed(output: &str) -> usize {
+    let lines: Vec<&str> = output.lines().collect();
+    let mask = |line: &str| line.split('\t').nth(3) == Some("1") && line.starts_with("M\t0\t");
+    let taken = |pair: &&[&str]| pair[0].starts_with("E\t13\t") && mask(pair[1]);
+    lines.windows(2).filter(taken).count()
 }
 
 /// The last field of an E line is a number with stop 3, and `-` with all else

@@ -1,5 +1,8 @@
 //! What several tests need: messages by hand, readings of them, row buffers.
 
+use std::collections::HashMap;
+
+use super::Group;
 use crate::codec::bits::pack;
 pub use crate::codec::generate::hand::*;
 use crate::codec::holding::Holding;
@@ -40,4 +43,28 @@ pub fn length(holding: &Holding, bits: &[bool]) -> Option<usize> {
 /// What is held after an accepted mask message.
 pub fn adopted(bits: &[bool]) -> Holding {
     message(&Holding::Empty, bits).map_or(Holding::Empty, |(message, _)| message.holding)
+}
+
+/// How often each thing was seen.
+#[derive(Default)]
+pub struct Seen(HashMap<String, usize>);
+
+impl Seen {
+    pub fn note(&mut self, what: String) {
+        *self.0.entry(what).or_default() += 1;
+    }
+
+    pub fn note_if(&mut self, is_so: bool, what: &str) {
+        if is_so {
+            self.note(what.to_string());
+        }
+    }
+
+    /// Each of these was seen at least so often.
+    pub fn check_often<T: AsRef<str>>(&self, group: &mut Group, wanted: &[T], least: usize) {
+        for what in wanted {
+            let often = self.0.get(what.as_ref()).copied().unwrap_or(0);
+            group.check(&format!("{}, {often} times", what.as_ref()), often >= least);
+        }
+    }
 }

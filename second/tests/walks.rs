@@ -1,9 +1,9 @@
 //! Walks against the single readings that they are made of (document 01, "The
 //! walk reads from place 0 until idle or a refusal").
 
-use super::tools::{adopted, head_bits, listing_bits, mask_bits, row_buffer};
+use super::tools::{adopted, head_bits, listing_bits, mask_bits, of_issue, row_buffer};
 use super::Group;
-use crate::codec::answer::{Stop, STOPS};
+use crate::codec::answer::{Stop, CHANGED_MASK, STOPS};
 use crate::codec::bits::pack;
 use crate::codec::generate::{filled, stretches, Case};
 use crate::codec::holding::Holding;
@@ -13,7 +13,8 @@ use crate::codec::walk::{walk, Walk};
 
 const CASES: usize = 6_000;
 
-/// The walk told again: reading after reading, kept in a list.
+/// The walk told again: reading after reading, kept in a list. What is held after it
+/// is what the last of them left, and nothing after 13 (document 02, Ask 2).
 fn retold(case: &Case, holding: &Holding, rows: &mut [i32]) -> (Walk, usize) {
     let mut list = Vec::new();
     let mut place = 0;
@@ -26,7 +27,8 @@ fn retold(case: &Case, holding: &Holding, rows: &mut [i32]) -> (Walk, usize) {
             }
             Err(stop) => {
                 let rows = list.iter().map(|message| message.rows).sum();
-                let holding = held.clone();
+                let dropped = stop.number == CHANGED_MASK;
+                let holding = if dropped { Holding::Empty } else { held.clone() };
                 return (Walk { stop, messages: list.len(), rows, holding }, place);
             }
         }
@@ -63,7 +65,7 @@ pub fn generated(group: &mut Group) {
     }
     group.check("masks adopted inside a stretch", changed >= 1_000);
     group.check("corrections under a mask of an earlier stretch", kept >= 500);
-    for number in [0, 3, 4, 5, 7, 8, 9, 10, 11] {
+    for number in [0, 3, 4, 5, 7, 8, 9, 10, 11, 13] {
         let often = after_messages[number] >= 5;
         group.check(&format!("stop {number} in the middle occurred"), often);
     }
@@ -87,11 +89,12 @@ fn by_hand(group: &mut Group) {
     group.same("idle before the padding", walk.stop, Stop::plain(0, 181));
 
     let mut bits = listing_bits();
-    bits.extend(mask_bits(&[]));
+    let mask = of_issue(4, mask_bits(&[]));
+    bits.extend(&mask);
     bits.extend(head_bits(3, 9));
     bits.extend(mask_bits(&[(0, 1, 0, 0, &[])]));
     let walk = walked(&empty, &bits, 2_048);
     group.same("nothing after a refusal", walk.stop, Stop::plain(7, 230));
     group.same("messages and rows", (walk.messages, walk.rows), (3, 2));
-    group.same("the last mask before it", walk.holding, adopted(&mask_bits(&[])));
+    group.same("the last mask before it", walk.holding, adopted(&mask));
 }
