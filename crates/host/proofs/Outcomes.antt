@@ -1,8 +1,7 @@
 -- What is known of an answer to reading under a holding lent as bytes. Assumes nothing.
 use mathlib.Core.Path.{_≡_, refl, sym, ap, subst, _∙_}
 use mathlib.Core.Bool.{Bool, true, false, cond}
-use mathlib.Core.List.{List, []}
-use mathlib.Core.Logic.{_⊎_, inl, inr}
+use mathlib.Core.List.{List}
 use Prim.Native.Nat.{ℕ, _+_, _≤_}
 use native.Mathlib.Omega.{arith}
 use lib.IntN.{ℤ, pos}
@@ -12,23 +11,26 @@ use denote.Ref.{RefT, now, ptr}
 use Rattle.bits.specs.Parts.{startOf, countOf, partOf, IsPart}
 use Rattle.format.specs.declared.Answer.{Answer}
 use Rattle.format.specs.declared.Answer.the-variants as Answers
+use Rattle.format.specs.declared.Refusal.the-variants.{Changed}
 use Rattle.format.specs.Answers.{saidAt}
 use Rattle.format.specs.Good.{good, isHolding}
-use Rattle.format.specs.Masks.{Held, mask, Lent, stray, lent}
+use Rattle.format.specs.Masks.{Held, nothing, mask, Lent, stray, lent}
 use Rattle.format.specs.Messages.{Adopted, maskType, maskMessage}
 use Rattle.format.specs.Programs.{Ended, well, badly, run}
-use Rattle.format.specs.Reading.{Outcome, accepted, idle, refused, lentAfter, answerOf, over, rawEnd}
+use Rattle.format.specs.Reading.{Outcome, accepted, idle, refused, reading, changed, keptBy, lentAfter, answerOf, over, rawEnd}
+use Rattle.format.specs.Steady.{steady}
 use Rattle.format.specs.Table.{Message}
-use Rattle.heads.specs.Sorting.{adoptedBy}
+use Rattle.heads.specs.Sorting.{maskSaid, adoptedBy}
 use Rattle.format.proofs.Answer.{the-type}
 use Rattle.format.proofs.Makes.{makes-good, mask-spelled}
-use Rattle.format.proofs.Stops.{Stopped, stop-holds}
+use Rattle.format.proofs.Refusals.{stop-holds}
+use Rattle.format.proofs.Stops.{Stopped}
 use Rattle.bits.proofs.Windows.{Bytes}
 use Rattle.holding.specs.declared.Holding.{Holding}
-use Rattle.holding.specs.Pictures.{maskOf, sound, lentBy}
+use Rattle.holding.specs.Pictures.{pictureOf, maskOf, sound, lentBy}
 use Rattle.holding.proofs.Pictured.{sound-picture}
 use Rattle.holding.proofs.Sounds.{sounds}
-use Rattle.host.specs.Handing.{handedBy, handed, bytesAfter, holdingBytes, hostOutcome}
+use Rattle.host.specs.Handing.{handedBy, handed, bytesAfter, holdingBytes, keptBytes, hostOutcome}
 use Rattle.passing.specs.Passing.{size, bytesOf, holdingIn}
 use Rattle.passing.proofs.Returns.{passed, sound-passes, bytes-return}
 use Rattle.reader.specs.declared.message.Found.{Found}
@@ -50,22 +52,20 @@ unfolding isHolding structOf bytesAfter
 after-bytes h stray hb e = absurd (let z : _≡_ {A = ℕ} 0 1 = cc in omega arith)
 after-bytes h (lent held) hb e = refl
 
--- ---- a mask that is adopted is good; one that is refused leaves what was lent
+-- ---- what a mask message leaves held is good
 
 pub adopted-good : (held : Held) → good held ≡ true → (place : ℕ) (l : List Bool) → isHolding (lentAfter (adoptedBy held place (run maskMessage l))) ≡ true
-unfolding adoptedBy lentAfter isHolding
+unfolding adoptedBy lentAfter isHolding good
 adopted-good held fine place l = go (run maskMessage l) refl
   where
-    go : (e : Ended Adopted) → run maskMessage l ≡ e → isHolding (lentAfter (adoptedBy held place e)) ≡ true
-    go (well d taken) ran = makes-good .gives l d taken ran
-    go (badly r missing) ran = fine
+    settled : (d : Adopted) (next : ℕ) → good (mask (d .made)) ≡ true → (b : Bool)
+        → isHolding (lentAfter (cond b (accepted (maskSaid d) next) (refused Changed 0 (lent nothing)))) ≡ true
+    settled d next it true = it
+    settled d next it false = refl
 
-pub adopted-stays : (held : Held) (place : ℕ) (e : Ended Adopted)
-    → (tagOf the-type (answerOf (adoptedBy held place e)) ≡ 1) ⊎ (tagOf the-type (answerOf (adoptedBy held place e)) ≡ 2) → lentAfter (adoptedBy held place e) ≡ lent held
-unfolding adoptedBy answerOf lentAfter
-adopted-stays held place (well d taken) (inl e) = absurd (omega arith)
-adopted-stays held place (well d taken) (inr e) = absurd (omega arith)
-adopted-stays held place (badly r missing) e = refl
+    go : (e : Ended Adopted) → run maskMessage l ≡ e → isHolding (lentAfter (adoptedBy held place e)) ≡ true
+    go (well d taken) ran = settled d (place + taken) (makes-good .gives l d taken ran) (steady held (mask (d .made)))
+    go (badly r missing) ran = fine
 
 -- the tag that says idle
 pub idle-tag : (a : Answer) → tagOf the-type a ≡ 1 → a ≡ Answers.Idle
@@ -86,14 +86,24 @@ bytes-stay hb small = go (sound (holdingIn hb)) refl
     go true e = sym (rw (sounds (holdingIn hb) e .picture) (bytes-return hb small e))
     go false e = refl
 
--- so idle and every refusal leave the holding's bytes as they were
+-- what a stop leaves of what they say
+pub bytes-kept : (hb : List ℕ) (o : Outcome) → Bytes hb → bytesAfter (keptBy o (lentBy (holdingIn hb))) hb ≡ keptBytes o hb
+unfolding keptBy keptBytes bytesAfter
+bytes-kept hb o small = go (changed o)
+  where
+    go : (b : Bool) → bytesAfter (cond b (lent nothing) (lentBy (holdingIn hb))) hb ≡ cond b (over (bytesOf (pictureOf nothing)) hb) hb
+    go true = refl
+    go false = sym (bytes-stay hb small)
+
+-- so idle and every refusal but 13 leave the holding's bytes as they were, and 13 those of the empty holding
 pub stop-bytes : (hb bs : List ℕ) (end start : ℕ) (rows : List ℤ) → Bytes hb → Stopped (hostOutcome hb bs end start rows)
-    → holdingBytes (hostOutcome hb bs end start rows) hb ≡ hb
+    → holdingBytes (hostOutcome hb bs end start rows) hb ≡ keptBytes (hostOutcome hb bs end start rows) hb
 unfolding hostOutcome outcomeAt
 stop-bytes hb bs end start rows small stopped =
-    ap (λ (l : Lent). bytesAfter l hb) (stop-holds (lentBy (holdingIn hb)) bs end start rows stopped) ∙ sym (bytes-stay hb small)
+    let o = reading (lentBy (holdingIn hb)) bs end start rows in
+    ap (λ (l : Lent). bytesAfter l hb) (stop-holds (lentBy (holdingIn hb)) bs end start rows stopped) ∙ bytes-kept hb o small
 
--- and so does what is answered without a mask being adopted
+-- what is answered without a mask being read leaves them as they were
 pub sought-bytes : (hb bs : List ℕ) (end start : ℕ) (rows : List ℤ) → Bytes hb → {a : Answer} → SoughtAnswer (holdingIn hb) bs end start rows a
     → holdingBytes (hostOutcome hb bs end start rows) hb ≡ hb
 unfolding hostOutcome
@@ -104,10 +114,15 @@ adopted-one : (held : Held) (place : ℕ) (l : List Bool) (m : Message) (next : 
 unfolding adoptedBy
 adopted-one held place l m next = go (run maskMessage l) refl
   where
-    go : (e : Ended Adopted) → run maskMessage l ≡ e → adoptedBy held place e ≡ accepted m next → m .content .head .subtype ≡ pos maskType
-    go (well d taken) ran said =
-        let same : record { content = record { head = d .head; rows = [] }; after = mask (d .made) } ≡ m = cc in
+    one : (d : Adopted) (taken : ℕ) → run maskMessage l ≡ well d taken → (b : Bool)
+        → cond b (accepted (maskSaid d) (place + taken)) (refused Changed 0 (lent nothing)) ≡ accepted m next → m .content .head .subtype ≡ pos maskType
+    one d taken ran true said =
+        let same : maskSaid d ≡ m = cc in
         sym (ap (λ (n : Message). n .content .head .subtype) same) ∙ mask-spelled .gives l d taken ran .0
+    one d taken ran false said = absurd (let z : _≡_ {A = ℕ} 0 1 = cc in omega arith)
+
+    go : (e : Ended Adopted) → run maskMessage l ≡ e → adoptedBy held place e ≡ accepted m next → m .content .head .subtype ≡ pos maskType
+    go (well d taken) ran said = one d taken ran (steady held (mask (d .made))) said
     go (badly r missing) ran said = absurd (let z : _≡_ {A = ℕ} 0 1 = cc in omega arith)
 
 -- so every accepted message but a mask leaves the holding's bytes as they were

@@ -2,26 +2,25 @@
 use mathlib.Core.Path.{_≡_, refl, sym, ap, _∙_}
 use mathlib.Core.Bool.{Bool, true, false}
 use mathlib.Core.List.{List}
-use Prim.Native.Nat.{ℕ, zero, suc, _≤_}
+use Prim.Native.Nat.{ℕ, _≤_}
 use native.Mathlib.Omega.{arith}
 use lib.IntN.{ℤ}
 use lib.ListN.{length}
-use borrow.Author.Tests.{ne-eqb}
 use denote.Enum.Declared.{tagOf}
 use Rattle.bits.proofs.Windows.{Bytes}
 use Rattle.format.specs.declared.Answer.{Answer}
 use Rattle.format.specs.declared.Answer.the-variants as Answers
 use Rattle.format.specs.Answers.{saidAt}
 use Rattle.format.specs.Good.{isHolding}
-use Rattle.format.specs.Masks.{Lent}
+use Rattle.format.specs.Masks.{Lent, stray}
 use Rattle.format.specs.Reading.{lentAfter}
 use Rattle.format.specs.Walking.{Walk, messages}
 use Rattle.format.proofs.Answer.{the-type}
 use Rattle.format.proofs.Walks.{none-kept, walk-good, walk-stray}
 use Rattle.holding.specs.declared.Holding.{Holding}
 use Rattle.holding.specs.Pictures.{sound, lentBy}
-use Rattle.host.specs.Handing.{messageNumber, numberSaid, missingSaid, walkedTo, bytesAfter, leftBytes, walkBytes}
-use Rattle.host.proofs.Outcomes.{bytes-pass, bytes-stay, after-sound, after-bytes}
+use Rattle.host.specs.Handing.{messageNumber, numberSaid, missingSaid, walkedTo, bytesAfter, keptBytes, leftBytes, walkBytes}
+use Rattle.host.proofs.Outcomes.{bytes-pass, bytes-kept, after-sound, after-bytes}
 use Rattle.passing.specs.Passing.{size, holdingIn}
 use Rattle.reader.specs.Readings.{structOf}
 use Rattle.reader.proofs.Lents.{is-holding}
@@ -52,44 +51,39 @@ module _ (hb bs : List ℕ) (end : ℕ) (rows : List ℤ) where
   abbrev after : Lent
   after = lentAfter (w .stop)
 
-  -- where a message was accepted, the bytes were a holding's, and are one's after it
-  some-sound : ¬ (messages w ≡ 0) → sound h ≡ true
+  -- where the bytes were a holding's, they are one's after it
+  held-good : sound h ≡ true → isHolding after ≡ true
+  unfolding walkAt
+  held-good e = walk-good (lentBy h) bs end rows (is-holding h ∙ e)
+
+  -- where no message was accepted, they are what the stop leaves of them
+  pub walk-bytes : Bytes hb → messages w ≡ 0 → walkBytes w hb ≡ keptBytes (w .stop) hb
+  unfolding walkAt
+  walk-bytes small none = ap (λ (l : Lent). bytesAfter l hb) (none-kept (lentBy h) bs end rows none) ∙ bytes-kept hb (w .stop) small
+
+  -- bytes that are none stay so
+  stray-after : sound h ≡ false → after ≡ stray
   unfolding walkAt lentBy
-  some-sound some = go (sound h) refl
+  stray-after e = rw e (walk-stray bs end rows .1)
+
+  left-so : leftBytes (sound h) (structOf h after) hb ≡ walkBytes w hb
+  unfolding leftBytes bytesAfter
+  left-so = go (sound h) refl
     where
-      go : (b : Bool) → sound h ≡ b → b ≡ true
-      go true e = refl
-      go false e = absurd (some (rw e (walk-stray bs end rows)))
-
-  some-good : ¬ (messages w ≡ 0) → isHolding after ≡ true
-  unfolding walkAt
-  some-good some = walk-good (lentBy h) bs end rows (is-holding h ∙ some-sound some)
-
-  -- where none was, they are as they were
-  pub walk-bytes : Bytes hb → messages w ≡ 0 → walkBytes w hb ≡ hb
-  unfolding walkAt
-  walk-bytes small none = ap (λ (l : Lent). bytesAfter l hb) (none-kept (lentBy h) bs end rows none) ∙ sym (bytes-stay hb small)
-
-  left-so : Bytes hb → leftBytes (messages w) (structOf h after) hb ≡ walkBytes w hb
-  unfolding leftBytes
-  left-so small = go (messages w) refl
-    where
-      go : (n : ℕ) → messages w ≡ n → leftBytes n (structOf h after) hb ≡ walkBytes w hb
-      go zero none = sym (walk-bytes small none)
-      go (suc n) e = rw (ne-eqb (suc n) 0 (λ z. omega arith)) (after-bytes h after hb (some-good (λ none. omega arith)))
+      go : (b : Bool) → sound h ≡ b → leftBytes b (structOf h after) hb ≡ walkBytes w hb
+      go true e = after-bytes h after hb (held-good e)
+      go false e = sym (ap (λ (l : Lent). bytesAfter l hb) (stray-after e))
 
   -- ---- of what the walk answered
 
   module _ (d : Halt) (said : d ≡ walkedOf h w) where
-    pub leave-known : ¬ (d .tally .messages ≡ 0) → (size ≤ length hb) × (sound (d .holding) ≡ true)
+    pub leave-known : sound h ≡ true → (size ≤ length hb) × (sound (d .holding) ≡ true)
     unfolding walkedOf
-    leave-known some =
-        let ours : ¬ (messages w ≡ 0) = λ none. some (ap (λ (x : Halt). x .tally .messages) said ∙ none) in
-        (bytes-pass hb (some-sound ours), ap (λ (x : Halt). sound (x .holding)) said ∙ after-sound h after (some-good ours))
+    leave-known e = (bytes-pass hb e, ap (λ (x : Halt). sound (x .holding)) said ∙ after-sound h after (held-good e))
 
-    pub left : Bytes hb → leftBytes (d .tally .messages) (d .holding) hb ≡ walkBytes w hb
+    pub left : leftBytes (sound h) (d .holding) hb ≡ walkBytes w hb
     unfolding walkedOf
-    left small = ap (λ (x : Halt). leftBytes (x .tally .messages) (x .holding) hb) said ∙ left-so small
+    left = ap (λ (x : Halt). leftBytes (sound h) (x .holding) hb) said ∙ left-so
 
     pub walked-to :
         record {

@@ -9,7 +9,7 @@ use Rattle.bits.specs.Parts.{startOf, countOf}
 use Rattle.format.specs.declared.Head.{Head}
 use Rattle.format.specs.Answers.{Said, stop, message, saidAt}
 use Rattle.format.specs.Masks.{nothing, Lent, stray, lent}
-use Rattle.format.specs.Reading.{Outcome, lentAfter, answerOf, over}
+use Rattle.format.specs.Reading.{Outcome, changed, lentAfter, answerOf, over}
 use Rattle.format.specs.Rows.{absent}
 use Rattle.format.specs.Walking.{Walk, messages, rowCount}
 use Rattle.holding.specs.declared.Holding.{Holding}
@@ -53,6 +53,10 @@ bytesAfter (lent held) bs = over (bytesOf (pictureOf held)) bs
 
 abbrev pub holdingBytes : Outcome → List ℕ → List ℕ
 holdingBytes o bs = bytesAfter (lentAfter o) bs
+
+-- those that a stop leaves: as they were, but for 13, which leaves the empty holding's (proofs/Outcomes.antt, `stop-bytes`)
+unfoldable pub keptBytes : Outcome → List ℕ → List ℕ
+keptBytes o bs = cond (changed o) (over (bytesOf (pictureOf nothing)) bs) bs
 
 -- reading under a holding lent as bytes
 unfoldable pub hostOutcome : List ℕ → List ℕ → ℕ → ℕ → List ℤ → Outcome

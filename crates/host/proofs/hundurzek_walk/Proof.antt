@@ -1,10 +1,8 @@
 -- `host::hundurzek_walk` meets its contract. Assumes nothing.
-use mathlib.Core.Path.{_≡_, ap, _∙_}
+use mathlib.Core.Path.{_≡_, sym, ap, _∙_}
 use mathlib.Core.List.{List}
 use Prim.Native.Nat.{ℕ}
-use native.Mathlib.Omega.{arith}
 use borrow.Author.Needs.{needs}
-use Rattle.bits.proofs.Windows.{Bytes}
 use Rattle.format.specs.Walking.{Walk}
 use Rattle.holding.specs.declared.Holding.{Holding}
 use Rattle.holding.specs.Pictures.{sound}
@@ -34,8 +32,9 @@ module _ (c : tie.After-walk-under) where
   abbrev halt : Halt
   halt = haltOf (c .walk-under .result) (c .walk-under .last .1 .1 .0) (c .walk-under .last .1 .1 .1 .0)
 
-  small : Bytes lent
-  small k = omega (arith, o .before .before .before .before .before .slice-known .given k)
+  -- whether that is one
+  is : c .before .before .before .before .is-sound .result ≡ sound (holdingIn lent)
+  is = c .before .before .before .before .is-sound .ensures ∙ ap sound (o .opened .ensures)
 
   said : (halt ≡ walkedOf (holdingIn lent) w) × (c .walk-under .last .1 .1 .1 .1 .1 .1 .0 ≡ w .rows)
   unfolding hostWalk
@@ -47,9 +46,9 @@ module _ (c : tie.After-walk-under) where
 
 leave-requires : tie.Need-leave-requires
 unfolding hostWalk
-leave-requires c κs some =
+leave-requires c κs held =
     let v = c .before .before .before .before .before in
-    let known = leave-known (lent v) (s v .args .bytes .now) (s v .args .end) (s v .args .rows .now) (halt v) (said v .0) some in
+    let known = leave-known (lent v) (s v .args .bytes .now) (s v .args .end) (s v .args .rows .now) (halt v) (said v .0) (sym (is v) ∙ held) in
     (known .0, ap sound (c .before .with .ensures) ∙ known .1)
 
 returns : tie.Need-returns
@@ -64,7 +63,7 @@ returns c =
     let told = walked-to (lent v) (x .bytes .now) (x .end) (x .rows .now) (halt v) (said v .0) in (
       (λ i. record { answer = n .answer-number .ensures (t .place) i; place = t .place; missing = c .answer-missing .ensures (t .place) i; messages = t .messages; rows = t .rows }) ∙ told,
       (
-        e .leave .ensures ∙ ap (λ (h : Holding). leftBytes (t .messages) h (lent v)) (k .with .ensures) ∙ left (lent v) (x .bytes .now) (x .end) (x .rows .now) (halt v) (said v .0) (small v),
+        e .leave .ensures ∙ (λ i. leftBytes (is v i) (k .with .ensures i) (lent v)) ∙ left (lent v) (x .bytes .now) (x .end) (x .rows .now) (halt v) (said v .0),
         said v .1,
       ),
     )

@@ -1,20 +1,20 @@
 -- `host::leave` meets its contract. Assumes nothing.
 use mathlib.Core.Path.{refl}
 use borrow.Author.Needs.{needs}
-use borrow.Author.Tests.{ne-eqb}
+use borrow.Author.Tests.{not-true, not-false}
 use Rattle.host.specs.Handing.{leftBytes}
 use Rattle.host.proofs.leave.Statement.{statement}
 use Rattle.host.proofs.leave.Tie as tie
 
 returns : tie.Need-returns
 unfolding leftBytes
-returns c = rw (c .if1 .taken) refl
+returns c = rw (not-true (c .before .before .args .held) (c .if1 .taken)) refl
 
 returns-2 : tie.Need-returns-2
 unfolding leftBytes
 returns-2 c =
     let s = c .before .before .before .before .before .before in
-    rw (ne-eqb (s .args .messages) 0 (c .before .before .before .before .if1 .left)) (c .before .before .holding-over .ensures)
+    rw (not-false (s .args .held) (c .before .before .before .before .if1 .left)) (c .before .before .holding-over .ensures)
 
 pub leave-spec : {M : Type 1} → statement M
-leave-spec = tie.close (tie.spec returns (λ c κs. c .before .before .before .pre (c .before .if1 .left)) (λ c. search needs) returns-2)
+leave-spec = tie.close (tie.spec returns (λ c κs. c .before .before .before .pre (not-false _ (c .before .if1 .left))) (λ c. search needs) returns-2)
