@@ -29,7 +29,7 @@ use Rattle.lister.specs.declared.Work.{Work}
 use Rattle.lister.specs.declared.Work.the-variants.{Gathering, Whole, Walking}
 use Rattle.lister.specs.Gathering.{upTo, endsIn, keptIn, filledTo, gathered}
 use Rattle.lister.specs.Steps.{gathers, opensAs, stopsAs, listsAs, stepBy, stepOf, lineRoom, GoodWork, Good}
-use Rattle.lister.proofs.Lists.{stop-keeps}
+use Rattle.lister.proofs.Lists.{left-sound}
 
 -- ---- a line's bytes have room
 
@@ -114,7 +114,7 @@ module _ (s : State) (line : List ℕ) (rows : List ℤ) (fine : sound (s .holdi
     stops-good : (o : Outcome) → here ≡ o → Stopped o → let d = stopsAs s tally o line rows in Good (d .state) (d .line) (d .rows)
     unfolding stopsAs GoodWork
     stops-good o e stopped = record {
-      held = rw (stop-keeps s bits tally line rows fine (stands .limit) large room o e stopped) fine;
+      held = left-sound s bits tally line rows fine (stands .limit) large room o e stopped;
       room = large;
       numbers = room;
       work = omega arith;

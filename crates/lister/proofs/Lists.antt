@@ -15,14 +15,14 @@ use Rattle.format.specs.Table.{Message, table}
 use Rattle.format.specs.Walking.{HandedOut, handedAt, Walk, hand, goOn, walkOn, messages, rowCount}
 use Rattle.format.proofs.AlikeWalks.{reading-alike, walk-alike}
 use Rattle.format.proofs.CutWalks.{over-long}
-use Rattle.format.proofs.HeldGood.{reading-good}
-use Rattle.format.proofs.Stops.{Stopped, stop-holds}
+use Rattle.format.proofs.HeldGood.{held-good, reading-good}
+use Rattle.format.proofs.Stops.{Stopped}
 use Rattle.format.proofs.Walks.{walk-step, stop-ends}
-use Rattle.holding.specs.Pictures.{maskOf, sound}
-use Rattle.holding.proofs.Pictured.{mask-picture}
+use Rattle.holding.specs.Pictures.{pictureOf, maskOf, sound}
+use Rattle.holding.proofs.Pictured.{mask-picture, sound-picture}
 use Rattle.holding.proofs.Sounds.{sounds}
 use Rattle.reader.specs.Readings.{outcomeAt, holdingAfter}
-use Rattle.reader.proofs.Lents.{sound-lent, stop-struct}
+use Rattle.reader.proofs.Lents.{sound-lent, struct-held}
 use Rattle.walk.specs.declared.Tally.{Tally}
 use Rattle.lister.specs.declared.State.{State}
 use Rattle.lister.specs.declared.Work.the-variants.{Walking}
@@ -93,15 +93,23 @@ module _ (s : State) (bits : ℕ) (tally : Tally) (line : List ℕ) (rows : List
     unfolding walkLeft
     stop-left = stop-ends table (lent held) line bits (tally .place) zeros o (read-there ∙ e) stopped
 
-    -- what is held stays
-    pub stop-keeps : holdingAfter (s .holding) o ≡ s .holding
-    stop-keeps = rw e at (stop-struct (s .holding) line bits (tally .place) rows (subst Stopped (sym e) stopped))
+    -- what it leaves is a holding
+    left-holds : isHolding (lentAfter o) ≡ true
+    unfolding isHolding
+    left-holds =
+        subst (λ (x : Outcome). isHolding (lentAfter x) ≡ true) (read-there ∙ e) (reading-good (lent held) line bits (tally .place) zeros (sounds (s .holding) fine .good-held))
 
-    stop-lends : heldIn (lentAfter o) ≡ held
-    unfolding heldIn
-    stop-lends =
-        let found = read-there ∙ e in
-        ap heldIn (rw found at (stop-holds (lent held) line bits (tally .place) zeros (subst Stopped (sym found) stopped)))
+    left-good : good (heldIn (lentAfter o)) ≡ true
+    left-good = held-good (lentAfter o) left-holds
+
+    left-picture : holdingAfter (s .holding) o ≡ pictureOf (heldIn (lentAfter o))
+    left-picture = struct-held (s .holding) (lentAfter o) left-holds
+
+    pub left-sound : sound (holdingAfter (s .holding) o) ≡ true
+    left-sound = rw left-picture (sound-picture (heldIn (lentAfter o)) left-good)
+
+    left-mask : maskOf (holdingAfter (s .holding) o) ≡ heldIn (lentAfter o)
+    left-mask = rw left-picture (mask-picture (heldIn (lentAfter o)) left-good)
 
     stops-owed : s .number + 1 < 2 ^ 64 → (input : List ℕ)
         → let d = stopsAs s tally o line rows in
@@ -109,7 +117,7 @@ module _ (s : State) (bits : ℕ) (tally : Tally) (line : List ℕ) (rows : List
     unfolding owedBy stopsAs leftListed leftText messages rowCount flatMap
     stops-owed few input =
         ap (λ (w : Walk). leftListed tally w (s .number) input) stop-left
-        ∙ rw (add-zero (tally .messages), add-zero (tally .rows), stop-lends, counted-next (s .number) few, stop-keeps)
+        ∙ rw (add-zero (tally .messages), add-zero (tally .rows), counted-next (s .number) few, left-mask)
 
   lists-as : s .number + 1 < 2 ^ 64 → (input : List ℕ) (o : Outcome) → here ≡ o
       → let d = listsAs s bits tally o line rows in
