@@ -14,7 +14,8 @@ use Rattle.format.specs.Missing.{Lacks, Reason}
 use Rattle.format.specs.Reading.{Outcome, accepted, idle, refused, bitsFrom, reading, answerOf, lentAfter}
 use Rattle.format.specs.Table.{table, message}
 use Rattle.format.specs.Walking.{walk}
-use Rattle.format.proofs.ShortReadings.{reading-reason, reading-short, walk-reason, walk-short}
+use Rattle.format.proofs.Refusals.{reading-reason}
+use Rattle.format.proofs.ShortReadings.{reading-short, walk-reason, walk-short}
 use Rattle.format.proofs.Stops.{Stopped, said-stopped}
 use Rattle.format.proofs.Walks.{walk-stops}
 use Rattle.holding.specs.declared.Holding.{Holding}

@@ -21,16 +21,10 @@ use Rattle.host.specs.Handing.{hostWalk, bytesAfter, walkBytes, emptied}
 use Rattle.passing.specs.Passing.{size, holdingIn}
 use Rattle.passing.proofs.Returns.{holding-returns}
 use Rattle.promises.specs.LateJoiners.{heldAfter, received}
-use Rattle.reader.specs.Readings.{structOf}
-use Rattle.reader.proofs.Lents.{sound-lent}
+use Rattle.reader.proofs.Lents.{sound-lent, struct-held}
 use Rattle.walk.specs.Walks.{walkAt, walkedOf}
 
 -- ---- what is lent, where it is a holding: as it is held, as a struct and as bytes
-
-struct-held : (h : Holding) (l : Lent) → isHolding l ≡ true → structOf h l ≡ pictureOf (heldIn l)
-unfolding isHolding heldIn structOf
-struct-held h stray e = absurd (false≢true e)
-struct-held h (lent held) e = refl
 
 pub bytes-say : (hb : List ℕ) (l : Lent) → isHolding l ≡ true → holdingIn (bytesAfter l hb) ≡ pictureOf (heldIn l)
 unfolding isHolding heldIn bytesAfter

@@ -79,14 +79,14 @@ lending : Unit {0}
 unfolding passed listing clocks packet masksFirst zeros call empty masked Calls.lendable
 lending = tt
 
--- two masks, two clocks and two packets under the mask held
+-- two masks where nothing is held (one of them would be 13 under the other), two clocks and two packets under the mask held
 listed : Call
 unfolding lending
-listed = call masked (listing 0x85) 181 refl
+listed = call empty (listing 0x85) 181 refl
 
 neighbour : Call
 unfolding lending
-neighbour = call masked (listing 0x86) 181 refl
+neighbour = call empty (listing 0x86) 181 refl
 
 clock : Call
 unfolding lending
