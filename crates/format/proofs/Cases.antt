@@ -119,6 +119,14 @@ saidMask long issue systems = n 0 ∷ n long ∷ n 1 ∷ n 100 ∷ n 5 ∷ n 0 �
 unfoldable pub saidHead : ℕ → ℕ → ℕ → ℕ → ℕ → List ℤ
 saidHead place long subType issue rows = n place ∷ n long ∷ n subType ∷ n 100 ∷ n 2 ∷ n 0 ∷ n issue ∷ ∅ ∷ ∅ ∷ ∅ ∷ n rows ∷ []
 
+-- two systems with one satellite each, in an order
+twoSystems : ℕ → ℕ → List Field
+twoSystems first then = maskHead 3 2 ++ (system first 0x8000000000 0x8000 ++ system then 0x8000000000 0x8000)
+
+-- a mask of one system at a place
+saidAgain : ℕ → ℕ → ℕ → List ℤ
+saidAgain place long issue = n place ∷ n long ∷ n 1 ∷ n 100 ∷ n 5 ∷ n 0 ∷ n issue ∷ n 1 ∷ ∅ ∷ ∅ ∷ n 0 ∷ []
+
 -- ---- the table
 
 -- a stretch of so many bits, what a walk over it says, and the saved line after it
@@ -253,6 +261,25 @@ cases =
     ∷ ((exampleMask ++ (head 11 3 ++ (2 ∶ 3 ∷ []))) gives 3 missing 1 at 114 after 1 and 0 says (saidMask 114 3 1 ∷ []) keeps exampleLine)
     ∷ ((exampleMask ++ (head 11 3 ++ (3 ∶ 1 ∷ 5 ∶ 31 ∷ []))) gives 3 missing 2 at 114 after 1 and 0 says (saidMask 114 3 1 ∷ []) keeps exampleLine)
     ∷ ((opening 10 ++ (1 ∶ 1 ∷ 3 ∶ 5 ∷ 2 ∶ 3 ∷ 40 ∶ 0x0102030405 ∷ [])) gives 3 missing 120 at 0 after 0 and 0 says [] keeps unsaid)
+    -- document 02, Ask 2: another mask under the held number is 13, and nothing is held then: another satellite, one cell fewer, no systems
+    ∷ ((exampleMask ++ (maskHead 3 1 ++ system 0 0x9000000000 0x8100)) gives 13 at 114 after 1 and 0 says (saidMask 114 3 1 ∷ []) keeps unsaid)
+    ∷ ((exampleMask ++ bareMask) gives 13 at 114 after 1 and 0 says (saidMask 114 3 1 ∷ []) keeps unsaid)
+    ∷ ((exampleMask ++ maskHead 3 0) gives 13 at 114 after 1 and 0 says (saidMask 114 3 1 ∷ []) keeps unsaid)
+    -- two systems the other way round
+    ∷ ((twoSystems 0 4 ++ twoSystems 4 0) gives 13 at 171 after 1 and 0 says (saidMask 171 3 2 ∷ []) keeps unsaid)
+    -- flag 0, then flag 1 with all ones: the same cells; and the flag alone, where there are no signals and so no cells
+    ∷ ((maskHead 3 1 ++ (system 4 0x4000000000 0xC000 ++ (maskHead 3 1 ++ (4 ∶ 4 ∷ 40 ∶ 0x4000000000 ∷ 16 ∶ 0xC000 ∷ 1 ∶ 1 ∷ 2 ∶ 3 ∷ []))))
+    gives 13 at 110 after 1 and 0 says (saidMask 110 3 1 ∷ []) keeps unsaid)
+    ∷ ((maskHead 3 1 ++ (system 0 0x8000000000 0 ++ (maskHead 3 1 ++ (4 ∶ 0 ∷ 40 ∶ 0x8000000000 ∷ 16 ∶ 0 ∷ 1 ∶ 1 ∷ []))))
+    gives 13 at 110 after 1 and 0 says (saidMask 110 3 1 ∷ []) keeps unsaid)
+    -- the same mask again, or another one under another number, is adopted
+    ∷ ((exampleMask ++ exampleMask) gives 0 at 228 after 2 and 0 says (saidMask 114 3 1 ∷ saidAgain 114 114 3 ∷ []) keeps exampleLine)
+    ∷ ((exampleMask ++ (maskHead 4 1 ++ system 0 0x9000000000 0)) gives 0 at 224 after 2 and 0 says (saidMask 114 3 1 ∷ saidAgain 114 110 4 ∷ [])
+    keeps "S\t4\t0\t9000000000\t0000\t0\t-\n")
+    -- it comes last: 10 for 40 satellites of 7 signals, 3 for a cell mask that is cut short, and what is held stays
+    ∷ ((exampleMask ++ (maskHead 3 1 ++ system 0 0xFFFFFFFFFF 0xFE00)) gives 10 at 114 after 1 and 0 says (saidMask 114 3 1 ∷ []) keeps exampleLine)
+    ∷ ((exampleMask ++ (maskHead 3 1 ++ (4 ∶ 0 ∷ 40 ∶ 0x9000000000 ∷ 16 ∶ 0x8100 ∷ 1 ∶ 1 ∷ 3 ∶ 7 ∷ []))) gives 3 missing 1 at 114 after 1 and 0 says (saidMask 114 3 1 ∷ [])
+    keeps exampleLine)
     ∷ []
 
 -- what a reading computes with
@@ -272,7 +299,7 @@ walked c = walk (lent nothing) (c .bytes) (c .end) (replicate 2048 (pos 0))
 cases-hold :
     map (λ c. report (walked c)) cases ≡ map (λ c. c .answer) cases
     × (map (λ c. lineOf (heldIn (lentAfter (walked c .stop)))) cases ≡ map (λ c. c .line) cases)
-unfolding computing walked exampleMask bareMask saidBiases saidClock unsaid exampleLine bareLine _gives_keeps_ _of_gives_keeps_ cases texts
+unfolding computing walked exampleMask bareMask twoSystems saidAgain saidBiases saidClock unsaid exampleLine bareLine _gives_keeps_ _of_gives_keeps_ cases texts
 cases-hold = (refl, refl)
 
 -- ---- the worked example, whole: what is listed of the customer's line, and the saved mask after it

@@ -1,4 +1,5 @@
--- What a message's first 16 bits decide, and what they leave to the rest: so the reading of a mask message and of sub type 10 does not depend on what is held.
+-- What a message's first 16 bits decide, and what they leave to the rest: so the program of a mask message and of sub type 10 does not depend on what is held,
+-- and the reading of a mask message does for 13 alone (document 02, Ask 2).
 -- Assumes nothing.
 use mathlib.Core.Path.{_≡_, refl, sym, ap, _∙_}
 use mathlib.Core.Bool.{Bool, true, false, cond}
@@ -8,11 +9,13 @@ use lib.Dec.{eqb}
 use lib.ListN.{length, take, drop}
 use Rattle.bits.specs.BitLists.{number}
 use Rattle.format.specs.declared.Refusal.{Refusal}
-use Rattle.format.specs.declared.Refusal.the-variants.{Number}
-use Rattle.format.specs.Masks.{Held}
+use Rattle.format.specs.declared.Refusal.the-variants.{Number, Changed}
+use Rattle.format.specs.Assigned.{blank}
+use Rattle.format.specs.Masks.{Held, nothing, lent}
 use Rattle.format.specs.Messages.{Content, bodied, packet}
 use Rattle.format.specs.Programs.{Program, done, refuse, field, _>>=_, _>>_, numbered, require, Ended, well, badly, later, unlessShort, run}
-use Rattle.format.specs.Reading.{subTypeIn}
+use Rattle.format.specs.Reading.{Outcome, accepted, idle, refused, endedAt, readFrom, subTypeIn}
+use Rattle.format.specs.Steady.{steady}
 use Rattle.format.specs.Table.{Kind, Message, table, kinds, keeping, byKind, opening, messageBy, message}
 
 -- 3 for the number, 4, 3 for the sub type, and then the rest's end
@@ -38,6 +41,24 @@ unfolding table kinds byKind
 mask-free g h l one =
     run-opened table g l ∙ ap (λ (s : ℕ). opened l (run (byKind (table s) g) (drop 4 (drop 12 l)))) one
     ∙ sym (run-opened table h l ∙ ap (λ (s : ℕ). opened l (run (byKind (table s) h) (drop 4 (drop 12 l)))) one)
+
+-- ---- so its reading is that where nothing is held, but for 13
+
+unfoldable pub underHeld : Held → Outcome → Outcome
+underHeld held (accepted m next) = cond (steady held (m .after)) (accepted m next) (refused Changed 0 (lent nothing))
+underHeld held (idle left) = idle (lent held)
+underHeld held (refused r missing left) = refused r missing (lent held)
+
+pub mask-reading : (held : Held) (place : ℕ) (l : List Bool) → subTypeIn l ≡ 1 → readFrom table held place l ≡ underHeld held (readFrom table nothing place l)
+unfolding readFrom endedAt underHeld steady
+mask-reading held place l one =
+    ap (λ (e : Ended Message). cond (blank l) (idle (lent held)) (endedAt held place e)) (mask-free held nothing l one) ∙ go (blank l) (run (message nothing) l)
+  where
+    go : (b : Bool) (e : Ended Message)
+        → cond b (idle (lent held)) (endedAt held place e) ≡ underHeld held (cond b (idle (lent nothing)) (endedAt nothing place e))
+    go true e = refl
+    go false (well m taken) = refl
+    go false (badly r missing) = refl
 
 -- ---- sub type 10: the same content
 
