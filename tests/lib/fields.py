@@ -1,8 +1,9 @@
-"""A stretch read field by field, with the field where it stops (document 01, "Reader's order"; document 02, Ask 1).
+"""A stretch read field by field, with the field where it stops (document 01, "Reader's order"; document 02, Asks 1, 2).
 
 The listing says why and where a stretch stops, not at which field; this says it. As a program it takes lines of the
 listing's input and prints each field (place, width, name, value, bits), then the stop; of a field or a body that is
-short also how many of its bits are missing (document 02, Ask 7).
+short also how many of its bits are missing (document 02, Ask 7). A changed mask is no field's fault: the stop is the
+message as a whole.
 """
 
 import re
@@ -13,12 +14,14 @@ from messages import (CLOCK, CODE, COLUMNS, CORRECTIONS, NUMBER, PHASE, SATELLIT
                       celled, cells, named, orbit, satellites)
 
 IDLE, SHORT, OTHER_NUMBER, SUB_TYPE, NO_MASK, OTHER_ISSUE, SYSTEM, RESERVED, SIZE, NETWORK = 0, *range(3, 12)
+CHANGED = 13
+WHOLE = "the message as a whole"
 STRETCH_BITS = 50850
 SIGNED = ("radial", "along-track", "cross-track", "clock", "code bias", "phase bias")
 
 
 class Stop(Exception):
-    """Its number, the field where it was given, and how many of its bits are missing where that is short."""
+    """Its number, the field where it was given or the whole, and how many of its bits are missing where it is short."""
 
     def __init__(self, number, field, missing=None):
         self.number, self.field, self.missing = number, field, missing
@@ -76,6 +79,9 @@ class Message:
         mask = Mask(self.common(20), ())
         for _ in range(self.take("systems", 4)):
             mask = mask._replace(systems=mask.systems + (self.system(mask),))
+        if self.held is not None and self.held.iod == mask.iod and self.held != mask:
+            self.held = None
+            raise Stop(CHANGED, WHOLE)
         self.held = mask
 
     def system(self, before):
@@ -141,7 +147,7 @@ class Walked(NamedTuple):
     stop: int
     place: int
     stopped: Message  # the message that was not accepted
-    field: str  # at which field; none where idle
+    field: str  # at which field, or the whole; none where idle
     missing: Optional[int]  # of its bits; none where it is not short
     held: Mask
 
@@ -153,7 +159,7 @@ def walk(bits, held):
         try:
             message.read()
         except Stop as stop:
-            return Walked(messages, stop.number, place, message, stop.field, stop.missing, held)
+            return Walked(messages, stop.number, place, message, stop.field, stop.missing, message.held)
         messages.append(message)
         place, held = message.place, message.held
 
@@ -191,6 +197,8 @@ def field_line(bits, field):
 
 
 def stopped_in(answer):
+    if answer.stop == CHANGED:
+        return f", {answer.field}: another mask under the held issue; nothing is held now"
     field = f", field {answer.field}" if answer.field else ""
     return field + (f", bits missing: {answer.missing}" if answer.missing else "")
 
