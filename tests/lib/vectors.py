@@ -7,11 +7,11 @@ import sys
 from pathlib import Path
 
 from checks import check, check_programs, check_remade, files, finish, read_lines
-from fields import SHORT, SIGNED, listed, parse
+from fields import CHANGED, SHORT, SIGNED, listed, parse, walk
 from groups import late, limits, order
 
 FOLDER = Path("vectors")
-STOPS = (0, 3, 4, 5, 6, 7, 8, 9, 10, 11)
+STOPS = (0, 3, 4, 5, 6, 7, 8, 9, 10, 11, 13)
 SUB_TYPES = (1, 2, 3, 4, 5, 6, 7, 10, 11)
 MOST_BYTES = 2000000
 
@@ -69,13 +69,12 @@ def stop_line(answer, rows):
 
 
 def check_alone(groups):
-    """Lines that need no other one: by themselves they stop just so, but for two that lost their mask's sub type."""
+    """Lines that need no other one: by themselves they stop just so."""
     for name in ("accepted", "limits", "one-bit"):
         for number, (line, answer) in enumerate(zip(groups[name].lines, groups[name].answers), 1):
             alone = listed([line])[0]
-            lost = name == "one-bit" and answer.place == 0 and answer.stop == 7 and alone.stop == 6
             same = alone and answer and stop_line(alone, []) == stop_line(answer, [])
-            check(same or lost or alone is answer is None, f"{name}: line {number} needs another one")
+            check(same or alone is answer is None, f"{name}: line {number} needs another one")
 
 
 def check_groups(groups):
@@ -85,6 +84,43 @@ def check_groups(groups):
         messages = sum(record[0] == "M" for part in group.parts for record in part)
         rows.append([name, len(stops), messages, stops.count("B")] + [stops.count(stop) for stop in STOPS])
     check_table(["group", "lines", "messages", "bad", *STOPS], rows)
+
+
+# ---- changed masks
+
+
+PARTS = {"satellite mask": lambda system: system.satellites, "signal mask": lambda system: system.signals,
+         "cell flag": lambda system: system.cells is None, "cell mask": lambda system: system.cells}
+CHANGES = ("number of systems", "GNSS ID", "order of systems", *PARTS)
+
+
+def changed_in(held, other):
+    """The first thing of CHANGES in which two masks differ; the order where the systems are the same."""
+    ids, other_ids = ([system.id for system in mask.systems] for mask in (held, other))
+    if len(ids) != len(other_ids):
+        return "number of systems"
+    if ids != other_ids:
+        return "order of systems" if sorted(ids) == sorted(other_ids) else "GNSS ID"
+    return next(name for name, part in PARTS.items() if [*map(part, held.systems)] != [*map(part, other.systems)])
+
+
+def changes(group):
+    """For each changed mask of a group what is changed."""
+    found, held = [], None
+    for line, answer in zip(group.lines, group.answers):
+        if answer and answer.stop == CHANGED:
+            before = answer.messages[-1].held if answer.messages else held
+            found.append(changed_in(before, walk(parse(line)[answer.place:], None).messages[0].held))
+        held = answer.held if answer else held
+    return found
+
+
+def check_changes(groups):
+    """How often each thing is changed under the held issue, in each group that has 13."""
+    found = {name: changes(group) for name, group in groups.items()}
+    names = [name for name in found if found[name]]
+    check_table(["changed in", *names],
+                [[change] + [found[name].count(change) or "" for name in names] for change in CHANGES])
 
 
 # ---- single groups
@@ -170,7 +206,7 @@ def check_one_bit(group):
 
 
 def check_late(groups):
-    """Demand 3, its premise and what it promises, for each receiver; and the table of them."""
+    """Demand 3 with document 02's Ask 2, its premise and what it promises, for each receiver; and the table of them."""
     first = groups["late-whole"]
     check(all(answer.stop == 0 for answer in first.answers), "late: the first receiver is refused")
     rows = []
@@ -192,9 +228,11 @@ def check_stretch(name, first, second):
     same_issue = mask and own_mask and mask.iod == own_mask.iod
     check(not same_issue or mask == own_mask, f"{name}: the premise")
     check(whole[:len(part)] == part, f"{name}: not an opening part")
-    check(second[0].stop(second[1]) in (0, 6, 7), f"{name}: another stop")
+    stop, place = second[0].stop(second[1]), second[0].answers[second[1]].place
+    check(stop in (0, 6, 7, CHANGED), f"{name}: another stop")
     opens_with_mask = first[0].answers[first[1]].messages[0].sub_type == 1
-    check(part == whole or not (opens_with_mask or mask == own_mask), f"{name}: not all of them")
+    taken = opens_with_mask and (stop, place) != (CHANGED, 0)
+    check(part == whole or not (taken or mask == own_mask), f"{name}: not all of them")
 
 
 def handed_out(group, number):
@@ -211,6 +249,7 @@ def main():
         check_agreement(name, group)
     check_alone(groups)
     check_groups(groups)
+    check_changes(groups)
     check_refusals(groups["refusals"])
     check_missing(groups["refusals"])
     check_order(groups["order"])

@@ -11,6 +11,9 @@ BASE = Mask(3, (System(GPS, (0, 2, 31), (0, 7), "100011"), System(GALILEO, (4, 3
 # As little as shows the same: 3 satellites, 3 cells.
 SMALL = Mask(3, (System(GPS, (0, 2), (0, 7), "1100"), System(GALILEO, (4,), (1,))))
 
+# As little as a mask can name; another issue.
+NOTHING = Mask(6, ())
+
 # Every system, a satellite and a signal each.
 EACH = Mask(3, tuple(System(system_id, (1,), (1,)) for system_id in (GPS, GLONASS, GALILEO, BEIDOU, QZSS)))
 
@@ -48,6 +51,11 @@ class Random:
 def line(*parts):
     """A line of these messages, one after another."""
     return text("".join(spell(part) for part in parts))
+
+
+def with_system(mask, k, **changed):
+    """The mask with its k-th system changed, from 0."""
+    return mask._replace(systems=mask.systems[:k] + (mask.systems[k]._replace(**changed),) + mask.systems[k + 1:])
 
 
 def clock(mask, random, **head):

@@ -1,4 +1,8 @@
-"""Good messages under masks of every kind: each line opens with its mask; then every sub type, in any order."""
+"""Good messages under masks of every kind: each line opens with its mask; then every sub type, in any order.
+
+At the end comes the mask again, which is the same and so accepted. No line has the issue of the line before: the masks
+differ, and would be refused with 13.
+"""
 
 from messages import (SATELLITE_PLACES, SIGNAL_PLACES, Mask, System, biases, celled, cells, combined, correction,
                       mask_message, satellites, service)
@@ -17,10 +21,13 @@ def system(random, system_id):
     return System(system_id, chosen, signals, cell_mask)
 
 
-def mask(random):
-    """Any systems in any order; small enough for the limits."""
+def mask(random, before):
+    """Any systems in any order, under another issue than the one before."""
     ids = sorted(range(5), key=lambda _: next(random))[:random.below(6)]
-    return Mask(random.below(16), tuple(system(random, system_id) for system_id in ids))
+    iod = random.below(16)
+    if iod == before:
+        iod = (iod + 1) % 16
+    return Mask(iod, tuple(system(random, system_id) for system_id in ids))
 
 
 def head(random):
@@ -41,11 +48,12 @@ def some_message(random, held, sub_type):
 
 
 def made():
-    random, made = Random(5), []
+    random, made, before = Random(5), [], None
     while len(made) < LINES:
-        held = mask(random)
+        held = mask(random, before)
         if len(satellites(held)) <= 64 and len(cells(held)) <= 256:
             order = sorted((2, 3, 4, 5, 6, 7, 10, 11), key=lambda _: next(random))[:1 + random.below(8)]
             sent = [some_message(random, held, sub_type) for sub_type in order]
-            made.append(line(mask_message(held, epoch=random.below(604800)), *sent))
+            made.append(line(mask_message(held, epoch=random.below(604800)), *sent, mask_message(held)))
+            before = held.iod
     return made

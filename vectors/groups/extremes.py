@@ -34,7 +34,7 @@ def bodies():
 def mask_heads():
     epochs = [line(mask_message(EACH, epoch=epoch)) for epoch in (0, 1, 604799, 604800, 2**20 - 1)]
     intervals = [line(mask_message(EACH, interval=interval, indicator=interval % 2)) for interval in INTERVALS]
-    counts = [line(mask_message(Mask(3, EACH.systems[:count]))) for count in range(6)]
+    counts = [line(mask_message(Mask((EACH.iod + count - 5) % 16, EACH.systems[:count]))) for count in range(6)]
     return epochs + intervals + counts
 
 
@@ -71,6 +71,15 @@ def accuracies():
     return [line(correction(7, EACH, range(first, first + 5))) for first in range(0, 64, 5)]
 
 
+def changed():
+    """13 under every issue: from no system to all of them, and back."""
+    made = []
+    for iod in range(16):
+        none, each = mask_message(Mask(iod, ())), mask_message(EACH._replace(iod=iod))
+        made += [line(none, each), line(each, none)]
+    return made
+
+
 def places(random):
     """Each satellite place and each signal place of each system alone, all of them, and none."""
     made = []
@@ -79,7 +88,7 @@ def places(random):
         chosen += [((0,), (place,)) for place in range(SIGNAL_PLACES[k])]
         chosen += [((), ()), ((), (0,)), ((0,), ()), (range(SATELLITE_PLACES[k]), ()), ((), range(SIGNAL_PLACES[k]))]
         for satellites, signals in chosen:
-            mask = Mask(7, (System(k, tuple(satellites), tuple(signals)),))
+            mask = Mask(len(made) % 16, (System(k, tuple(satellites), tuple(signals)),))
             made.append(line(mask_message(mask), correction(3, mask, random), correction(4, mask, random)))
     return made
 
@@ -88,8 +97,8 @@ def cell_masks(random):
     """Each cell mask of two satellites by two signals, and none; biases combined, of all satellites and of a network's,
     those that have a cell."""
     made = []
-    for cells in [format(k, "04b") for k in range(16)] + [None]:
-        mask = Mask(7, (System(GPS, (0, 2), (0, 7), cells),))
+    for k, cells in enumerate([format(k, "04b") for k in range(16)] + [None]):
+        mask = Mask(k % 16, (System(GPS, (0, 2), (0, 7), cells),))
         selection = "".join("01"[count > 0] for _, count in celled(mask))
         made.append(line(mask_message(mask), correction(4, mask, random), correction(5, mask, random)))
         made.append(line(*(biases(mask, random, *flags) for flags in FLAGS)))
@@ -100,4 +109,4 @@ def cell_masks(random):
 def made():
     random = Random(4)
     return [line(mask_message(EACH))] + bodies() + mask_heads() + heads(random) + flags(random) + packets(random) + \
-        accuracies() + places(random) + cell_masks(random)
+        accuracies() + changed() + places(random) + cell_masks(random)

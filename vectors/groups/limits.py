@@ -1,19 +1,19 @@
 """Both sides of each limit: pairs of lines, the first good, the second one step further and refused.
 
-Each line opens with the mask message that it needs, so that no line needs another one.
+Each line opens with the mask message that it needs, so that no line needs another one; masks that differ have different
+issues from pair to pair, but for those of 13, which leave nothing held.
 """
 
 from messages import (BEIDOU, GALILEO, GLONASS, GPS, QZSS, SATELLITE_PLACES, SIGNAL_PLACES, Mask, System, biases,
                       combined, correction, mask_message, service, spell, text)
 
-from . import BASE, Random, clock, line, message
+from . import BASE, EACH, NOTHING, Random, clock, line, message, with_system
 
+GPS_ALONE = Mask(4, (System(GPS, (0,), ()),))
+GALILEO_ALONE = Mask(5, (System(GALILEO, (0,), ()),))
+MOST = Mask(7, (System(GPS, range(32), range(8)),))
 STRETCH_BITS = 50850
 SYSTEM_NAMES = ("GPS", "GLONASS", "Galileo", "BeiDou", "QZSS")
-
-
-def masks(name, good, past):
-    return (name, *(line(mask_message(Mask(3, tuple(systems)))) for systems in (good, past)))
 
 
 def full(system_id, count):
@@ -22,7 +22,7 @@ def full(system_id, count):
 
 def satellites(name, first, system_id, count):
     """The first systems, and so many satellites of a further one; then one more."""
-    return masks(name, first + [full(system_id, count)], first + [full(system_id, count + 1)])
+    return name, first + [full(system_id, count)], first + [full(system_id, count + 1)]
 
 
 def satellite_limits():
@@ -42,11 +42,11 @@ def cell_limits():
 
     most, one = System(GPS, range(32), range(8)), System(QZSS, (0,), (0,))
     return [
-        masks("256 cells by cell flag 0", [most], [most._replace(signals=range(9))]),
-        masks("256 cells by cell flag 0, two systems", [most, one._replace(signals=())], [most, one]),
-        masks("256 ones of 264 cell bits", [masked(33, 8, 256)], [masked(33, 8, 257)]),
-        masks("256 ones of 560 cell bits", [masked(40, 14, 256)], [masked(40, 14, 257)]),
-        masks("256 ones in two systems", [most, one._replace(cells="0")], [most, one._replace(cells="1")]),
+        ("256 cells by cell flag 0", [most], [most._replace(signals=range(9))]),
+        ("256 cells by cell flag 0, two systems", [most, one._replace(signals=())], [most, one]),
+        ("256 ones of 264 cell bits", [masked(33, 8, 256)], [masked(33, 8, 257)]),
+        ("256 ones of 560 cell bits", [masked(40, 14, 256)], [masked(40, 14, 257)]),
+        ("256 ones in two systems", [most, one._replace(cells="0")], [most, one._replace(cells="1")]),
     ]
 
 
@@ -57,20 +57,26 @@ def assigned_places():
         end = SATELLITE_PLACES[k]
         if end < 40:
             good, past = System(k, (end - 1,), ()), System(k, (end,), ())
-            made.append(masks(f"{name} satellite place {end - 1}", [good], [past]))
+            made.append((f"{name} satellite place {end - 1}", [good], [past]))
         end = SIGNAL_PLACES[k]
         good, past = System(k, (), (end - 1,)), System(k, (), (end,))
-        made.append(masks(f"{name} signal place {end - 1}", [good], [past]))
+        made.append((f"{name} signal place {end - 1}", [good], [past]))
     return made
 
 
 def systems():
     five = [System(k, (0,), (0,)) for k in range(5)]
     return [
-        masks("GNSS ID 4", [System(4, (0,), (0,))], [System(5, (0,), (0,))]),
-        masks("5 systems", five, five + five[:1]),
-        masks("each system once", five[:2], [five[0], five[0]]),
+        ("GNSS ID 4", [System(4, (0,), (0,))], [System(5, (0,), (0,))]),
+        ("5 systems", five, five + five[:1]),
+        ("each system once", five[:2], [five[0], five[0]]),
     ]
+
+
+def masks():
+    """Each pair under an issue of its own."""
+    return [(name, *(line(mask_message(Mask(k % 16, tuple(systems)))) for systems in pair))
+            for k, (name, *pair) in enumerate(satellite_limits() + cell_limits() + assigned_places() + systems())]
 
 
 def under(*fields):
@@ -99,27 +105,50 @@ def networks(random):
     return made + [("all satellites but the one without a cell", *selected)]
 
 
+def changed_masks():
+    """A mask and the same again, or another under the next issue; then another under its own."""
+    wide = System(GPS, range(40), range(14), ("1" * 255).ljust(560, "0"))
+
+    def again(name, mask, other):
+        return name, line(mask_message(mask), mask_message(mask)), line(mask_message(mask), mask_message(other))
+
+    def under_next(name, other):
+        return name, under(mask_message(other._replace(iod=BASE.iod + 1))), under(mask_message(other))
+
+    return [
+        again("the held mask again, and a satellite more", BASE, with_system(BASE, 1, satellites=(4, 35, 36))),
+        again("the held mask again, and without its last cell", BASE, with_system(BASE, 2, cells="1100")),
+        again("the held mask again, and cell flag 1 with all cells", BASE, with_system(BASE, 1, cells="11")),
+        again("five systems again, and the last two the other way round", EACH,
+              EACH._replace(systems=EACH.systems[:3] + EACH.systems[:2:-1])),
+        again("no systems again, and one without satellites and signals", NOTHING,
+              NOTHING._replace(systems=(System(GPS, (), ()),))),
+        again("560 cell bits again, and the last one set", Mask(3, (wide,)),
+              with_system(Mask(3, (wide,)), 0, cells=wide.cells[:-1] + "1")),
+        under_next("a system less under the next issue, and under the held one",
+                   BASE._replace(systems=BASE.systems[:2])),
+        under_next("no systems under the next issue, and under the held one", BASE._replace(systems=())),
+    ]
+
+
 def lengths(random):
     """Each message whole, and without its last bit; and the shortest stretches."""
     made = [(f"sub type {k}, its last bit", *whole(message(k, BASE, random))) for k in (1, 2, 3, 4, 5, 6, 7, 11)]
     made += [(f"sub type 10 of size {size}, its last bit", *whole(service(random, size=size))) for size in range(4)]
-    galileo = Mask(3, (System(GALILEO, (0,), ()),))
-    gps = Mask(3, (System(GPS, (0,), ()),))
-    made += [("orbit of one GPS satellite, 86 bits", *whole(correction(2, gps, random), gps)),
-             ("orbit of one Galileo satellite, 88 bits", *whole(correction(2, galileo, random), galileo)),
-             ("no systems, 49 bits", *whole(mask_message(Mask(3, ())))),
-             ("no satellites, 37 bits", *whole(clock(Mask(3, ()), random), Mask(3, ()))),
-             ("accuracy of one satellite, 43 bits", *whole(correction(7, gps, random), gps)),
-             ("biases of no cell, 40 bits", *whole(biases(gps, random), gps))]
+    made += [("orbit of one GPS satellite, 86 bits", *whole(correction(2, GPS_ALONE, random), GPS_ALONE)),
+             ("orbit of one Galileo satellite, 88 bits", *whole(correction(2, GALILEO_ALONE, random), GALILEO_ALONE)),
+             ("no systems, 49 bits", *whole(mask_message(NOTHING))),
+             ("no satellites, 37 bits", *whole(clock(NOTHING, random), NOTHING)),
+             ("accuracy of one satellite, 43 bits", *whole(correction(7, GPS_ALONE, random), GPS_ALONE)),
+             ("biases of no cell, 40 bits", *whole(biases(GPS_ALONE, random), GPS_ALONE))]
     return made + longest(random) + [("11 zero bits", text("0" * 11), text("0" * 10 + "1")),
                    ("no bits", text(""), text("1"))]
 
 
 def longest(random):
     """The longest body that there is: 256 cells of 28 bits."""
-    most = Mask(3, (System(GPS, range(32), range(8)),))
-    bits = spell(mask_message(most) + biases(most, random))
-    return [("biases of 256 cells, 7,208 bits", *whole(biases(most, random), most)),
+    bits = spell(mask_message(MOST) + biases(MOST, random))
+    return [("biases of 256 cells, 7,208 bits", *whole(biases(MOST, random), MOST)),
             ("their body, 7,168 bits, and none of it", text(bits), text(bits[:-7168]))]
 
 
@@ -130,17 +159,15 @@ def whole(fields, mask=BASE):
 
 def stretches():
     """The longest stretch: of zeros, and with as many messages as it can have; one bit more is a bad line."""
-    nothing = Mask(3, ())
-    empty_clock = spell(correction(3, nothing, ()))
-    bits = (spell(mask_message(nothing)) + empty_clock * 1400)[:STRETCH_BITS // 37 * 37 + 12]
+    empty_clock = spell(correction(3, NOTHING, ()))
+    bits = (spell(mask_message(NOTHING)) + empty_clock * 1400)[:STRETCH_BITS // 37 * 37 + 12]
     return [("50,850 bits of zeros", text("0" * STRETCH_BITS), text("0" * (STRETCH_BITS + 1))),
             ("50,850 bits of messages", text(bits.ljust(STRETCH_BITS, "0")), text(bits.ljust(STRETCH_BITS + 1, "0")))]
 
 
 def named():
     random = Random(3)
-    masked = satellite_limits() + cell_limits() + assigned_places() + systems()
-    return masked + heads(random) + networks(random) + lengths(random) + stretches()
+    return masks() + heads(random) + networks(random) + changed_masks() + lengths(random) + stretches()
 
 
 def made():

@@ -1,8 +1,12 @@
-"""Two faults in one message: the one that comes first in the reader's order is told. BASE is held to the end."""
+"""Two faults in one message: the one that comes first in the reader's order is told. BASE is held to the end.
+
+Each faulty mask has BASE's issue and is another one, so 13 would be its second fault, or its third. 13 comes last; the
+lines that earn it drop BASE, and it is sent again.
+"""
 
 from messages import BEIDOU, GLONASS, GPS, QZSS, Mask, System, biases, combined, mask_message, opening, spell, text
 
-from . import BASE, Random, clock, line, message
+from . import BASE, Random, clock, line, message, with_system
 
 BODY = 7 * (49 + 15) + 2 * 2  # of sub type 11 for all of BASE's satellites, two of them Galileo's
 
@@ -64,20 +68,50 @@ def faulty_masks():
     ]
 
 
+def faulty_and_changed():
+    """Another mask under BASE's issue, and a fault in its last system: all is tested before 13 is."""
+    def changed(**last):
+        return mask_message(with_system(with_system(BASE, 0, satellites=(0, 3, 31)), 2, **last))
+
+    return [
+        ("changed mask, its last bit missing", cut(changed(), 1)),
+        ("changed mask, unknown system as its last", line(changed(id=6))),
+        ("changed mask, its last system named already", line(changed(id=GPS))),
+        ("changed mask, reserved satellite in its last system", line(changed(satellites=(0, 10)))),
+        ("changed mask, reserved signal in its last system", line(changed(signals=(0, 10)))),
+        ("changed mask, over 64 satellites with its last system",
+         line(masked(System(GPS, range(40), ()), System(BEIDOU, range(25), ())))),
+        ("changed mask, over 256 cells with its last system",
+         line(masked(System(GPS, range(32), range(8)), System(QZSS, (0,), (0,))))),
+    ]
+
+
+def changed_masks():
+    """13, and what is wrong behind the mask message, which is not reached."""
+    changed = mask_message(with_system(BASE, 0, satellites=(0, 3, 31)))
+    return [
+        ("changed mask, number behind it", line(changed, [("number", 12, 4072)])),
+        ("changed mask, sub type behind it", line(changed, opening(12))),
+        ("changed mask, another one behind it", line(changed, mask_message(BASE._replace(systems=())))),
+        ("changed mask, one bit behind it", line(changed, [("rest", 1, 1)])),
+    ]
+
+
 def named(random):
-    """The line before any mask; then the others, for which BASE is held."""
+    """The line before any mask; then the others, for which BASE is held; then those that drop it."""
     first = [("no mask, no body", cut(clock(BASE, random), 7 * 15))]
-    return first, faulty_messages(random) + faulty_biases(random) + faulty_masks()
+    kept = faulty_messages(random) + faulty_biases(random) + faulty_masks() + faulty_and_changed()
+    return first, kept, changed_masks()
 
 
 def made():
-    """After each a clock that shows what is held still."""
+    """After each a clock that shows what is held still; where BASE was dropped it comes in front of that."""
     random = Random(2)
-    first, others = named(random)
-    shown = [made for _, faulty in others for made in (faulty, line(clock(BASE, random)))]
+    first, kept, dropped = named(random)
+    shown = [made for _, faulty in kept for made in (faulty, line(clock(BASE, random)))]
+    shown += [made for _, faulty in dropped for made in (faulty, line(mask_message(BASE), clock(BASE, random)))]
     return [faulty for _, faulty in first] + [line(mask_message(BASE))] + shown
 
 
 def names():
-    first, others = named(Random(2))
-    return [name for name, _ in first + others]
+    return [name for each in named(Random(2)) for name, _ in each]

@@ -1,7 +1,12 @@
-"""Each refusal at each field that can earn it. No mask is held in the first lines; then BASE is, to the end."""
+"""Each refusal at each field that can earn it. No mask is held in the first lines; then BASE is, to the end.
 
-from messages import (BEIDOU, CORRECTIONS, GPS, NUMBER, SATELLITE_PLACES, SIGNAL_PLACES, Mask, System, biases,
-                      combined, mask_message, opening, service, spell, text)
+13 alone drops it: behind each a clock shows that nothing is held, and BASE is sent again.
+"""
+
+from itertools import permutations
+
+from messages import (BEIDOU, CORRECTIONS, GLONASS, GPS, NUMBER, QZSS, SATELLITE_PLACES, SIGNAL_PLACES, Mask, System,
+                      biases, cell_rows, combined, flip, mask_message, opening, service, spell, text)
 
 from . import BASE, Random, clock, line, message
 
@@ -97,6 +102,50 @@ def sizes():
     ])
 
 
+def resized(system, satellites, signals):
+    """The system with other satellites and signals: of its cells those that are left, and no others are set."""
+    if system.cells is None:
+        return system._replace(satellites=satellites, signals=signals)
+    kept = [(satellite, signal) for satellite, row in zip(system.satellites, cell_rows(system))
+            for signal, bit in zip(system.signals, row) if bit == "1"]
+    cells = "".join("01"[(satellite, signal) in kept] for satellite in satellites for signal in signals)
+    return System(system.id, satellites, signals, cells)
+
+
+def beside(chosen):
+    """A place more, one fewer, and another one in place of the last."""
+    rest, last = chosen[:-1], chosen[-1]
+    return (*rest, last - 1, last), rest, (*rest, last - 1)
+
+
+def changed_systems(system):
+    """One thing of a system: its ID; a satellite or a signal more, fewer, another; the cell flag; each cell."""
+    _, satellites, signals, cells = system
+    more, fewer, other = beside(satellites)
+    made = [resized(system, more, signals), resized(system, fewer, signals), system._replace(satellites=other)]
+    more, fewer, other = beside(signals)
+    made += [resized(system, satellites, more), resized(system, satellites, fewer), system._replace(signals=other)]
+    made += [system._replace(id=GLONASS if system.id == QZSS else BEIDOU),
+             system._replace(cells="1" * (len(satellites) * len(signals)) if cells is None else None)]
+    return made + [system._replace(cells=flip(cells, place)) for place in range(len(cells or ""))]
+
+
+def changed_masks():
+    """13 for BASE in another order, with a system fewer, with one more, with none, and with a system changed."""
+    first, second, third = BASE.systems
+    made = list(permutations(BASE.systems))[1:] + [(second, third), (first, third), (first, second), ()]
+    made += [BASE.systems[:k] + (one(GLONASS),) + BASE.systems[k:] for k in range(4)]
+    made += [BASE.systems[:k] + (changed,) + BASE.systems[k + 1:]
+             for k, system in enumerate(BASE.systems) for changed in changed_systems(system)]
+    return masks(made)
+
+
+def dropped(refused, random):
+    """After each changed mask a clock, which finds nothing held; then BASE again, which is taken."""
+    return [made for each in refused
+            for made in (each, line(clock(BASE, random)), line(mask_message(BASE), clock(BASE, random)))]
+
+
 def networks(random):
     """11 with each of the two other flags, and with the selection all zeros and all ones."""
     return [line(sent(BASE, random, one, other, network=0, selection=selection))
@@ -118,4 +167,4 @@ def made():
     refused_masks = systems() + reserved() + sizes()
     return no_mask(random) + [line(mask_message(BASE))] + short(random) + numbers(random) + sub_types(random) + \
         other_issues(random) + kept(refused_masks, random) + networks(random) + without_cell(random) + \
-        [line(message(sub_type, BASE, random)) for sub_type in CORRECTIONS]
+        [line(message(sub_type, BASE, random)) for sub_type in CORRECTIONS] + dropped(changed_masks(), random)
