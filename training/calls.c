@@ -1,7 +1,7 @@
 /* The answers that no stretch earns, only a call: 1 (room), 2 (place) and 12 (value), each beside the nearest call that
-   is not refused so; then the order of the tests, and rows after a refusal; then the same answers to what is done with
-   lines of text. A line for each call: what is lent, the answer, the place, and whether what was lent was kept as it
-   was. training/README.md explains. */
+   is not refused so; then the order of the tests, rows after a refusal, and the holding after 13 (changed mask); then
+   the same answers to what is done with lines of text. A line for each call: what is lent, the answer, the place, and
+   whether what was lent was kept as it was. training/README.md explains. */
 #include <inttypes.h>
 #include <stdio.h>
 #include <string.h>
@@ -23,6 +23,13 @@ static uint8_t empty[HUNDURZEK_HOLDING], masked[HUNDURZEK_HOLDING], spoilt[HUNDU
 
 static const char *told(int same) { return same ? "kept" : "changed"; }
 
+/* What a call left of a holding. */
+static const char *left(const uint8_t *holding, const uint8_t *before) {
+  int same = memcmp(holding, before, HUNDURZEK_HOLDING) == 0;
+  int none = memcmp(holding, empty, HUNDURZEK_HOLDING) == 0;
+  return !same && none ? "emptied" : told(same);
+}
+
 /* Reads with copies of what is lent, the row buffer full of sevens, and tells what came of it. */
 static void try(const char *what, call c) {
   static uint8_t holding[HUNDURZEK_HOLDING];
@@ -32,7 +39,7 @@ static void try(const char *what, call c) {
   memcpy(holding, c.holding, sizeof holding);
   hundurzek_read(&reading, holding, c.holding_count, stretch, c.bytes, c.end, c.start, rows, c.numbers);
   printf("%s\tanswer %" PRIu64 "\tplace %" PRIu64, what, reading.answer, reading.place);
-  printf("\tholding %s", told(memcmp(holding, c.holding, sizeof holding) == 0));
+  printf("\tholding %s", left(holding, c.holding));
   printf("\trows %s\n", told(memcmp(rows, before, sizeof rows) == 0));
 }
 
@@ -104,11 +111,29 @@ static void late(void) {
   try("clocks of issue 3, mask of issue 3", c);
 }
 
-/* ---- lines of text */
+/* Document 01's mask as a saved line, and the number of its bytes; another mask of its issue, satellites 1 and 4; and
+   how many bytes the empty holding's line has. */
+static const char saved[] = "S\t3\t0\tA000000000\t8100\t1\tB\n", other[] = "S\t3\t0\t9000000000\t8100\t1\tB\n";
+enum { SAVED = sizeof saved - 1, SAVED_EMPTY = 4 };
 
-/* Document 01's mask as a saved line, and the number of its bytes. */
-static const char saved[] = "S\t3\t0\tA000000000\t8100\t1\tB\n";
-enum { SAVED = sizeof saved - 1 };
+/* The worked mask where another one is held: under its issue it is refused with 13 once, and what was held is gone. */
+static void changed(void) {
+  hundurzek_loaded held;
+  hundurzek_load(&held, (const uint8_t *)other, sizeof other - 1);
+  call c = {held.holding, sizeof held.holding, BYTES, BITS, 0, HUNDURZEK_ROOM - 1};
+  try("changed mask, 2047 numbers for rows", c);
+  c.numbers++;
+  try("changed mask", c);
+  c.holding = empty;
+  try("the same mask, nothing held", c);
+  c.holding = masked;
+  try("the same mask, held already", c);
+  held.holding[ISSUE] = 2;
+  c.holding = held.holding;
+  try("the same mask, the other one of issue 2", c);
+}
+
+/* ---- lines of text */
 
 /* A buffer full of sevens that is lent for text or for a stretch. */
 static uint8_t lent[HUNDURZEK_LINE], sevens[HUNDURZEK_LINE];
@@ -156,6 +181,8 @@ static void lines(void) {
   save("save into 26 bytes", masked, SAVED);
   save("save 3 satellites said, 2 named", spoilt, SAVED);
   save("the same into 25 bytes", spoilt, SAVED - 1);
+  save("save the empty holding into 3 bytes", empty, SAVED_EMPTY - 1);
+  save("save the empty holding into 4 bytes", empty, SAVED_EMPTY);
   load("load the line", saved, SAVED);
   load("load it without its line feed", saved, SAVED - 1);
   load("load it with 0B for B", "S\t3\t0\tA000000000\t8100\t1\t0B\n", SAVED + 1);
@@ -211,6 +238,7 @@ int main(void) {
   value();
   order();
   late();
+  changed();
   lines();
   writes();
   return 0;

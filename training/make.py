@@ -106,6 +106,25 @@ FOREIGN = "".join(format(letter, "08b") for second in range(7) for letter in pos
 NEXT = Mask(4, (System(GPS, (0, 3), (0, 7), "1011"),))
 
 
+# A mask that changes under one issue: it is counted up where the one in front of it has issue 2.
+def changed(iod):
+    """In front of the worked stretch the mask with satellite 4."""
+    return [spell(mask_message(NEXT._replace(iod=iod))), spell(WORKED)]
+
+
+def flag_and_cells(iod):
+    """Cell flag 0, then flag 1 with all cells, and biases for them."""
+    system = System(GPS, (0, 2), (0, 7))
+    every = one_system(system._replace(cells="1111"))
+    return [spell(mask_message(Mask(iod, (system,))))] + under(every, correction(4, every, (10, 20, 30, 40)))
+
+
+def polite(iod, mask):
+    """The worked mask under this issue, then a mask of issue 3, then clocks of issue 3."""
+    lines = mask_message(MASK._replace(iod=iod)), mask_message(mask), correction(3, mask, (12, 625))
+    return [spell(fields) for fields in lines]
+
+
 def next_issue(*masks, iod=4):
     return [spell(mask_message(mask)) for mask in masks] + [spell(correction(3, NEXT, (12, -9), iod=iod))]
 
@@ -181,6 +200,9 @@ STRETCHES = {
     "11-network": {"refused": network(0), "accepted": network(1)},
     "11-satellite-without-cell": {"refused": without_cell(network=1, selection="11"),
                                   "accepted": without_cell(network=1, selection="10"), "all": without_cell()},
+    "13-changed-mask": {"refused": changed(3), "accepted": changed(2),
+                        "after": changed(3) + [spell(WORKED)[114:], spell(WORKED)[:114], spell(WORKED)[114:]]},
+    "13-flag-and-cells": {"refused": flag_and_cells(3), "accepted": flag_and_cells(2)},
     "mistake-1-another-mask": {"refused": next_issue(MASK), "accepted": next_issue(MASK, NEXT),
                                "careless": next_issue(MASK, iod=3)},
     "mistake-2-satellite-seven": {"accepted": seventh(7), "careless": seventh(6)},
@@ -190,6 +212,8 @@ STRETCHES = {
     "habit-flag-0-no-cells": {"accepted": all_cells(None), "careless": all_cells("0000")},
     "habit-galileo-iode": {"accepted": orbit(GALILEO), "careless": orbit(GPS)},
     "habit-codes-first": {"accepted": satellite_3(BIASES), "careless": codes_first()},
+    "habit-polite-receiver": {"refused": polite(3, NEXT._replace(iod=3)), "accepted": polite(2, NEXT._replace(iod=3)),
+                              "careless": polite(3, MASK)},
 }
 
 

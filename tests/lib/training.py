@@ -1,6 +1,8 @@
 """The checks of training/: its files, every program's listing of them, and what its page says of them."""
 
 import re
+import shlex
+import subprocess
 import sys
 from itertools import zip_longest
 from pathlib import Path
@@ -9,8 +11,9 @@ from checks import check, check_programs, check_remade, files, finish, read_line
 from fields import SHORT, parse, walk
 
 FOLDER = Path("training")
-EARNED_BY_STRETCHES = ("0", "3", "4", "5", "6", "7", "8", "9", "10", "11", "B")
+EARNED_BY_STRETCHES = ("0", "3", "4", "5", "6", "7", "8", "9", "10", "11", "13", "B")
 EARNED_BY_CALLS = ("1", "2", "12")
+SAVING = ("target/tests/second mask", "./hundurzek save -")
 CASES_HEADER = ["case", "file", "its last answer", "accepted differs in"]
 WORKED_HEADER = ["place", "width", "field", "value"]
 LONGER_HEADER = ["file", "bits more", "answer", "place", "messages", "at the field", "needed", "left", "missing"]
@@ -208,6 +211,16 @@ def check_parts():
         check_missing(case, name)
 
 
+def check_saved():
+    """What the page says of saved masks: that of the empty holding after 13; cell flag 0, and flag 1 with all ones."""
+    flag_0 = lines("13-flag-and-cells", "refused")[:1]
+    for sent, end in ((lines("13-changed-mask", "refused"), "S\t-\n"), (flag_0, "\t0\t-\n"),
+                      (lines("13-flag-and-cells", "accepted"), "\t1\tF\n")):
+        for command in SAVING:
+            got = subprocess.run(shlex.split(command), input="".join(sent), capture_output=True, text=True, check=False)
+            check(got.stdout.endswith(end), f"{command}: {got.stdout!r} does not end with {end!r}")
+
+
 def check_missing(case, name):
     """What the number says: with fewer bits more the same field is short still, with that many it is not."""
     short = longer(case, name, 0)
@@ -233,6 +246,7 @@ def main():
     check_answers()
     check_mistakes()
     check_parts()
+    check_saved()
     check_calls()
     finish()
 

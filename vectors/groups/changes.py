@@ -13,16 +13,16 @@ MASKS = [Mask(3, systems) for systems in (
     (ONE._replace(cells=None),), (ONE, OTHER), (OTHER, ONE), (), (ONE._replace(satellites=(), cells=""),))]
 
 
-def at(turn):
-    """Another mask for each turn of the counter."""
-    return Mask(turn % 16, (System(GPS, (turn, turn + 1, 39), (0, 1)), System(QZSS, (turn % 9,), (0,))))
+def at(step):
+    """Another mask for each step of the counter."""
+    return Mask(step % 16, (System(GPS, (step, step + 1, 39), (0, 1)), System(QZSS, (step % 9,), (0,))))
 
 
 def counted(random):
     """Issues 0 to 15 and 0 again, another mask each: its clocks, then clocks of the issue before, which are refused."""
     made, before = [], None
-    for turn in range(17):
-        mask = at(turn)
+    for step in range(17):
+        mask = at(step)
         made += [line(mask_message(mask), clock(mask, random)), line(clock(mask, random), message(5, mask, random))]
         made += [line(clock(before, random))] if before else []
         before = mask
@@ -103,8 +103,8 @@ def dropped(random):
 
 
 def missed_turn(random):
-    """A mask, and what comes when the counter has gone round once: other clocks of its number, which nothing gives
-    away; the mask of them, refused with 13; those clocks, refused too; that mask again, which is taken."""
+    """A mask, and what comes when the counter has gone round once: clocks for another mask of its number, which nothing
+    gives away; that mask, refused with 13; clocks for it, refused too; the mask again, which is taken; its clocks."""
     before, now = at(0), at(16)
     return [line(mask_message(before), clock(before, random)), line(clock(now, random)), line(mask_message(now)),
             line(clock(now, random)), line(mask_message(now)), line(clock(now, random))]
