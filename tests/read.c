@@ -1,12 +1,13 @@
 /* Compares hundurzek_read, and hundurzek_empty, with the second program (lib/streams.h). */
 #include <string.h>
 
+#include "changed.h"
 #include "missing.h"
 #include "readings.h"
 #include "refused.h"
 
-/* What is counted: each stop, messages, and each sub type of these. */
-enum { MESSAGES = STOPS, SUBTYPE };
+/* What is counted: each stop, messages, each sub type of these, and masks that were taken right after 13. */
+enum { MESSAGES = STOPS, SUBTYPE, TAKEN = SUBTYPE + 16 };
 
 enum { FIXED, READ, STRETCH, KINDS };
 static kind kinds[KINDS] = {
@@ -18,24 +19,31 @@ static kind kinds[KINDS] = {
 /* ---- readings */
 
 static missing_counts missing[KINDS];
+static changed_counts changed[KINDS];
 
+/* While the holding is still the one that is lent. */
 static void count_answer(kind *k, const hundurzek_reading *want) {
   bool message = want->answer == HUNDURZEK_MESSAGE;
   k->calls++;
   k->counts[message ? MESSAGES : want->answer]++;
   if (message) k->counts[SUBTYPE + want->head.subtype]++;
   count_missing(&missing[k - kinds], want->answer, want->missing);
+  count_changed(&changed[k - kinds], want->answer, want->place, content(holding.got));
   count_refused(want->answer, want->place);
 }
 
-/* Readings one after another, each at the place where the one before must end. */
+/* Readings one after another, each at the place where the one before must end: after 13 the same message again, which
+   is taken now that nothing is held. */
 static void compare_readings(kind *k) {
   take_stretch();
   unsigned long readings = number(4);
+  bool dropped = false;
   for (; now.call <= readings; now.call++) {
     hundurzek_reading want = take_reading();
-    compare_reading(&stretch, &want);
     count_answer(k, &want);
+    compare_reading(&stretch, &want);
+    k->counts[TAKEN] += dropped && want.answer == HUNDURZEK_MESSAGE && want.head.subtype == 1;
+    dropped = want.answer == CHANGED;
     now.place = want.place;
   }
 }
@@ -66,14 +74,17 @@ static void judge(const char *what, unsigned long which, size_t count, unsigned 
 }
 
 /* Every stop and every sub type often, messages over a third of the single readings; beside 3 few bits missing, and
-   many; in all streams together sub types 6 and 7 refused often for each field. */
+   many; 13 by each kind of change, and masks taken after it; in all streams together sub types 6 and 7 refused often
+   for each field. */
 static void judge_all(void) {
   static const unsigned subtypes[] = {1, 2, 3, 4, 5, 6, 7, 10, 11};
-  for (unsigned i = 0; i < STOPS; i++) judge("answer", i, i, 1000);
+  for (unsigned i = 0; i < STOPS; i++) judge("answer", i, i, i == CHANGED ? 2000 : 1000);
   judge("answer", HUNDURZEK_MESSAGE, MESSAGES, kinds[READ].calls / 3 + 1);
   for (size_t i = 0; i < sizeof subtypes / sizeof *subtypes; i++)
     judge("sub type", subtypes[i], SUBTYPE + subtypes[i], 1000);
   judge_missing(missing, KINDS, READ, 1000, 1000);
+  judge("mask after", CHANGED, TAKEN, 2000);
+  judge_changed(changed, KINDS, READ, 1000);
   judge_refused(1000);
 }
 

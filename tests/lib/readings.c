@@ -3,6 +3,7 @@
 #include <inttypes.h>
 #include <string.h>
 
+#include "changed.h"
 #include "missing.h"
 
 hundurzek_reading take_reading(void) {
@@ -42,5 +43,6 @@ void compare_reading(const buffer *bytes, const hundurzek_reading *want) {
   compare("raw part's offset", got->raw_offset, want->raw_offset);
   compare("raw part's count", got->raw_count, want->raw_count);
   compare_head(&got->head, &want->head);
+  compare_dropped(want->answer);
   compare_lent();
 }

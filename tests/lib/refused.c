@@ -24,12 +24,6 @@ static struct {
 };
 enum { REFUSALS = sizeof refusals / sizeof *refusals };
 
-static unsigned bits(uint64_t place, unsigned count) {
-  unsigned n = 0;
-  for (; count > 0; count--, place++) n = n << 1 | (content(stretch.want)[place / 8] >> (7 - place % 8) & 1);
-  return n;
-}
-
 static uint64_t end_of(size_t field) {
   return ends[field] + (field == SELECTION ? content(holding.want)[SATELLITES] : 0);
 }
@@ -52,7 +46,7 @@ static size_t network_field(uint64_t place, uint64_t left) {
 void count_refused(uint64_t answer, uint64_t place) {
   uint64_t left = now.end - place;
   if ((answer != SHORT && answer != NETWORK) || left < 16) return;
-  unsigned subtype = bits(place + 12, 4);
+  unsigned subtype = (unsigned)bits(place + 12, 4);
   for (size_t i = 0; i < REFUSALS; i++)
     if (refusals[i].answer == answer && refusals[i].subtype == subtype)
       refusals[i].often[answer == SHORT ? short_field(subtype, place, left) : network_field(place, left)]++;

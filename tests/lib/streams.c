@@ -125,6 +125,12 @@ void take_stretch(void) {
   fill_rows(row_count, number(8));
 }
 
+uint64_t bits(uint64_t place, unsigned count) {
+  uint64_t n = 0;
+  for (; count > 0; count--, place++) n = n << 1 | (content(stretch.want)[place / 8] >> (7 - place % 8) & 1);
+  return n;
+}
+
 /* ---- comparing */
 
 static bool same = true;

@@ -10,11 +10,11 @@
 
 #include "hundurzek.h"
 
-/* Document 01's answers that are no message: 0 to 12. */
-enum { STOPS = 13 };
+/* The answers that are no message: document 01's 0 to 12, and 13, changed mask (document 02, Ask 2). */
+enum { STOPS = 14, CHANGED = 13 };
 
-/* Of a holding's bytes the one that says how many satellites it has (docs/HOST.md). */
-enum { SATELLITES = 3 };
+/* Of a holding's bytes the one that says whether a mask is held, and that of how many satellites (docs/HOST.md). */
+enum { HELD = 0, SATELLITES = 3 };
 
 /* A kind of stream: how many records of it must come, and what came. A program numbers what it counts as it likes. */
 enum { COUNTS = 32 };
@@ -68,6 +68,9 @@ void take_family(void);
 
 /* Taking what a reading or a walk is lent: holding, stretch, row buffer, and the stretch's length and start. */
 void take_stretch(void);
+
+/* So many bits at a place of that stretch, as a number. */
+uint64_t bits(uint64_t place, unsigned count);
 
 /* Comparing after a call: what it answered, number by number, and then the buffers, by which the call is counted. */
 void differ(const char *format, ...);

@@ -69,7 +69,7 @@ agree() {
     program=$1
     shift
     second
-    compile "$program" host tests/lib/streams.c tests/lib/families.c tests/lib/missing.c \
+    compile "$program" host tests/lib/streams.c tests/lib/changed.c tests/lib/families.c tests/lib/missing.c \
         tests/lib/readings.c tests/lib/refused.c tests/lib/texts.c tests/lib/writes.c ${ALSO:-}
     for stream; do
         target/tests/second emit $stream
