@@ -14,7 +14,8 @@
 #define HUNDURZEK_ROOM 2048
 #define HUNDURZEK_ABSENT (-32768)
 
-/* The answer to reading that is a message, and to what is done with a line; 0 to 12 are document 01's numbers. */
+/* The answer to reading that is a message, and to what is done with a line; 0 to 12 are document 01's numbers, 13 is
+   document 02's: another mask under the IOD SSR of the one held, which is dropped then. */
 #define HUNDURZEK_MESSAGE 255
 #define HUNDURZEK_DONE 255
 
@@ -34,7 +35,7 @@ typedef struct {
 } hundurzek_head;
 
 typedef struct {
-  uint64_t answer;     /* 0 to 12, or HUNDURZEK_MESSAGE */
+  uint64_t answer;     /* 0 to 13, or HUNDURZEK_MESSAGE */
   uint64_t place;      /* after the message; else the start asked for */
   uint64_t missing;    /* answer 3: how many bits of the field or the body are past the end, 1 or more; else 0 */
   uint64_t rows;       /* of the message; else 0 */
@@ -44,7 +45,7 @@ typedef struct {
 } hundurzek_reading;
 
 typedef struct {
-  uint64_t answer;   /* why the walk stopped: 0 to 12 */
+  uint64_t answer;   /* why the walk stopped: 0 to 13 */
   uint64_t place;    /* and where */
   uint64_t missing;  /* answer 3: how many bits of the field or the body are past the end, 1 or more; else 0 */
   uint64_t messages; /* accepted before the stop, */
@@ -65,13 +66,15 @@ typedef struct {
 /* Makes the empty holding: 0, or 1 and nothing changed where fewer than HUNDURZEK_HOLDING bytes are lent. */
 uint64_t hundurzek_empty(uint8_t *holding, uint64_t holding_count);
 
-/* Reads the message at bit place start of a stretch of end bits. */
+/* Reads the message at bit place start of a stretch of end bits. The holding becomes a mask message's own; the empty one
+   with answer 13, so that the next mask is taken; and stays with all else. */
 hundurzek_reading *hundurzek_read(hundurzek_reading *out, uint8_t *holding, uint64_t holding_count,
                                   const uint8_t *bytes, uint64_t count, uint64_t end, uint64_t start, int32_t *rows,
                                   uint64_t row_count);
 
 /* Reads a stretch of end bits message by message, from place 0 until idle or a refusal. The holding becomes the one
-   after the last message accepted; the row buffer is left as those readings, one after another, leave it. */
+   after the last message accepted, or the empty one where the walk stops with 13; the row buffer is left as those
+   readings, one after another, leave it. */
 hundurzek_walked *hundurzek_walk(hundurzek_walked *out, uint8_t *holding, uint64_t holding_count, const uint8_t *bytes,
                                  uint64_t count, uint64_t end, int32_t *rows, uint64_t row_count);
 
