@@ -66,8 +66,8 @@ typedef struct {
 /* Makes the empty holding: 0, or 1 and nothing changed where fewer than HUNDURZEK_HOLDING bytes are lent. */
 uint64_t hundurzek_empty(uint8_t *holding, uint64_t holding_count);
 
-/* Reads the message at bit place start of a stretch of end bits. The holding becomes a mask message's own; the empty one
-   with answer 13, so that the next mask is taken; and stays with all else. */
+/* Reads the message at bit place start of a stretch of end bits. The holding becomes a mask message's own, with answer
+   13 the empty one, so that the next mask is taken, and stays with all else. */
 hundurzek_reading *hundurzek_read(hundurzek_reading *out, uint8_t *holding, uint64_t holding_count,
                                   const uint8_t *bytes, uint64_t count, uint64_t end, uint64_t start, int32_t *rows,
                                   uint64_t row_count);

@@ -88,6 +88,13 @@ prints "$work/saved" ./hundurzek save --from "$saved" "$work/clock"
 prints training/06-no-mask/refused.listing ./hundurzek list --from "$(cat "$work/empty")" "$work/clock"
 prints "$listing" ./hundurzek list --from "$saved"
 
+# a saved mask under whose number the input has another: nothing is held then, and the next one is taken
+other=$(printf 'S\t3\t0\tA000000000\t8100\t1\tF')
+printf 'E\t13\t0\t0\t0\t-\n' >"$work/changed"
+prints "$work/changed" ./hundurzek list --from "$other" "$work/mask file"
+prints "$work/empty" ./hundurzek save --from "$other" "$work/mask file"
+prints "$work/saved" ./hundurzek save --from "$other" "$work/mask file" "$work/mask file"
+
 ./hundurzek --help >"$work/help"
 prints "$work/help" ./hundurzek -h
 for word in list save library test --from; do

@@ -1,7 +1,7 @@
 #!/bin/sh
 # The listing program against the second program, byte for byte, with the saved mask after each input: document 01's
-# worked listing and its bench cases 2, 8, 9, 10 and 14; what document 02 (Ask 1) adds, put down by hand; 24,000 lines,
-# good ones and each kind of bad one, counted; and inputs that come in pieces of 1 byte, 7 bytes and 4,096 bytes.
+# worked listing and its bench cases 2, 8, 9, 10 and 14; what document 02 (Asks 1 and 2) adds, put down by hand; 24,000
+# lines, good ones and each kind of bad one, counted; and inputs that come in pieces of 1 byte, 7 bytes and 4,096 bytes.
 set -eu
 cd "$(dirname "$0")/.."
 . tests/lib/tools.sh
@@ -132,6 +132,62 @@ expected 'a satellite without a cell' <<'END'
 = S 3 0 A000000000 8100 1 C
 END
 
+# ---- document 02, Ask 2: masks that change under the worked mask's issue, and what is held after that
+
+expected 'the same mask again, then other cells: nothing is held, so that they are taken' <<'END'
+< 114 FE91000645188500000000040806C
+< 114 FE91000645188500000000040806C
+< 114 FE91000645188500000000040807C
+< 67 FE930642180058000
+< 114 FE91000645188500000000040807C
+> M 0 114 1 100 5 0 3 1 - - 0
+> E 0 114 1 0 -
+> M 0 114 1 100 5 0 3 1 - - 0
+> E 0 114 1 0 -
+> E 13 0 0 0 -
+> E 6 0 0 0 -
+> M 0 114 1 100 5 0 3 1 - - 0
+> E 0 114 1 0 -
+= S 3 0 A000000000 8100 1 F
+END
+expected 'cell flag 0, which means all cells, for cell flag 1 with all of them' <<'END'
+< 114 FE91000645188500000000040807C
+< 110 FE91000645188500000000040800
+> M 0 114 1 100 5 0 3 1 - - 0
+> E 0 114 1 0 -
+> E 13 0 0 0 -
+= S -
+END
+expected 'two systems in the other order, in one stretch behind the mask that they drop' <<'END'
+< 432 FE91000645190500000000040806D200000000020001FD260C843000B0000000FF488003228C9200000000020000140000000010201B
+> M 0 175 1 100 5 0 3 2 - - 0
+> M 175 82 3 100 2 0 3 - - - 3
+> R 0 1 - 5 - - - -
+> R 0 3 - -16384 - - - -
+> R 4 1 - 1 - - - -
+> E 13 257 2 3 -
+= S -
+END
+expected 'no systems, dropping and dropped; other cells under another number' <<'END'
+< 114 FE91000645188500000000040806C
+< 49 FE91000645180
+< 49 FE91000645180
+< 114 FE91000645188500000000040806C
+< 114 FE91000645188500000000040806C
+< 114 FE91000645208500000000040807C
+> M 0 114 1 100 5 0 3 1 - - 0
+> E 0 114 1 0 -
+> E 13 0 0 0 -
+> M 0 49 1 100 5 0 3 0 - - 0
+> E 0 49 1 0 -
+> E 13 0 0 0 -
+> M 0 114 1 100 5 0 3 1 - - 0
+> E 0 114 1 0 -
+> M 0 114 1 100 5 0 4 1 - - 0
+> E 0 114 1 0 -
+= S 4 0 A000000000 8100 1 F
+END
+
 # ---- small inputs, and lines around lengths that a buffer may have, fed as they are
 
 feed() { cat; }
@@ -221,7 +277,7 @@ missing() {
     }' "$printed"
 }
 
-must 'line' 12000:plain 800:'mask missed' 500:cut 500:'damaged bits' 50:'late joiner' \
+must 'line' 12000:plain 800:'mask missed' 500:'changed mask' 500:cut 500:'damaged bits' 50:'late joiner' \
     10:'last without its line feed' 5:megabytes 100:'over 50850 bits' 100:'count over 50850' 50:'long line' \
     200:'lower case digit' 50:'lower case' 150:'leading zero' 200:'spare bits set' 150:'digit missing' \
     150:'digit too many' 50:'CR LF' 50:NUL 20:'empty line' 150:'no tab' 150:'two tabs' 100:'no count' \
@@ -229,7 +285,7 @@ must 'line' 12000:plain 800:'mask missed' 500:cut 500:'damaged bits' 50:'late jo
     50:'another character' 50:'two other characters' 50:'any byte' 50:'one bit of a character' \
     50:'character dropped' 50:'character doubled' 50:'character put in' 50:'neighbours swapped' \
     50:'space for a tab' 50:'in front' 10:'random bytes' 20:'random characters' <"$kinds"
-often 2 E | must 'stop' 5000:0 1000:3 1000:4 200:5 50:6 1000:7 200:8 200:9 200:10 200:11
+often 2 E | must 'stop' 5000:0 1000:3 1000:4 200:5 50:6 1000:7 200:8 200:9 200:10 200:11 500:13
 missing | must 'missing' 10000:- 100:1 200:'2 to 4' 500:'5 to 40' 200:'41 to 255' 100:'over 255'
 if grep -q stray "$work/came"; then judge 'a number of missing bits beside another stop than 3' no; else judge missing yes; fi
 often 4 M | must 'sub type' 10000:1 4000:2 4000:3 4000:4 4000:5 10000:6 4000:7 5000:10 10000:11

@@ -43,7 +43,7 @@ static void compare_readings(kind *k) {
     count_answer(k, &want);
     compare_reading(&stretch, &want);
     k->counts[TAKEN] += dropped && want.answer == HUNDURZEK_MESSAGE && want.head.subtype == 1;
-    dropped = want.answer == CHANGED;
+    dropped = want.answer == CHANGED_MASK;
     now.place = want.place;
   }
 }
@@ -78,12 +78,12 @@ static void judge(const char *what, unsigned long which, size_t count, unsigned 
    for each field. */
 static void judge_all(void) {
   static const unsigned subtypes[] = {1, 2, 3, 4, 5, 6, 7, 10, 11};
-  for (unsigned i = 0; i < STOPS; i++) judge("answer", i, i, i == CHANGED ? 2000 : 1000);
+  for (unsigned i = 0; i < STOPS; i++) judge("answer", i, i, i == CHANGED_MASK ? 2000 : 1000);
   judge("answer", HUNDURZEK_MESSAGE, MESSAGES, kinds[READ].calls / 3 + 1);
   for (size_t i = 0; i < sizeof subtypes / sizeof *subtypes; i++)
     judge("sub type", subtypes[i], SUBTYPE + subtypes[i], 1000);
   judge_missing(missing, KINDS, READ, 1000, 1000);
-  judge("mask after", CHANGED, TAKEN, 2000);
+  judge("mask after", CHANGED_MASK, TAKEN, 2000);
   judge_changed(changed, KINDS, READ, 1000);
   judge_refused(1000);
 }

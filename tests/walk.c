@@ -53,7 +53,7 @@ static void count_walk(kind *k, const hundurzek_walked *want, bool kept) {
   if (want->messages > MANY) k->counts[LONG]++;
   if (kept) k->counts[KEPT]++;
   if (kept && dropped && content(holding.want)[HELD]) k->counts[TAKEN]++;
-  dropped = want->answer == CHANGED;
+  dropped = want->answer == CHANGED_MASK;
   count_missing(&missing[k - kinds], want->answer, want->missing);
   if (dropped) count_changed(&changed[k - kinds], want->answer, want->place, held_at(want->place));
   count_refused(want->answer, want->place);
@@ -85,16 +85,16 @@ static void judge(const char *what, unsigned long which, size_t count, unsigned 
   need(kinds[WALK].counts[count] >= least, what, which);
 }
 
-/* Every stop often; also after a message, but for those that come before any; beside 3 few bits missing, and many; 13 by
-   each kind of change, and a mask taken in the next walk; sub types 6 and 7 refused for each field; the holding kept in
-   most walks. */
+/* Every stop often; also after a message, but for those that come before any; beside 3 few bits missing, and many; 13
+   by each kind of change, and a mask taken in the next walk; sub types 6 and 7 refused for each field; the holding kept
+   in most walks. */
 static void judge_all(void) {
   unsigned long kept = kinds[WALK].counts[KEPT];
-  for (unsigned i = 0; i < STOPS; i++) judge("stop", i, i, i == CHANGED ? 2000 : 100);
+  for (unsigned i = 0; i < STOPS; i++) judge("stop", i, i, i == CHANGED_MASK ? 2000 : 100);
   for (unsigned i = 0; i < STOPS; i++) judge("after a message", i, AFTER + i, i == 1 || i == 2 || i == 12 ? 0 : 100);
   judge("messages over", MANY, LONG, 100);
   judge_missing(missing, KINDS, WALK, 300, 500);
-  judge("mask after", CHANGED, TAKEN, 1000);
+  judge("mask after", CHANGED_MASK, TAKEN, 1000);
   judge_changed(changed, KINDS, WALK, 100);
   judge_refused(100);
   printf("%lu random walks were lent what the walk before left\n", kept);

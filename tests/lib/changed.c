@@ -18,7 +18,7 @@ typedef struct {
 } mask;
 
 void compare_dropped(uint64_t answer) {
-  for (size_t i = 0; answer == CHANGED && i < HUNDURZEK_HOLDING; i++)
+  for (size_t i = 0; answer == CHANGED_MASK && i < HUNDURZEK_HOLDING; i++)
     if (content(holding.got)[i] != 0) differ("a byte of the holding, %zu, is not the empty one's beside 13", i);
 }
 
@@ -82,7 +82,7 @@ static size_t change_of(const mask *held, const mask *sent) {
 }
 
 void count_changed(changed_counts *counts, uint64_t answer, uint64_t place, const uint8_t *held) {
-  if (answer != CHANGED) return;
+  if (answer != CHANGED_MASK) return;
   mask before = mask_held(held), sent = mask_sent(place);
   counts->often[change_of(&before, &sent)]++;
 }

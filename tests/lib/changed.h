@@ -20,7 +20,8 @@ void compare_dropped(uint64_t answer);
 /* Counts the change, if the answer is 13, from what was held to the mask message at a place of the stretch. */
 void count_changed(changed_counts *counts, uint64_t answer, uint64_t place, const uint8_t *held);
 
-/* Prints how often each change came in each of so many kinds; in the one that is judged each must have come so often. */
+/* Prints how often each change came in each of so many kinds; in the one that is judged each must have come so
+   often. */
 void judge_changed(const changed_counts *kinds, size_t count, size_t judged, unsigned long least);
 
 #endif

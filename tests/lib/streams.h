@@ -11,7 +11,7 @@
 #include "hundurzek.h"
 
 /* The answers that are no message: document 01's 0 to 12, and 13, changed mask (document 02, Ask 2). */
-enum { STOPS = 14, CHANGED = 13 };
+enum { STOPS = 14, CHANGED_MASK = 13 };
 
 /* Of a holding's bytes the one that says whether a mask is held, and that of how many satellites (docs/HOST.md). */
 enum { HELD = 0, SATELLITES = 3 };
