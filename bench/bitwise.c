@@ -1,12 +1,14 @@
-/* Document 01's reader, and of document 02 Asks 1 and 7, bit by bit. Titles in comments are document 01's. */
+/* Document 01's reader, and of document 02 Asks 1, 2 and 7, bit by bit. Titles in comments are document 01's. */
 #include "bitwise.h"
+
+#include <string.h>
 
 #include "getbit.h"
 #include "places.h"
 
 /* "Answer numbers", and the one of docs/HOST.md for a message. */
 enum {
-  IDLE, ROOM, PLACE, SHORT, NUMBER, SUBTYPE, NO_MASK, OTHER_ISSUE, SYSTEM, RESERVED, SIZE, NETWORK, VALUE,
+  IDLE, ROOM, PLACE, SHORT, NUMBER, SUBTYPE, NO_MASK, OTHER_ISSUE, SYSTEM, RESERVED, SIZE, NETWORK, VALUE, CHANGED,
   MESSAGE = HUNDURZEK_MESSAGE
 };
 
@@ -108,10 +110,12 @@ static int read_signals(struct cursor *c, bitwise_system *system) {
 
 /* The cells of the satellites from first on, in a cell mask, which is one field. "With flag 0 every signal counts for
    every satellite." */
-static int read_cells(struct cursor *c, bitwise_holding *mask, int first, int signals) {
+static int read_cells(struct cursor *c, bitwise_holding *mask, int first, bitwise_system *system) {
+  int signals = system->signals;
   int32_t flag, cells = (1 << signals) - 1;
   if (!take(c, 1, &flag)) return SHORT;
   if (flag && !has(c, signals * (mask->satellites - first))) return SHORT;
+  system->flag = flag;
   for (int k = first; k < mask->satellites; k++) {
     if (flag) cells = unsigned_field(c, signals);
     mask->satellite[k].cells = (uint32_t)cells;
@@ -130,8 +134,13 @@ static int read_system(struct cursor *c, bitwise_holding *mask) {
   system->id = id;
   int answer = read_satellites(c, mask, index);
   if (answer == MESSAGE) answer = read_signals(c, system);
-  if (answer == MESSAGE) answer = read_cells(c, mask, first, system->signals);
+  if (answer == MESSAGE) answer = read_cells(c, mask, first, system);
   return answer;
+}
+
+/* Whether another mask is held under the same number (document 02, Ask 2). What a mask does not use is zero. */
+static int is_changed(const bitwise_holding *held, const bitwise_holding *mask) {
+  return held->held && held->iod == mask->iod && memcmp(held, mask, sizeof *held);
 }
 
 /* "Each good mask message is adopted as the new holding and replaces the old one whole": till then apart. */
@@ -144,6 +153,10 @@ static int read_mask(struct cursor *c, bitwise_holding *holding, hundurzek_head 
   for (int k = 0; k < head->a; k++) {
     int answer = read_system(c, &mask);
     if (answer != MESSAGE) return answer;
+  }
+  if (is_changed(holding, &mask)) {
+    *holding = (bitwise_holding){0};
+    return CHANGED;
   }
   *holding = mask;
   return MESSAGE;

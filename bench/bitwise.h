@@ -6,9 +6,10 @@
 
 #include "hundurzek.h"
 
-/* One system of the mask: how many signals, and their places, ascending. */
+/* One system of the mask: its cell flag, how many signals, and their places, ascending. */
 typedef struct {
   int id;
+  int flag;
   int signals;
   int signal[16];
 } bitwise_system;

@@ -13,8 +13,8 @@ static int is_zero(const uint8_t *holding, int from, int to) {
 }
 
 /* The signals that count for a satellite are its system's, with flag 0 all of them. */
-static int hold_cells(bitwise_mask *to, bitwise_satellite *satellite, uint64_t strip) {
-  const bitwise_system *own = &to->held.system[satellite->system];
+static int hold_cells(bitwise_holding *held, bitwise_satellite *satellite, uint64_t strip) {
+  const bitwise_system *own = &held->system[satellite->system];
   int j = 0;
   for (int place = 0; place < SIGNALS; place++) {
     int counts = strip >> (SIGNALS - 1 - place) & 1;
@@ -22,17 +22,16 @@ static int hold_cells(bitwise_mask *to, bitwise_satellite *satellite, uint64_t s
       if (counts) return 0;
       continue;
     }
-    if (!counts && !to->flag[satellite->system]) return 0;
+    if (!counts && !own->flag) return 0;
     satellite->cells = satellite->cells << 1 | (uint32_t)counts;
     satellite->cell_count += counts;
-    to->held.cells += counts;
+    held->cells += counts;
     j++;
   }
   return 1;
 }
 
-static int hold_satellites(bitwise_mask *to, const uint8_t *holding, int system) {
-  bitwise_holding *held = &to->held;
+static int hold_satellites(bitwise_holding *held, const uint8_t *holding, int system) {
   uint64_t places = hold_number(holding, HOLD_PLACES, 8, system);
   if (places >> PLACES) return 0;
   for (int place = 0; place < PLACES; place++) {
@@ -40,7 +39,7 @@ static int hold_satellites(bitwise_mask *to, const uint8_t *holding, int system)
     if (place >= satellite_places[held->system[system].id] || held->satellites == SATELLITES) return 0;
     bitwise_satellite *satellite = &held->satellite[held->satellites];
     *satellite = (bitwise_satellite){system, place + 1, 0, 0};
-    if (!hold_cells(to, satellite, hold_number(holding, HOLD_STRIPS, 2, held->satellites))) return 0;
+    if (!hold_cells(held, satellite, hold_number(holding, HOLD_STRIPS, 2, held->satellites))) return 0;
     held->satellites++;
   }
   return 1;
@@ -55,15 +54,15 @@ static int hold_signals(bitwise_system *system, uint64_t signals) {
   return 1;
 }
 
-static int hold_system(bitwise_mask *to, const uint8_t *holding, int k) {
-  bitwise_system *system = &to->held.system[k];
+static int hold_system(bitwise_holding *held, const uint8_t *holding, int k) {
+  bitwise_system *system = &held->system[k];
   system->id = holding[HOLD_ID + k];
+  system->flag = holding[HOLD_FLAG + k];
   system->signals = 0;
-  to->flag[k] = holding[HOLD_FLAG + k];
-  if (system->id >= SYSTEMS || to->flag[k] > 1) return 0;
+  if (system->id >= SYSTEMS || system->flag > 1) return 0;
   for (int j = 0; j < k; j++)
-    if (to->held.system[j].id == system->id) return 0;
-  return hold_signals(system, hold_number(holding, HOLD_SIGNALS, 2, k)) && hold_satellites(to, holding, k);
+    if (held->system[j].id == system->id) return 0;
+  return hold_signals(system, hold_number(holding, HOLD_SIGNALS, 2, k)) && hold_satellites(held, holding, k);
 }
 
 /* What the mask does not use. */
@@ -75,8 +74,7 @@ static int rest_is_zero(const bitwise_holding *held, const uint8_t *holding) {
          is_zero(holding, HOLD_STRIPS + 2 * held->satellites, HUNDURZEK_HOLDING);
 }
 
-int bitwise_hold(bitwise_mask *to, const uint8_t *holding) {
-  bitwise_holding *held = &to->held;
+int bitwise_hold(bitwise_holding *held, const uint8_t *holding) {
   held->held = holding[HOLD_HELD];
   held->iod = holding[HOLD_IOD];
   held->systems = holding[HOLD_SYSTEMS];
@@ -84,7 +82,7 @@ int bitwise_hold(bitwise_mask *to, const uint8_t *holding) {
   if (!held->held) return is_zero(holding, 0, HUNDURZEK_HOLDING);
   if (held->held > 1 || held->iod >= ISSUES || held->systems > SYSTEMS) return 0;
   for (int k = 0; k < held->systems; k++)
-    if (!hold_system(to, holding, k)) return 0;
+    if (!hold_system(held, holding, k)) return 0;
   return held->satellites == holding[HOLD_SATELLITES] && held->cells <= CELLS &&
          (uint64_t)held->cells == hold_number(holding, HOLD_CELLS, 2, 0) && rest_is_zero(held, holding);
 }

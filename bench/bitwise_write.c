@@ -17,7 +17,6 @@ enum { GALILEO = 2, LONGEST = 50850 };
 
 /* What is to be written, and of which satellites, the first one highest. */
 struct sent {
-  const bitwise_mask *mask;
   const bitwise_holding *held;
   int32_t head[HUNDURZEK_ROW];
   const int32_t *rows;
@@ -45,8 +44,8 @@ static int mask_length(const struct sent *s) {
   if (!opening_fits(s, 20) || s->head[A] != s->held->systems || !absent(s->head, B, HUNDURZEK_ROW)) return 0;
   if (s->count != 0) return 0;
   for (int k = 0; k < s->held->satellites; k++) {
-    int system = s->held->satellite[k].system;
-    if (s->mask->flag[system]) length += s->held->system[system].signals;
+    const bitwise_system *system = &s->held->system[s->held->satellite[k].system];
+    if (system->flag) length += system->signals;
   }
   return length;
 }
@@ -72,8 +71,8 @@ static void put_systems(struct cursor *c, const struct sent *s) {
     put(c, 4, held->system[system].id);
     put_mask(c, 40, satellite_places(held, system));
     put(c, 16, signal_places(&held->system[system]));
-    put(c, 1, s->mask->flag[system]);
-    for (int k = 0; s->mask->flag[system] && k < held->satellites; k++)
+    put(c, 1, held->system[system].flag);
+    for (int k = 0; held->system[system].flag && k < held->satellites; k++)
       if (held->satellite[k].system == system)
         put(c, held->system[system].signals, (int32_t)held->satellite[k].cells);
   }
@@ -336,12 +335,12 @@ hundurzek_done *bitwise_write(hundurzek_done *out, const uint8_t *holding, uint6
                               uint64_t head_count, const int32_t *numbers, uint64_t number_count, uint64_t rows,
                               uint8_t *bytes, uint64_t count, uint64_t start) {
   uint64_t limit = 8 * count < LONGEST ? 8 * count : LONGEST;
-  bitwise_mask mask;
-  struct sent s = {&mask, &mask.held, {0}, numbers, rows, UINT64_MAX};
+  bitwise_holding held;
+  struct sent s = {&held, {0}, numbers, rows, UINT64_MAX};
   struct cursor c = {bytes, (int)start};
   for (uint64_t k = 0; k < HUNDURZEK_ROW; k++) s.head[k] = k < head_count ? head[k] : ABSENT;
   int answer = start > limit ? PLACE : DONE;
-  if (answer == DONE && (holding_count < HUNDURZEK_HOLDING || !bitwise_hold(&mask, holding))) answer = VALUE;
+  if (answer == DONE && (holding_count < HUNDURZEK_HOLDING || !bitwise_hold(&held, holding))) answer = VALUE;
   if (answer == DONE) answer = write_message(&c, &s, number_count, (int)limit);
   *out = (hundurzek_done){(uint64_t)answer, start, 0};
   if (answer == DONE) *out = (hundurzek_done){DONE, (uint64_t)c.place, (uint64_t)c.place - start};

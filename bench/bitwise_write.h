@@ -7,14 +7,8 @@
 
 #include "bitwise.h"
 
-/* What the reader holds, and each system's cell flag, for which only a writer has a use. */
-typedef struct {
-  bitwise_holding held;
-  int flag[5];
-} bitwise_mask;
-
-/* Makes it of the bytes of a holding (docs/HOST.md): whether they are one. */
-int bitwise_hold(bitwise_mask *to, const uint8_t *holding);
+/* Makes what the reader holds of the bytes of a holding (docs/HOST.md): whether they are one. */
+int bitwise_hold(bitwise_holding *held, const uint8_t *holding);
 
 __typeof__(hundurzek_write) bitwise_write;
 

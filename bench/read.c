@@ -14,6 +14,7 @@
 #include <string.h>
 
 #include "bitwise.h"
+#include "changes.h"
 #include "hundurzek.h"
 #include "meter.h"
 #include "stretches.h"
@@ -106,11 +107,14 @@ static void make_empty(void) {
 
 /* ---- what was handed out */
 
+/* Documents 01 and 02: 0 to 13. */
+enum { STOPS = 14 };
+
 static struct {
   uint64_t checksum;
   uint64_t bits, padding, rows, messages;
   uint64_t subtypes[16];
-  uint64_t stops[13];
+  uint64_t stops[STOPS];
 } totals;
 
 static void fold(uint64_t number) { totals.checksum = (totals.checksum ^ number) * UINT64_C(1099511628211); }
@@ -140,17 +144,25 @@ static hundurzek_walked check_messages(const stretch *s) {
   }
 }
 
-/* Only damaged stretches may end with a refusal. */
-static void check_stretch(const stretch *s, bool damaged) {
+static _Noreturn void fail(const char *why, const hundurzek_walked *walked) {
+  fprintf(stderr, "stop %" PRIu64 " at %" PRIu64 ": %s\n", walked->answer, walked->place, why);
+  exit(1);
+}
+
+/* Walks over a stretch, too. */
+static hundurzek_walked check_both_ways(const stretch *s) {
   hundurzek_walked made = check_messages(s), walked;
   walk(&walked, s);
   tell(&walked, sizeof walked, by_walk.rows);
-  bool same = !memcmp(&made, &walked, sizeof made) && !memcmp(&by_message, &by_walk, sizeof by_walk);
-  if (!same || (walked.answer != 0 && !damaged)) {
-    fprintf(stderr, "stop %" PRIu64 " at %" PRIu64 ": %s\n", walked.answer, walked.place,
-            same ? "the inputs have no such message" : "the readings, one after another, leave something else");
-    exit(1);
-  }
+  if (memcmp(&made, &walked, sizeof made) || memcmp(&by_message, &by_walk, sizeof by_walk))
+    fail("the readings, one after another, leave something else", &walked);
+  return walked;
+}
+
+/* Only damaged stretches may end with a refusal. */
+static void check_stretch(const stretch *s, bool damaged) {
+  hundurzek_walked walked = check_both_ways(s);
+  if (walked.answer != 0 && !damaged) fail("the inputs have no such message", &walked);
   totals.messages += walked.messages;
   totals.rows += walked.rows;
   totals.bits += s->end;
@@ -179,16 +191,36 @@ static void check_lent(const uint8_t *bytes) {
   }
 }
 
+/* From the empty holding on. A changed mask is not taken, and the held one is dropped: clocks have no mask then, and
+   the other mask is taken when it comes again. */
+static void check_change(size_t which, int back) {
+  const uint64_t stops[STEPS] = {changes[which].stop, changes[which].stop == CHANGED ? NO_MASK : IDLE, IDLE};
+  static stretch steps[STEPS];
+  memset(&by_message.holding, 0, sizeof by_message.holding);
+  memset(&by_walk.holding, 0, sizeof by_walk.holding);
+  make_change(steps, which, back);
+  for (size_t step = BOTH; step < STEPS; step++) {
+    hundurzek_walked walked = check_both_ways(&steps[step]);
+    if (walked.answer != stops[step]) fail("masks that follow one another are taken otherwise", &walked);
+  }
+}
+
+static void check_changes(void) {
+  for (size_t which = 0; which < CHANGES; which++)
+    for (int back = 0; back <= 1; back++) check_change(which, back);
+}
+
 /* Prints the checksum, the stretches and totals; of damaged ones, how often each stop from 0 on was. */
 static void check(bool damaged) {
   static const int subtypes[] = {1, 2, 3, 4, 5, 6, 7, 10, 11};
   for (size_t k = 0; k < HUNDURZEK_ROOM; k++) by_message.rows[k] = by_walk.rows[k] = (int32_t)(3 * k + 1);
   for (size_t k = 0; k < stretch_count; k++) check_stretch(&stretches[k], damaged);
   if (damaged) check_lent(stretches[0].bytes);
+  if (damaged) check_changes();
   printf("%016" PRIx64 " %zu %" PRIu64 " %" PRIu64, totals.checksum, stretch_count, totals.bits, totals.padding);
   printf(" %" PRIu64 " %" PRIu64, totals.rows, totals.messages);
   for (size_t k = 0; k < 9; k++) printf(" %" PRIu64, totals.subtypes[subtypes[k]]);
-  for (size_t k = 0; damaged && k < 13; k++) printf(" %" PRIu64, totals.stops[k]);
+  for (size_t k = 0; damaged && k < STOPS; k++) printf(" %" PRIu64, totals.stops[k]);
   printf("\n");
 }
 

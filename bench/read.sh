@@ -74,8 +74,8 @@ for parts in 1 5 30; do
 done
 reading_table messages
 echo
-echo '| damaged stretches | messages | stop 0 | 1 | 2 | 3 | 4 | 5 | 6 | 7 | 8 | 9 | 10 | 11 | 12 |'
-echo '|---|---|---|---|---|---|---|---|---|---|---|---|---|---|---|'
+echo '| damaged stretches | messages | stop 0 | 1 | 2 | 3 | 4 | 5 | 6 | 7 | 8 | 9 | 10 | 11 | 12 | 13 |'
+echo '|---|---|---|---|---|---|---|---|---|---|---|---|---|---|---|---|'
 totals=$(handed_out damaged)
 stops_row $totals
 echo

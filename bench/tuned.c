@@ -1,4 +1,4 @@
-/* Document 01's reader, and of document 02 Asks 1 and 7, tuned. Titles in comments are document 01's. */
+/* Document 01's reader, and of document 02 Asks 1, 2 and 7, tuned. Titles in comments are document 01's. */
 #include "tuned.h"
 
 #include "tuned_masks.h"

@@ -7,7 +7,9 @@
 
 #include "hundurzek.h"
 
-enum { TUNED_SATELLITES = 64, TUNED_CELLS = 256 };
+/* The systems of a mask as they are sent: bits at most, five times 61 and fifteen signals of 64 satellites in cell
+   masks, and words of 56 of them. */
+enum { TUNED_SATELLITES = 64, TUNED_CELLS = 256, TUNED_BITS = 5 * 61 + 15 * 64, TUNED_WORDS = TUNED_BITS / 56 + 1 };
 
 /* Half a row; of a key, the first half: system, satellite, signal place, v1. */
 typedef struct {
@@ -22,7 +24,8 @@ typedef struct {
 
 /* The satellites' keys end where their list ends, the last satellite first: so a satellite's index in them is that of
    its bit in a selection. Galileo's, if any, stand together, with so many after them. Cells stand from the first on;
-   which of them are a satellite's stands in its strip, if it has any. */
+   which of them are a satellite's stands in its strip, if it has any. Two masks are the same where their gates and
+   systems as sent are: no mask can be sent in two ways. */
 typedef struct {
   uint32_t gate; /* the IOD SSR, and 16 where the mask is held: 0 holds nothing */
   uint32_t satellites;
@@ -31,6 +34,8 @@ typedef struct {
   uint32_t galileo;
   uint32_t after_galileo;
   uint64_t celled; /* the satellites with a cell, as a selection has them */
+  uint64_t sent_bits;
+  uint64_t sent[TUNED_WORDS];
   tuned_strip strip[TUNED_SATELLITES];
   tuned_half satellite[TUNED_SATELLITES];
   tuned_half cell[TUNED_CELLS];

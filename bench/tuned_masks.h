@@ -112,8 +112,31 @@ ALWAYS uint64_t read_system(stretch *s, mask_source *m, tuned_mask *mask) {
   return read_cells(s, m, mask, count, signals, bits >> 47 & 1);
 }
 
-/* Five systems, and fifteen signals of 64 satellites in cell masks. */
-enum { MASK_MOST = MASK_HEAD + SYSTEMS * 61 + 15 * TUNED_SATELLITES };
+/* Keeps the systems that are sent from a place on, so many bits; what is not 0 says that another mask has others. A
+   step is whole bytes, so that all windows are shifted alike. */
+__attribute__((noinline)) static uint64_t keep_sent(tuned_mask *mask, const tuned_mask *other, source from,
+                                                    uint64_t bits) {
+  enum { STEP = 56 };
+  const uint8_t *at = from.bytes + from.place / 8;
+  const unsigned skip = from.place % 8;
+  uint64_t k = 0, differing = bits ^ other->sent_bits;
+  mask->sent_bits = bits;
+  for (; bits > STEP; k++, bits -= STEP, at += STEP / 8) {
+    mask->sent[k] = load(at) << skip >> (64 - STEP);
+    differing |= mask->sent[k] ^ other->sent[k];
+  }
+  if (bits == 0) return differing;
+  mask->sent[k] = load(at) << skip >> (64 - bits);
+  return differing | (mask->sent[k] ^ other->sent[k]);
+}
+
+/* Document 02, Ask 2: "Refuse it and drop the held mask, so that the next mask is taken." */
+ALWAYS uint64_t drop_mask(stretch *s) {
+  s->holding->masks[s->holding->current].gate = 0;
+  return stop(s, CHANGED);
+}
+
+enum { MASK_MOST = MASK_HEAD + TUNED_BITS };
 
 /* "Each good mask message is adopted as the new holding and replaces the old one whole." */
 __attribute__((noinline)) static uint64_t read_mask(stretch *s, uint64_t place, uint64_t first) {
@@ -127,6 +150,9 @@ __attribute__((noinline)) static uint64_t read_mask(stretch *s, uint64_t place, 
   mask->celled = 0;
   for (int32_t systems = cut(first, 45, 4); systems > 0; systems--)
     if (read_system(s, &m, mask) == STOPPED) return STOPPED;
+  source sent = {from.bytes, from.place + MASK_HEAD};
+  uint64_t differing = keep_sent(mask, s->held, sent, m.place - sent.place);
+  if (differing && mask->gate == s->held->gate) return drop_mask(s);
   mask->orbit_bits = ORBIT * mask->satellites + (LONG_ORBIT - ORBIT) * mask->galileo;
   s->holding->current ^= 1;
   s->held = mask;

@@ -11,6 +11,9 @@
              10.SIZE; 6.CODE.PHASE.SELECTED and 11.ORBIT.CLOCK.SELECTED, a network with so many satellites, or all and
              no network with n; where there is another mask, the loop begins with one, so that it is as long every time
 
+   Another mask has another IOD SSR than the one before it, or it would be refused with 13: so a loop has none of these,
+   or two and more.
+
    The stretch is the mask and the loop again and again, as often as the longest stretch has room. It was read once
    before, so that the holding is the one it leaves. With LOOP - it has no bits. */
 #include <inttypes.h>
@@ -43,10 +46,10 @@ static unsigned spread_signals(unsigned count) {
   return signals;
 }
 
-static bool parse_mask(const char *text, mask *m) {
+static bool parse_mask(const char *text, unsigned iod, mask *m) {
   unsigned systems, satellites, signals, flag, cells;
   if (sscanf(text, "%u.%u.%u.%u.%u", &systems, &satellites, &signals, &flag, &cells) != 5) return false;
-  *m = (mask){.iod = 7, .systems = systems};
+  *m = (mask){.iod = iod, .systems = systems};
   for (unsigned k = systems; k-- > 0;) {
     unsigned share = satellites / (k + 1);
     if (share > assigned[k].places) share = assigned[k].places;
@@ -71,10 +74,11 @@ static combination parse_combination(const char *text, mask *m) {
   return c;
 }
 
-static bool put_message(stretch *s, mask *m, const char *text) {
+/* The message that is so many behind the loop's first. */
+static bool put_message(stretch *s, mask *m, const char *text, unsigned behind) {
   combination c = parse_combination(text, m);
   if (*text == 'm') {
-    if (text[1] && !parse_mask(text + 1, m)) return false;
+    if (text[1] && !parse_mask(text + 1, behind, m)) return false;
     put_mask(s, m, 0);
     return true;
   }
@@ -93,17 +97,21 @@ static bool put_message(stretch *s, mask *m, const char *text) {
 
 static bool put_loop(stretch *s, mask *m, const char *loop) {
   char text[256];
+  unsigned behind = 0;
   snprintf(text, sizeof text, "%s", loop);
   for (char *message = strtok(text, ","); message; message = strtok(NULL, ","))
-    if (!put_message(s, m, message)) return false;
+    if (!put_message(s, m, message, behind++)) return false;
   return true;
 }
+
+/* The IOD SSR of the mask before the loop. */
+enum { FIRST = 15 };
 
 static bool make_stretch(stretch *s, const char *setup, const char *loop) {
   mask m;
   uint64_t length;
   *s = (stretch){0};
-  if (!parse_mask(setup, &m)) return false;
+  if (!parse_mask(setup, FIRST, &m)) return false;
   put_mask(s, &m, 0);
   if (*loop == '-') return true;
   do {
@@ -119,15 +127,16 @@ static bool make_stretch(stretch *s, const char *setup, const char *loop) {
 static _Alignas(64) uint8_t holding[HUNDURZEK_HOLDING];
 static _Alignas(64) int32_t rows[HUNDURZEK_ROOM];
 static _Alignas(64) stretch made;
+static hundurzek_walked walked;
+static hundurzek_reading reading;
 
 static uint64_t read_walk(void) {
-  hundurzek_walked walked;
   hundurzek_walk(&walked, holding, sizeof holding, made.bytes, (made.end + 7) / 8, made.end, rows, HUNDURZEK_ROOM);
   return walked.messages;
 }
 
 static uint64_t read_messages(void) {
-  hundurzek_reading reading = {.place = 0};
+  reading.place = 0;
   for (uint64_t messages = 0;; messages++) {
     hundurzek_read(&reading, holding, sizeof holding, made.bytes, (made.end + 7) / 8, made.end, reading.place, rows,
                    HUNDURZEK_ROOM);
@@ -135,16 +144,18 @@ static uint64_t read_messages(void) {
   }
 }
 
+/* Whether there is such a stretch, and all of it is read. */
 static bool read_line(const char *line, uint64_t (*read_all)(void), FILE *out) {
   char setup[64], loop[256];
   if (sscanf(line, "%63s %255s", setup, loop) != 2 || !make_stretch(&made, setup, loop)) return false;
+  hundurzek_empty(holding, sizeof holding);
   read_all();
   if (*loop == '-') made.end = 0;
   mark();
   uint64_t messages = read_all();
   mark();
   fprintf(out, "%" PRIu64 " %" PRIu64 " %s", made.end, messages, line);
-  return true;
+  return walked.answer == 0 && reading.answer == 0;
 }
 
 int main(int argc, char **argv) {
@@ -152,7 +163,6 @@ int main(int argc, char **argv) {
   if (argc != 4) return 2;
   FILE *in = fopen(argv[2], "r"), *out = fopen(argv[3], "w");
   if (!in || !out) return 2;
-  hundurzek_empty(holding, sizeof holding);
   mark();
   mark();
   while (fgets(line, sizeof line, in))
