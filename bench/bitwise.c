@@ -110,12 +110,12 @@ static int read_signals(struct cursor *c, bitwise_system *system) {
 
 /* The cells of the satellites from first on, in a cell mask, which is one field. "With flag 0 every signal counts for
    every satellite." */
-static int read_cells(struct cursor *c, bitwise_holding *mask, int first, bitwise_system *system) {
-  int signals = system->signals;
+static int read_cells(struct cursor *c, bitwise_holding *mask, int index, int first) {
+  int signals = mask->system[index].signals;
   int32_t flag, cells = (1 << signals) - 1;
   if (!take(c, 1, &flag)) return SHORT;
   if (flag && !has(c, signals * (mask->satellites - first))) return SHORT;
-  system->flag = flag;
+  mask->flag[index] = flag;
   for (int k = first; k < mask->satellites; k++) {
     if (flag) cells = unsigned_field(c, signals);
     mask->satellite[k].cells = (uint32_t)cells;
@@ -134,7 +134,7 @@ static int read_system(struct cursor *c, bitwise_holding *mask) {
   system->id = id;
   int answer = read_satellites(c, mask, index);
   if (answer == MESSAGE) answer = read_signals(c, system);
-  if (answer == MESSAGE) answer = read_cells(c, mask, first, system);
+  if (answer == MESSAGE) answer = read_cells(c, mask, index, first);
   return answer;
 }
 

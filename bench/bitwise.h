@@ -6,10 +6,9 @@
 
 #include "hundurzek.h"
 
-/* One system of the mask: its cell flag, how many signals, and their places, ascending. */
+/* One system of the mask: how many signals, and their places, ascending. */
 typedef struct {
   int id;
-  int flag;
   int signals;
   int signal[16];
 } bitwise_system;
@@ -32,6 +31,7 @@ typedef struct {
   int cells;
   bitwise_system system[5];
   bitwise_satellite satellite[64];
+  int flag[5]; /* each system's cell flag */
 } bitwise_holding;
 
 /* As hundurzek_read; the bytes lent as a holding are those of a bitwise_holding. */

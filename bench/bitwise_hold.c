@@ -22,7 +22,7 @@ static int hold_cells(bitwise_holding *held, bitwise_satellite *satellite, uint6
       if (counts) return 0;
       continue;
     }
-    if (!counts && !own->flag) return 0;
+    if (!counts && !held->flag[satellite->system]) return 0;
     satellite->cells = satellite->cells << 1 | (uint32_t)counts;
     satellite->cell_count += counts;
     held->cells += counts;
@@ -57,9 +57,9 @@ static int hold_signals(bitwise_system *system, uint64_t signals) {
 static int hold_system(bitwise_holding *held, const uint8_t *holding, int k) {
   bitwise_system *system = &held->system[k];
   system->id = holding[HOLD_ID + k];
-  system->flag = holding[HOLD_FLAG + k];
   system->signals = 0;
-  if (system->id >= SYSTEMS || system->flag > 1) return 0;
+  held->flag[k] = holding[HOLD_FLAG + k];
+  if (system->id >= SYSTEMS || held->flag[k] > 1) return 0;
   for (int j = 0; j < k; j++)
     if (held->system[j].id == system->id) return 0;
   return hold_signals(system, hold_number(holding, HOLD_SIGNALS, 2, k)) && hold_satellites(held, holding, k);

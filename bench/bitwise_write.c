@@ -44,8 +44,8 @@ static int mask_length(const struct sent *s) {
   if (!opening_fits(s, 20) || s->head[A] != s->held->systems || !absent(s->head, B, HUNDURZEK_ROW)) return 0;
   if (s->count != 0) return 0;
   for (int k = 0; k < s->held->satellites; k++) {
-    const bitwise_system *system = &s->held->system[s->held->satellite[k].system];
-    if (system->flag) length += system->signals;
+    int system = s->held->satellite[k].system;
+    if (s->held->flag[system]) length += s->held->system[system].signals;
   }
   return length;
 }
@@ -71,8 +71,8 @@ static void put_systems(struct cursor *c, const struct sent *s) {
     put(c, 4, held->system[system].id);
     put_mask(c, 40, satellite_places(held, system));
     put(c, 16, signal_places(&held->system[system]));
-    put(c, 1, held->system[system].flag);
-    for (int k = 0; held->system[system].flag && k < held->satellites; k++)
+    put(c, 1, held->flag[system]);
+    for (int k = 0; held->flag[system] && k < held->satellites; k++)
       if (held->satellite[k].system == system)
         put(c, held->system[system].signals, (int32_t)held->satellite[k].cells);
   }
