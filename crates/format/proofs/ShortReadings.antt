@@ -1,10 +1,10 @@
 -- How many bits were missing (document 02, Ask 7), of readings and walks: the number says what is missing of the field that is short, and any refusal but 3 has
 -- none; the same stretch with fewer bits more is short at the same place, by that many less.
 -- Assumes nothing.
-use mathlib.Core.Path.{_≡_, refl, sym, ap, _∙_}
+use mathlib.Core.Path.{_≡_, refl, sym, ap, subst, _∙_}
 use mathlib.Core.Bool.{Bool, true, false, cond, false≢true}
 use mathlib.Core.List.{List, [], _∷_, _++_}
-use mathlib.Core.Logic.{_⊎_, inl, inr}
+use mathlib.Core.Logic.{_⊎_, inl, inr, ⊎-elim}
 use Prim.Native.Nat.{ℕ, _+_, _-_, _*_, _≤_, _<_}
 use native.Mathlib.Omega.{arith}
 use lib.IntN.{ℤ}
@@ -14,7 +14,7 @@ use Rattle.bits.specs.BitLists.{bits}
 use Rattle.bits.proofs.BitLists.{length-bits}
 use Rattle.format.specs.declared.Head.{Head}
 use Rattle.format.specs.declared.Refusal.{Refusal}
-use Rattle.format.specs.declared.Refusal.the-variants.{Room, Place, Short, SubType, NoMask, OtherIssue, Network, Value}
+use Rattle.format.specs.declared.Refusal.the-variants.{Room, Place, Short, SubType, NoMask, OtherIssue, Network, Value, Changed}
 use Rattle.format.specs.Answers.{numberOf}
 use Rattle.format.specs.Assigned.{blank}
 use Rattle.format.specs.Good.{isHolding}
@@ -143,34 +143,49 @@ module _ (more : List Bool) (bytes : List ℕ) (end : ℕ) (others : List ℕ) (
       ≡ record { handed = walk holding bytes end rows .handed; stop = refused Short (missing - length more) left; place = walk holding bytes end rows .place; rows = walk holding bytes end rows .rows }
   longer-walk holding rows = every-walk table bytes end Longer all-longer holding 0 rows
 
--- ---- no writing is
+-- ---- no writing is, nor does it find a mask changed
+
+-- the numbers of its tests: 1, 2, 5 to 12
+abbrev Writers : Refusal → Type 0
+Writers r = (numberOf r < 3) ⊎ ((4 < numberOf r) × (numberOf r < 13))
 
 -- one of its tests
-not-short : (q : Refusal) → ¬ (numberOf q ≡ 3) → (r : Refusal) → Writing.refused q ≡ Writing.refused r → ¬ (numberOf r ≡ numberOf Short)
-unfolding numberOf
-not-short q other r e three =
+one-of : (q : Refusal) → Writers q → (r : Refusal) → Writing.refused q ≡ Writing.refused r → Writers r
+one-of q own r e =
     let same : q ≡ r = cc in
-    other (ap numberOf same ∙ three)
+    subst Writers same own
 
--- a refused writing says another number than 3
-pub writing-not-short : (holding : Lent) (h : Head) (rows : List ℤ) (count : ℕ) (bytes : List ℕ) (start : ℕ) (r : Refusal)
-    → writing holding h rows count bytes start ≡ Writing.refused r → ¬ (numberOf r ≡ numberOf Short)
+writing-refuses : (holding : Lent) (h : Head) (rows : List ℤ) (count : ℕ) (bytes : List ℕ) (start : ℕ) (r : Refusal)
+    → writing holding h rows count bytes start ≡ Writing.refused r → Writers r
 unfolding writing EachElse numberOf
-writing-not-short holding h rows count bytes start r e =
+writing-refuses holding h rows count bytes start r e =
+    let value : Writing.refused Value ≡ Writing.refused r → Writers r = one-of Value (inr (omega arith, omega arith)) r in
+    let issue : (q : Refusal) → (4 < numberOf q) × (numberOf q < 13) → Writing.refused q ≡ Writing.refused r → Writers r = λ q own. one-of q (inr own) r in
     go (judged-why Writing.refused _ (Writing.refused r) _ (
-      not-short Place (λ z. omega arith) r,
+      one-of Place (inl (omega arith)) r,
       (
-        not-short Value (λ z. omega arith) r,
+        value,
         (
-          not-short SubType (λ z. omega arith) r,
+          issue SubType (omega arith, omega arith),
           (
-            not-short NoMask (λ z. omega arith) r,
-            (not-short OtherIssue (λ z. omega arith) r, (not-short Network (λ z. omega arith) r, (not-short Value (λ z. omega arith) r, (not-short Room (λ z. omega arith) r, tt)))),
+            issue NoMask (omega arith, omega arith),
+            (issue OtherIssue (omega arith, omega arith), (issue Network (omega arith, omega arith), (value, (one-of Room (inl (omega arith)) r, tt)))),
           ),
         ),
       ),
     ) e)
   where
-    go : {l : List Bool} {A : Type 0} → ((Writing.wrote l ≡ Writing.refused r) × A) ⊎ ¬ (numberOf r ≡ numberOf Short) → ¬ (numberOf r ≡ numberOf Short)
+    go : {l : List Bool} {A : Type 0} → ((Writing.wrote l ≡ Writing.refused r) × A) ⊎ Writers r → Writers r
     go (inl it) = let never = it .0 in absurd (false≢true cc)
     go (inr it) = it
+
+-- a refused writing says another number than 3, and than 13
+pub writing-not-short : (holding : Lent) (h : Head) (rows : List ℤ) (count : ℕ) (bytes : List ℕ) (start : ℕ) (r : Refusal)
+    → writing holding h rows count bytes start ≡ Writing.refused r → ¬ (numberOf r ≡ numberOf Short)
+unfolding numberOf
+writing-not-short holding h rows count bytes start r e three = ⊎-elim (λ few. omega arith) (λ more. omega (arith, more .0)) (writing-refuses holding h rows count bytes start r e)
+
+pub writing-not-changed : (holding : Lent) (h : Head) (rows : List ℤ) (count : ℕ) (bytes : List ℕ) (start : ℕ) (r : Refusal)
+    → writing holding h rows count bytes start ≡ Writing.refused r → ¬ (numberOf r ≡ numberOf Changed)
+unfolding numberOf
+writing-not-changed holding h rows count bytes start r e changed = ⊎-elim (λ few. omega arith) (λ more. omega (arith, more .1)) (writing-refuses holding h rows count bytes start r e)
