@@ -1,4 +1,4 @@
--- The bench cases that document 01 marks P, with 8 and 9 and two of the ways in which trainees break it, and those of document 02's Asks 1 and 7, as one
+-- The bench cases that document 01 marks P, with 8 and 9 and two of the ways in which trainees break it, and those of document 02's Asks 1, 2 and 7, as one
 -- table: walks over bits, each with what it must say.
 -- Assumes nothing.
 use mathlib.Core.Path.{_≡_, refl}

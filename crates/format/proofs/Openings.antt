@@ -9,12 +9,12 @@ use lib.Dec.{eqb}
 use lib.ListN.{length, take, drop}
 use Rattle.bits.specs.BitLists.{number}
 use Rattle.format.specs.declared.Refusal.{Refusal}
-use Rattle.format.specs.declared.Refusal.the-variants.{Number, Changed}
+use Rattle.format.specs.declared.Refusal.the-variants.{Number}
 use Rattle.format.specs.Assigned.{blank}
 use Rattle.format.specs.Masks.{Held, nothing, lent}
 use Rattle.format.specs.Messages.{Content, bodied, packet}
 use Rattle.format.specs.Programs.{Program, done, refuse, field, _>>=_, _>>_, numbered, require, Ended, well, badly, later, unlessShort, run}
-use Rattle.format.specs.Reading.{Outcome, accepted, idle, refused, endedAt, readFrom, subTypeIn}
+use Rattle.format.specs.Reading.{Outcome, accepted, idle, refused, settled, endedAt, readFrom, subTypeIn}
 use Rattle.format.specs.Steady.{steady}
 use Rattle.format.specs.Table.{Kind, Message, table, kinds, keeping, byKind, opening, messageBy, message}
 
@@ -45,7 +45,7 @@ mask-free g h l one =
 -- ---- so its reading is that where nothing is held, but for 13
 
 unfoldable pub underHeld : Held → Outcome → Outcome
-underHeld held (accepted m next) = cond (steady held (m .after)) (accepted m next) (refused Changed 0 (lent nothing))
+underHeld held (accepted m next) = settled held m next
 underHeld held (idle left) = idle (lent held)
 underHeld held (refused r missing left) = refused r missing (lent held)
 

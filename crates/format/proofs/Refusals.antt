@@ -18,7 +18,7 @@ use Rattle.format.specs.Good.{isHolding}
 use Rattle.format.specs.Masks.{Held, nothing, Lent, stray, lent, heldIn}
 use Rattle.format.specs.Missing.{Reason}
 use Rattle.format.specs.Programs.{Ended, well, badly, run}
-use Rattle.format.specs.Reading.{Outcome, accepted, idle, refused, endedAt, readFrom, bitsFrom, lentTests, readingBy, reading, changed, keptBy, lentAfter}
+use Rattle.format.specs.Reading.{Outcome, accepted, idle, refused, dropped, endedAt, readFrom, bitsFrom, lentTests, readingBy, reading, changed, keptBy, lentAfter}
 use Rattle.format.specs.Steady.{steady}
 use Rattle.format.specs.Table.{Message, table, message}
 use Rattle.format.proofs.Reasons.{Own, message-reasoned, ends-so}
@@ -73,7 +73,7 @@ module _ (holding : Lent) (bytes : List ℕ) (end start : ℕ) (rows : List ℤ)
   read-why tests = go (blank (bitsFrom bytes end start)) (run (message (heldIn holding)) (bitsFrom bytes end start)) refl refl
     where
       made : (k : Message) (n : ℕ) (b : Bool) → run (message (heldIn holding)) (bitsFrom bytes end start) ≡ well k n → steady (heldIn holding) (k .after) ≡ b
-          → cond b (accepted k (start + n)) (refused Changed 0 (lent nothing)) ≡ refused r missing left → Why
+          → cond b (accepted k (start + n)) dropped ≡ refused r missing left → Why
       made k n true ran stays said = absurd (false≢true cc)
       made k n false ran changed said =
           let is : Changed ≡ r = cc in

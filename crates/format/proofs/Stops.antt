@@ -8,13 +8,13 @@ use lib.Dec.{leb}
 use lib.IntN.{ℤ}
 use lib.ListN.{length}
 use Rattle.format.specs.declared.Refusal.{Refusal}
-use Rattle.format.specs.declared.Refusal.the-variants.{Room, Place, Value, Changed}
+use Rattle.format.specs.declared.Refusal.the-variants.{Room, Place, Value}
 use Rattle.format.specs.Answers as Answers
 use Rattle.format.specs.Assigned.{blank}
 use Rattle.format.specs.Good.{good, isHolding}
-use Rattle.format.specs.Masks.{Held, nothing, Lent, stray, lent, heldIn}
+use Rattle.format.specs.Masks.{Held, Lent, stray, lent, heldIn}
 use Rattle.format.specs.Programs.{Ended, well, badly, run}
-use Rattle.format.specs.Reading.{rowRoom, placed, Outcome, accepted, idle, refused, endedAt, readFrom, bitsFrom, lentTests, readingBy, answerOf, rowsAfter}
+use Rattle.format.specs.Reading.{rowRoom, placed, Outcome, accepted, idle, refused, dropped, settled, endedAt, readFrom, bitsFrom, lentTests, readingBy, answerOf, rowsAfter}
 use Rattle.format.specs.Steady.{steady}
 use Rattle.format.specs.Table.{Kind, Message, messageBy}
 use Rattle.format.specs.Tests.{Test, verdict}
@@ -39,11 +39,15 @@ module _ (P : Outcome → Type 0) where
   branch true a b pa pb = pa
   branch false a b pa pb = pb
 
+  -- a message that is accepted, or drops what is held
+  pub settles : (held : Held) (m : Message) (next : ℕ) → P (accepted m next) → P dropped → P (settled held m next)
+  settles held m next = branch (steady held (m .after)) (accepted m next) dropped
+
   -- a program's end
-  ended : (held : Held) → ((r : Refusal) (missing : ℕ) → P (refused r missing (lent held))) → P (refused Changed 0 (lent nothing)) → (place : ℕ) (e : Ended Message)
+  ended : (held : Held) → ((r : Refusal) (missing : ℕ) → P (refused r missing (lent held))) → P dropped → (place : ℕ) (e : Ended Message)
       → ((m : Message) (taken : ℕ) → e ≡ well m taken → P (accepted m (place + taken))) → P (endedAt held place e)
   unfolding endedAt
-  ended held stop drop place (well m taken) said = branch (steady held (m .after)) _ _ (said m taken refl) drop
+  ended held stop drop place (well m taken) said = settles held m (place + taken) (said m taken refl) drop
   ended held stop drop place (badly r missing) said = stop r missing
 
   module _ (t : ℕ → Kind) (bytes : List ℕ) (end start : ℕ) (rows : List ℤ) where
@@ -57,7 +61,7 @@ module _ (P : Outcome → Type 0) where
 
     -- what holds of stops that keep what is held, of a mask that changed, and of whatever message is read, holds of reading the bits from a place on
     pub read-ends :
-        (held : Held) → ((r : Refusal) (missing : ℕ) → P (refused r missing (lent held))) → P (refused Changed 0 (lent nothing)) → P (idle (lent held))
+        (held : Held) → ((r : Refusal) (missing : ℕ) → P (refused r missing (lent held))) → P dropped → P (idle (lent held))
         → ((m : Message) (taken : ℕ) → run (messageBy t held) (bitsFrom bytes end start) ≡ well m taken → P (accepted m (start + taken)))
         → P (readFrom t held start (bitsFrom bytes end start))
     unfolding readFrom
@@ -67,7 +71,7 @@ module _ (P : Outcome → Type 0) where
 
     -- and of a reading, where what is lent is kept
     pub reading-ends :
-        (holding : Lent) → ((r : Refusal) (missing : ℕ) → P (refused r missing holding)) → P (refused Changed 0 (lent nothing)) → P (idle holding)
+        (holding : Lent) → ((r : Refusal) (missing : ℕ) → P (refused r missing holding)) → P dropped → P (idle holding)
         → ((m : Message) (taken : ℕ) → run (messageBy t (heldIn holding)) (bitsFrom bytes end start) ≡ well m taken → P (accepted m (start + taken)))
         → P (readingBy t holding bytes end start rows)
     unfolding readingBy heldIn isHolding
@@ -110,7 +114,7 @@ unfolding endedAt
 read-so held place (badly r missing) m next e = absurd (false≢true cc)
 read-so held place (well k taken) m next e = go (steady held (k .after)) refl e
   where
-    go : (b : Bool) → steady held (k .after) ≡ b → cond b (accepted k (place + taken)) (refused Changed 0 (lent nothing)) ≡ accepted m next
+    go : (b : Bool) → steady held (k .after) ≡ b → cond b (accepted k (place + taken)) dropped ≡ accepted m next
         → Read held place (well k taken) m next
     go false changed e = absurd (false≢true cc)
     go true same e =

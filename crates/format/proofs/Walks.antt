@@ -10,11 +10,10 @@ use lib.ListN.{length, length-append, length-drop, length-take}
 use lib.Seq.{length-take-le}
 use Rattle.bits.proofs.BitLists.{length-spell}
 use Rattle.format.specs.declared.Refusal.{Refusal}
-use Rattle.format.specs.declared.Refusal.the-variants.{Changed}
 use Rattle.format.specs.Good.{isHolding}
-use Rattle.format.specs.Masks.{Held, nothing, Lent, stray, lent, heldIn}
+use Rattle.format.specs.Masks.{Held, Lent, stray, lent, heldIn}
 use Rattle.format.specs.Programs.{Program, well, run}
-use Rattle.format.specs.Reading.{Outcome, accepted, idle, refused, bitsFrom, readingBy, keptBy, lentAfter, rowsAfter}
+use Rattle.format.specs.Reading.{Outcome, accepted, idle, refused, dropped, bitsFrom, readingBy, keptBy, lentAfter, rowsAfter}
 use Rattle.format.specs.Table.{Message, Kind, table, byKind, messageBy, message}
 use Rattle.format.specs.Walking.{handedAt, Walk, hand, goOn, walkFrom, walkOn, walk, messages}
 use Rattle.format.proofs.HeldGood.{held-good, stays-good, reading-good}
@@ -119,7 +118,7 @@ module _ (t : ℕ → Kind) (bytes : List ℕ) (end : ℕ) where
         → P holding place rows (goOn o place rows (λ m next. walkFrom t fuel (lent (m .after)) bytes end next (rowsAfter (accepted m next) rows))))
         t bytes end place rows holding
         (λ r missing e. law .stops holding place rows (refused r missing holding) e tt)
-        (λ e. law .stops holding place rows (refused Changed 0 (lent nothing)) e tt)
+        (λ e. law .stops holding place rows dropped e tt)
         (λ e. law .stops holding place rows (idle holding) e tt)
         (λ m taken ran e.
         let inside = ends-inside t holding bytes end place m taken ran in

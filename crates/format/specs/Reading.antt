@@ -32,9 +32,17 @@ pub data Outcome : Type 0 where
   idle : Lent → Outcome
   refused : Refusal → ℕ → Lent → Outcome
 
--- What a program's end is to the place where it began. Every refusal leaves what is held but one: a mask that changed under one issue drops it.
+-- A message that its bits say is accepted where what it leaves may follow what is held. Every refusal leaves what is held but one: a mask that changed under
+-- one issue drops it.
+abbrev pub dropped : Outcome
+dropped = refused Changed 0 (lent nothing)
+
+abbrev pub settled : Held → Message → ℕ → Outcome
+settled held m next = cond (steady held (m .after)) (accepted m next) dropped
+
+-- what a program's end is to the place where it began
 unfoldable pub endedAt : Held → ℕ → Ended Message → Outcome
-endedAt held place (well m taken) = cond (steady held (m .after)) (accepted m (place + taken)) (refused Changed 0 (lent nothing))
+endedAt held place (well m taken) = settled held m (place + taken)
 endedAt held place (badly r missing) = refused r missing (lent held)
 
 -- reading the bits from a place on: idle where they are all zero, or none

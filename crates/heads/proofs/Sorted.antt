@@ -1,15 +1,14 @@
 -- Reading a message by its sub type is crate format's reading: its opening, then its heading and body, or a mask. Assumes nothing.
-use Rattle.bits.proofs.Words.{_≡_, refl, ap, _∙_, Bool, true, false, cond, List, ℕ, zero, suc, _+_, _-_, eqb, take, ℤ}
+use Rattle.bits.proofs.Words.{_≡_, refl, ap, _∙_, Bool, true, false, List, ℕ, zero, suc, _+_, _-_, eqb, take, ℤ}
 use native.Mathlib.Nat.{add-zero}
-use Rattle.format.specs.declared.Refusal.the-variants.{OtherIssue, Changed}
+use Rattle.format.specs.declared.Refusal.the-variants.{OtherIssue}
 use Rattle.format.specs.Ends.{Within, endFrom}
 use Rattle.format.specs.Masks.{Held, nothing, mask, lent, Sky, skyOf}
 use Rattle.format.specs.Messages as Messages
 use Rattle.format.specs.Messages.{Common, common, bodied, body, maskMessage}
 use Rattle.format.specs.Programs.{Program, done, _>>=_, _>>_, require, Ended, well, badly, later, unlessShort, run}
-use Rattle.format.specs.Reading.{Outcome, accepted, refused, endedAt, bitsFrom}
+use Rattle.format.specs.Reading.{Outcome, refused, settled, endedAt, bitsFrom}
 use Rattle.format.specs.Rows.{bodyWidth, rowsOf}
-use Rattle.format.specs.Steady.{steady}
 use Rattle.format.specs.Table.{Message, gate, underMask, keeping, byKind}
 use Rattle.format.proofs.Ends.{by-end, then-well, then-badly}
 use Rattle.format.proofs.Placed.{length-from}
@@ -26,7 +25,7 @@ use Rattle.table.specs.Kinds.{programBy, maskedBy, kindBy}
 -- ---- an outcome by the place where a program ends
 
 unfoldable pub endedBy : Held → Ended Message → Outcome
-endedBy held (well m next) = cond (steady held (m .after)) (accepted m next) (refused Changed 0 (lent nothing))
+endedBy held (well m next) = settled held m next
 endedBy held (badly r missing) = refused r missing (lent held)
 
 pub ended-from : (held : Held) (place : ℕ) (e : Ended Message) → endedAt held place e ≡ endedBy held (later place e)

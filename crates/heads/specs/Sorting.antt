@@ -1,16 +1,14 @@
 -- Reading a message by its sub type, at places of a byte string. proofs/Sorted.antt shows that this is crate format's reading.
-use mathlib.Core.Bool.{cond}
 use mathlib.Core.List.{List, []}
 use Prim.Native.Nat.{ℕ, zero, suc, _+_, _-_}
 use lib.ListN.{take}
-use Rattle.format.specs.declared.Refusal.the-variants.{Short, SubType, Changed}
-use Rattle.format.specs.Masks.{Held, nothing, mask, lent, Sky}
+use Rattle.format.specs.declared.Refusal.the-variants.{Short, SubType}
+use Rattle.format.specs.Masks.{Held, mask, lent, Sky}
 use Rattle.format.specs.Messages as Messages
 use Rattle.format.specs.Messages.{Adopted, packet}
 use Rattle.format.specs.Programs.{Program, refuse, Ended, well, badly}
-use Rattle.format.specs.Reading.{Outcome, accepted, refused, bitsFrom}
+use Rattle.format.specs.Reading.{Outcome, accepted, refused, settled, bitsFrom}
 use Rattle.format.specs.Rows.{bodyWidth, rowsOf}
-use Rattle.format.specs.Steady.{steady}
 use Rattle.format.specs.Table.{Message}
 use Rattle.heads.specs.declared.heading.Seen.{Seen}
 use Rattle.heads.specs.declared.heading.Under.{Under}
@@ -56,5 +54,5 @@ abbrev pub maskSaid : Adopted → Message
 maskSaid d = record { content = record { head = d .head; rows = [] }; after = mask (d .made) }
 
 unfoldable pub adoptedBy : Held → ℕ → Ended Adopted → Outcome
-adoptedBy held place (well d taken) = cond (steady held (mask (d .made))) (accepted (maskSaid d) (place + taken)) (refused Changed 0 (lent nothing))
+adoptedBy held place (well d taken) = settled held (maskSaid d) (place + taken)
 adoptedBy held place (badly r missing) = refused r missing (lent held)

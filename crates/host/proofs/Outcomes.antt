@@ -11,20 +11,18 @@ use denote.Ref.{RefT, now, ptr}
 use Rattle.bits.specs.Parts.{startOf, countOf, partOf, IsPart}
 use Rattle.format.specs.declared.Answer.{Answer}
 use Rattle.format.specs.declared.Answer.the-variants as Answers
-use Rattle.format.specs.declared.Refusal.the-variants.{Changed}
 use Rattle.format.specs.Answers.{saidAt}
 use Rattle.format.specs.Good.{good, isHolding}
-use Rattle.format.specs.Masks.{Held, nothing, mask, Lent, stray, lent}
+use Rattle.format.specs.Masks.{Held, nothing, Lent, stray, lent}
 use Rattle.format.specs.Messages.{Adopted, maskType, maskMessage}
 use Rattle.format.specs.Programs.{Ended, well, badly, run}
 use Rattle.format.specs.Reading.{Outcome, accepted, idle, refused, reading, changed, keptBy, lentAfter, answerOf, over, rawEnd}
-use Rattle.format.specs.Steady.{steady}
 use Rattle.format.specs.Table.{Message}
 use Rattle.heads.specs.Sorting.{maskSaid, adoptedBy}
 use Rattle.format.proofs.Answer.{the-type}
 use Rattle.format.proofs.Makes.{makes-good, mask-spelled}
 use Rattle.format.proofs.Refusals.{stop-holds}
-use Rattle.format.proofs.Stops.{Stopped}
+use Rattle.format.proofs.Stops.{settles, Stopped}
 use Rattle.bits.proofs.Windows.{Bytes}
 use Rattle.holding.specs.declared.Holding.{Holding}
 use Rattle.holding.specs.Pictures.{pictureOf, maskOf, sound, lentBy}
@@ -58,13 +56,8 @@ pub adopted-good : (held : Held) → good held ≡ true → (place : ℕ) (l : L
 unfolding adoptedBy lentAfter isHolding good
 adopted-good held fine place l = go (run maskMessage l) refl
   where
-    settled : (d : Adopted) (next : ℕ) → good (mask (d .made)) ≡ true → (b : Bool)
-        → isHolding (lentAfter (cond b (accepted (maskSaid d) next) (refused Changed 0 (lent nothing)))) ≡ true
-    settled d next it true = it
-    settled d next it false = refl
-
     go : (e : Ended Adopted) → run maskMessage l ≡ e → isHolding (lentAfter (adoptedBy held place e)) ≡ true
-    go (well d taken) ran = settled d (place + taken) (makes-good .gives l d taken ran) (steady held (mask (d .made)))
+    go (well d taken) ran = settles (λ o. isHolding (lentAfter o) ≡ true) held (maskSaid d) (place + taken) (makes-good .gives l d taken ran) refl
     go (badly r missing) ran = fine
 
 -- the tag that says idle
@@ -114,15 +107,11 @@ adopted-one : (held : Held) (place : ℕ) (l : List Bool) (m : Message) (next : 
 unfolding adoptedBy
 adopted-one held place l m next = go (run maskMessage l) refl
   where
-    one : (d : Adopted) (taken : ℕ) → run maskMessage l ≡ well d taken → (b : Bool)
-        → cond b (accepted (maskSaid d) (place + taken)) (refused Changed 0 (lent nothing)) ≡ accepted m next → m .content .head .subtype ≡ pos maskType
-    one d taken ran true said =
-        let same : maskSaid d ≡ m = cc in
-        sym (ap (λ (n : Message). n .content .head .subtype) same) ∙ mask-spelled .gives l d taken ran .0
-    one d taken ran false said = absurd (let z : _≡_ {A = ℕ} 0 1 = cc in omega arith)
-
     go : (e : Ended Adopted) → run maskMessage l ≡ e → adoptedBy held place e ≡ accepted m next → m .content .head .subtype ≡ pos maskType
-    go (well d taken) ran said = one d taken ran (steady held (mask (d .made))) said
+    go (well d taken) ran said =
+        settles (λ o. o ≡ accepted m next → m .content .head .subtype ≡ pos maskType) held (maskSaid d) (place + taken)
+        (λ it. let same : maskSaid d ≡ m = cc in sym (ap (λ (n : Message). n .content .head .subtype) same) ∙ mask-spelled .gives l d taken ran .0)
+        (λ it. absurd (let z : _≡_ {A = ℕ} 0 1 = cc in omega arith)) said
     go (badly r missing) ran said = absurd (let z : _≡_ {A = ℕ} 0 1 = cc in omega arith)
 
 -- so every accepted message but a mask leaves the holding's bytes as they were

@@ -10,12 +10,11 @@ use lib.IntN.{ℤ}
 use lib.ListN.{length}
 use borrow.Author.Tests.{le-leb}
 use Rattle.format.specs.declared.Refusal.{Refusal}
-use Rattle.format.specs.declared.Refusal.the-variants.{Changed}
 use Rattle.format.specs.Assigned.{blank}
 use Rattle.format.specs.Good.{good, isHolding}
-use Rattle.format.specs.Masks.{Held, nothing, Lent, lent, heldIn}
+use Rattle.format.specs.Masks.{Held, Lent, lent, heldIn}
 use Rattle.format.specs.Programs.{Ended}
-use Rattle.format.specs.Reading.{rowRoom, Outcome, accepted, idle, refused, endedAt, readFrom, bitsFrom, subTypeIn, placed, lentTests, readingBy}
+use Rattle.format.specs.Reading.{rowRoom, Outcome, accepted, idle, refused, dropped, endedAt, readFrom, bitsFrom, subTypeIn, placed, lentTests, readingBy}
 use Rattle.format.specs.Steady.{steady}
 use Rattle.format.specs.Table.{Kind, Message}
 use Rattle.format.specs.Tests.{verdict}
@@ -32,7 +31,7 @@ pub data Abreast (More : Refusal → Type 0) (f s : Held) (k : Kind) : Outcome �
   second-refused : {m : Message} {next : ℕ} {r : Refusal} {missing : ℕ} → good s ≡ true → Stops More f s k r
       → Abreast More f s k (accepted m next) (refused r missing (lent s))
   -- its bits are good, but what the second holds may not become what they leave: where both held the same, the first's could not either
-  second-changed : {m : Message} {next : ℕ} → ¬ (f ≡ s) → Abreast More f s k (accepted m next) (refused Changed 0 (lent nothing))
+  second-changed : {m : Message} {next : ℕ} → ¬ (f ≡ s) → Abreast More f s k (accepted m next) dropped
 
 module _ {More : Refusal → Type 0} {f s : Held} {k : Kind} where
   -- a test that is the second's if it is the first's
@@ -43,13 +42,13 @@ module _ {More : Refusal → Type 0} {f s : Held} {k : Kind} where
 
   -- the first goes on with a message only where what it holds may become what that leaves
   first-steady : (stays : Bool) {m : Message} {next : ℕ} {p : Outcome} → (stays ≡ true → Abreast More f s k (accepted m next) p)
-      → Abreast More f s k (cond stays (accepted m next) (refused Changed 0 (lent nothing))) p
+      → Abreast More f s k (cond stays (accepted m next) dropped) p
   first-steady true law = law refl
   first-steady false law = first-refused
 
   -- and so does the second: wherever the first does, if both held the same
   second-steady : (stays : Bool) {m n : Message} {next : ℕ} → steady f (m .after) ≡ true → steady s (n .after) ≡ stays → Alike f s k m n
-      → Abreast More f s k (accepted m next) (cond stays (accepted n next) (refused Changed 0 (lent nothing)))
+      → Abreast More f s k (accepted m next) (cond stays (accepted n next) dropped)
   second-steady true ours theirs it = both-read it
   second-steady false ours theirs it = second-changed λ same. false≢true (sym theirs ∙ sym (λ i. steady (same i) (it .sure (inl same) i)) ∙ ours)
 

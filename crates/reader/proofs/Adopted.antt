@@ -3,11 +3,11 @@ use Rattle.bits.proofs.Words.{_≡_, refl, sym, ap, Bool, true, false, cond, no
 use borrow.Author.Tests.{not-true, not-false}
 use Rattle.adoption.specs.Adoptions.{Made, dropped, madeBy}
 use Rattle.format.specs.declared.Answer.the-variants.{Message, Refused}
-use Rattle.format.specs.declared.Refusal.the-variants.{Changed}
-use Rattle.format.specs.Masks.{nothing, mask, lent}
+use Rattle.format.specs.Masks.{mask}
 use Rattle.format.specs.Messages.{Adopted}
 use Rattle.format.specs.Programs.{Ended, well, badly, later}
-use Rattle.format.specs.Reading.{accepted, refused, lentAfter, answerOf}
+use Rattle.format.specs.Reading as Reading
+use Rattle.format.specs.Reading.{accepted, lentAfter, answerOf}
 use Rattle.format.specs.Steady.{steady}
 use Rattle.heads.specs.Sorting.{maskSaid, adoptedBy}
 use Rattle.holding.specs.declared.Holding.{Holding}
@@ -28,7 +28,7 @@ made-reads h fine place (well d taken) = go (steady (maskOf h) (mask (d .made)))
   where
     go : (b : Bool)
         → asReading (cond b (record { answer = Message (d .head) (place + taken) 0; holding = pictureOf (mask (d .made)) }) dropped)
-        ≡ readingOf h (cond b (accepted (maskSaid d) (place + taken)) (refused Changed 0 (lent nothing)))
+        ≡ readingOf h (cond b (accepted (maskSaid d) (place + taken)) Reading.dropped)
     go true = refl
     go false = refl
 made-reads h fine place (badly r missing) = ap (λ (g : Holding). record { answer = Refused r missing; holding = g }) (sym (kept h fine))

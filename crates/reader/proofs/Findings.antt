@@ -6,16 +6,15 @@ use Rattle.bits.specs.Places.{field}
 use Rattle.format.specs.declared.Answer.{Answer}
 use Rattle.format.specs.declared.Answer.the-variants as Answers
 use Rattle.format.specs.declared.Refusal.{Refusal}
-use Rattle.format.specs.declared.Refusal.the-variants.{Changed}
 use Rattle.format.specs.Ends.{Within, endFrom}
-use Rattle.format.specs.Masks.{Held, nothing, mask, lent}
+use Rattle.format.specs.Masks.{Held, lent}
 use Rattle.format.specs.Messages as Messages
 use Rattle.format.specs.Programs.{Program, Ended, well, badly, run}
-use Rattle.format.specs.Reading.{Outcome, accepted, idle, refused, bitsFrom, lentAfter, over, rowsAfter, answerOf}
-use Rattle.format.specs.Steady.{steady}
+use Rattle.format.specs.Reading.{Outcome, idle, refused, bitsFrom, lentAfter, over, rowsAfter, answerOf}
 use Rattle.format.specs.Table.{Message, opening}
 use Rattle.format.proofs.Ends.{by-end, ended-at}
 use Rattle.format.proofs.Selections.{Distinct}
+use Rattle.format.proofs.Stops.{settles}
 use Rattle.heads.specs.declared.heading.Heading.{Heading}
 use Rattle.heads.specs.declared.Opening.the-variants.{SubType}
 use Rattle.heads.specs.declared.Opening.the-variants as Openings
@@ -72,11 +71,7 @@ headed-keeps held bs end (badly r missing) = refl
 
 pub adopted-rows : (held : Held) (place : ℕ) (e : Ended Messages.Adopted) (rows : List ℤ) → rows ≡ rowsAfter (adoptedBy held place e) rows
 unfolding adoptedBy rowsAfter over flatten
-adopted-rows held place (well d taken) rows = go (steady held (mask (d .made)))
-  where
-    go : (b : Bool) → rows ≡ rowsAfter (cond b (accepted (maskSaid d) (place + taken)) (refused Changed 0 (lent nothing))) rows
-    go true = refl
-    go false = refl
+adopted-rows held place (well d taken) rows = settles (λ o. rows ≡ rowsAfter o rows) held (maskSaid d) (place + taken) refl refl
 adopted-rows held place (badly r missing) rows = refl
 
 -- a mask

@@ -1,6 +1,5 @@
 -- What a walk does by what is found where it stands: a message under the mask, a stop, a mask. Assumes nothing.
 use mathlib.Core.Path.{_≡_, refl, sym, ap, subst, _∙_}
-use mathlib.Core.Bool.{Bool, true, false, cond}
 use mathlib.Core.List.{List, [], flatten}
 use mathlib.Core.Logic.{_⊎_, inl, inr}
 use Prim.Native.Nat.{ℕ, _+_}
@@ -12,15 +11,13 @@ use denote.Enum.Declared.{tagOf}
 use Rattle.format.specs.declared.Answer.{Answer}
 use Rattle.format.specs.declared.Answer.the-variants as Answers
 use Rattle.format.specs.declared.Head.{Head}
-use Rattle.format.specs.declared.Refusal.the-variants.{Changed}
 use Rattle.format.specs.Reading.{Outcome, accepted, idle, refused, lentAfter, answerOf, over, rowsAfter}
-use Rattle.format.specs.Masks.{Held, nothing, mask, lent}
+use Rattle.format.specs.Masks.{Held}
 use Rattle.format.specs.Messages.{Adopted}
 use Rattle.format.specs.Programs.{Ended, well, badly}
-use Rattle.format.specs.Steady.{steady}
 use Rattle.format.specs.Table.{Message}
 use Rattle.format.proofs.Answer as Answer
-use Rattle.format.proofs.Stops.{Stopped, stop-leaves}
+use Rattle.format.proofs.Stops.{settles, Stopped, stop-leaves}
 use Rattle.heads.specs.Sorting.{maskSaid, adoptedBy}
 use Rattle.holding.specs.Pictures.{pictureOf, maskOf}
 use Rattle.reader.specs.declared.message.Found.{Found}
@@ -79,13 +76,10 @@ stop-of (refused r missing holding) a e halts = tt
 -- a mask has no rows
 adopted-none : (held : Held) (place : ℕ) (e : Ended Adopted) (m : Message) (next : ℕ) → adoptedBy held place e ≡ accepted m next → m .content .rows ≡ []
 unfolding adoptedBy
-adopted-none held place (well d taken) m next e = go (steady held (mask (d .made))) e
-  where
-    go : (b : Bool) → cond b (accepted (maskSaid d) (place + taken)) (refused Changed 0 (lent nothing)) ≡ accepted m next → m .content .rows ≡ []
-    go true e =
-        let same : maskSaid d ≡ m = cc in
-        sym (ap (λ (n : Message). n .content .rows) same)
-    go false e = absurd (let z : _≡_ {A = ℕ} 0 1 = cc in omega arith)
+adopted-none held place (well d taken) m next e =
+    settles (λ o. o ≡ accepted m next → m .content .rows ≡ []) held (maskSaid d) (place + taken)
+    (λ it. let same : maskSaid d ≡ m = cc in sym (ap (λ (n : Message). n .content .rows) same))
+    (λ it. absurd (let z : _≡_ {A = ℕ} 0 1 = cc in omega arith)) e
 adopted-none held place (badly r missing) m next e = absurd (let z : _≡_ {A = ℕ} 0 1 = cc in omega arith)
 
 module _ (bytes : List ℕ) (end : ℕ) (s : Stand) (stands : Stands bytes end s) where
