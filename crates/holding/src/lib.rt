@@ -20,16 +20,16 @@ ghost use Rattle.holding.specs.Pictures.{pictureOf, sound};
 // What is held, as specs/Pictures.antt pictures it: a slot for each system in the order sent (its ID, its
 // satellite and signal masks with place 0 as the highest of their 40 and 16 bits, its cell flag); for each
 // satellite over all systems its strip of the cell mask, the signals that count for it at their own places; how
-// many satellites and cells there are. What is not used is zero. The order leaves no gap before the strips, which makes
-// each copy shorter.
+// many satellites and cells there are. What is not used is zero. The order leaves no gap, which makes each copy shorter
+// and an outline 32 bytes.
 pub struct Holding {
     pub held: bool,
     pub iod: u8,
+    pub count: u8,
+    pub nsat: u8,
     pub ids: [u8; Holding::SYSTEMS],
     pub flags: [bool; Holding::SYSTEMS],
     pub signals: [u16; Holding::SYSTEMS],
-    pub count: usize,
-    pub nsat: usize,
     pub ncell: usize,
     pub satellites: [u64; Holding::SYSTEMS],
     pub strips: [u16; Holding::SATELLITES],
@@ -40,11 +40,11 @@ pub struct Holding {
 pub struct Outline {
     pub held: bool,
     pub iod: u8,
+    pub count: u8,
+    pub nsat: u8,
     pub ids: [u8; Holding::SYSTEMS],
     pub flags: [bool; Holding::SYSTEMS],
     pub signals: [u16; Holding::SYSTEMS],
-    pub count: usize,
-    pub nsat: usize,
     pub ncell: usize,
 }
 
@@ -64,10 +64,11 @@ impl Outline {
         requires { ⌜ (length (now satellites) ≡ 5) × (length (now strips) ≡ 64) ⌝ }
         ensures { λ r. ⌜ r ≡ sound (wholeOf self (now (satellites .entry)) (now (strips .entry))) ⌝ }
     {
-        if !testing::issue_fits(self.held, self.iod, self.count) {
+        let count = self.count as usize;
+        if !testing::issue_fits(self.held, self.iod, count) {
             return false;
         }
-        if self.count > Holding::SYSTEMS {
+        if count > Holding::SYSTEMS {
             return false;
         }
         let ids = self.ids;
@@ -79,8 +80,8 @@ impl Outline {
             &signals,
             &flags,
             strips,
-            self.count,
-            self.nsat,
+            count,
+            self.nsat as usize,
             self.ncell,
         )
     }
@@ -185,12 +186,12 @@ impl Holding {
         requires { ⌜ self .count < 5 ⌝ }
         ensures { λ r. ⌜ r ≡ withSystem self id satellites signals flag ⌝ }
     {
-        let i = self.count;
+        let i = self.count as usize;
         self.ids[i] = id;
         self.satellites[i] = satellites;
         self.signals[i] = signals;
         self.flags[i] = flag;
-        self.count = i + 1;
+        self.count = (i + 1) as u8;
         self
     }
 }

@@ -14,12 +14,12 @@ abbrev μ-loop : tie.MeasureT-loop
 module _ (s : tie.Start Inv-loop μ-loop) where
   old : Slots (s .args .t1) (s .args .satellites .now)
   old =
-      let lists = s .good .0 .1 .1 .1 .1 in
+      let lists = s .good .0 .1 .1 .1 .1 .1 .1 in
       slots-typed (s .args .t1) _ (lists .0 .1 .0 .1) (s .pre .0) (lists .1 .1 .0 .1 .0 .1) (lists .1 .0 .1 .0 .1)
 
   new : Slots (s .args .t3) (s .args .masks .now)
   new =
-      let lists = s .good .1 .1 .0 .1 .1 .1 .1 in
+      let lists = s .good .1 .1 .0 .1 .1 .1 .1 .1 .1 in
       slots-typed (s .args .t3) _ (lists .0 .1 .0 .1) (s .pre .1) (lists .1 .1 .0 .1 .0 .1) (lists .1 .0 .1 .0 .1)
 
 loop-again : tie.Need-loop-again Inv-loop μ-loop
