@@ -6,6 +6,7 @@ ghost use Prim.Native.Nat.{_*_, _^_, _≤_, _<_};
 ghost use lib.ListN.{length};
 ghost use Rattle.bits.specs.BitLists.{digit};
 ghost use Rattle.format.specs.Reading.{over};
+ghost use Rattle.holding.specs.Outlines.{wholeOf};
 ghost use Rattle.holding.specs.Pictures.{sound};
 ghost use Rattle.passing.specs.Bytes.{parts, partsOf};
 ghost use Rattle.passing.specs.Passing.{size, bytesOf};
@@ -13,6 +14,7 @@ use crate::IDS;
 use crate::SIZE;
 use crate::STRIPS;
 use holding::Holding;
+use holding::Outline;
 
 // Two bytes, and eight, the least first.
 fn word(part: &mut [u8], n: u16)
@@ -61,16 +63,16 @@ fn longs(part: &mut [u8], ns: &[u64])
 }
 
 // Whether a mask is held, its issue, and how many systems, satellites and cells there are.
-fn start(part: &mut [u8], held: bool, iod: u8, count: usize, nsat: usize, ncell: usize)
-    requires { ⌜ (length (now part) ≡ 6) × (count < 256) × (nsat < 256) × (ncell < 2 ^ 16) ⌝ }
-    ensures { λ _. ⌜ now (part .exit) ≡ digit held ∷ iod ∷ count ∷ nsat ∷ parts 2 ncell ⌝ }
+fn start(part: &mut [u8], outline: Outline)
+    requires { ⌜ (length (now part) ≡ 6) × (outline .ncell < 2 ^ 16) ⌝ }
+    ensures { λ _. ⌜ now (part .exit) ≡ digit (outline .held) ∷ outline .iod ∷ outline .count ∷ outline .nsat ∷ parts 2 (outline .ncell) ⌝ }
 {
-    part[0] = held as u8;
-    part[1] = iod;
-    part[2] = count as u8;
-    part[3] = nsat as u8;
-    part[4] = (ncell % 256) as u8;
-    part[5] = (ncell / 256) as u8;
+    part[0] = outline.held as u8;
+    part[1] = outline.iod;
+    part[2] = outline.count;
+    part[3] = outline.nsat;
+    part[4] = (outline.ncell % 256) as u8;
+    part[5] = (outline.ncell / 256) as u8;
 }
 
 // The IDs, and the flags.
@@ -122,17 +124,20 @@ fn systems(part: &mut [u8], all: &[u8], marks: &[bool], signals: &[u16], satelli
     masks(&mut part[10..60], signals, satellites);
 }
 
-// A holding over the first bytes.
-pub fn holding_over(bytes: &mut [u8], h: Holding)
-    requires { ⌜ (size ≤ length (now bytes)) × (sound h ≡ true) ⌝ }
-    ensures { λ _. ⌜ now (bytes .exit) ≡ over (bytesOf h) (now (bytes .entry)) ⌝ }
+// A holding in parts over the first bytes.
+pub fn holding_over(
+    bytes: &mut [u8],
+    outline: Outline,
+    satellites: &[u64; Holding::SYSTEMS],
+    strips: &[u16; Holding::SATELLITES],
+)
+    requires { ⌜ (size ≤ length (now bytes)) × (sound (wholeOf outline (now satellites) (now strips)) ≡ true) ⌝ }
+    ensures { λ _. ⌜ now (bytes .exit) ≡ over (bytesOf (wholeOf outline (now (satellites .entry)) (now (strips .entry)))) (now (bytes .entry)) ⌝ }
 {
-    let all = h.ids;
-    let marks = h.flags;
-    let signals = h.signals;
-    let satellites = h.satellites;
-    let strips = h.strips;
-    start(&mut bytes[0..IDS], h.held, h.iod, h.count, h.nsat, h.ncell);
-    systems(&mut bytes[IDS..STRIPS], &all, &marks, &signals, &satellites);
-    words(&mut bytes[STRIPS..SIZE], &strips);
+    let all = outline.ids;
+    let marks = outline.flags;
+    let signals = outline.signals;
+    start(&mut bytes[0..IDS], outline);
+    systems(&mut bytes[IDS..STRIPS], &all, &marks, &signals, satellites);
+    words(&mut bytes[STRIPS..SIZE], strips);
 }

@@ -3,8 +3,9 @@ ghost use mathlib.Core.Path.{_≡_};
 ghost use mathlib.Core.List.{map};
 ghost use Prim.Native.Nat.{_+_, _*_, _≤_};
 ghost use lib.ListN.{length, take, drop};
+ghost use Rattle.holding.specs.Outlines.{outlineOf};
 ghost use Rattle.passing.specs.Bytes.{little, littles};
-ghost use Rattle.passing.specs.Passing.{size, truths, truth, passes, said, stray, holdingIn};
+ghost use Rattle.passing.specs.Passing.{size, truths, truth, passes, said};
 use crate::FLAGS;
 use crate::IDS;
 use crate::SATELLITES;
@@ -14,6 +15,7 @@ use crate::STRIPS;
 use bits::window::four;
 use bits::window::join;
 use holding::Holding;
+use holding::Outline;
 
 // Two bytes from one on, and eight, as a number, the least byte first.
 fn word(bytes: &[u8], i: usize) -> u16
@@ -54,13 +56,6 @@ fn longs(to: &mut [u64], bytes: &[u8], from: usize)
         to[i] = long(bytes, from + 8 * i);
         i += 1;
     }
-}
-
-// A value of the struct that is no holding: a system where no mask is held.
-fn stray() -> Holding
-    ensures { λ r. ⌜ r ≡ stray ⌝ }
-{
-    Holding::empty().with_system(0, 0, 0, false)
 }
 
 // Whether the bytes that stand for a truth are 0 or 1: all of them are where their bits together are.
@@ -108,7 +103,7 @@ fn signals(bytes: &[u8]) -> [u16; Holding::SYSTEMS]
     signals
 }
 
-fn satellites(bytes: &[u8]) -> [u64; Holding::SYSTEMS]
+pub fn satellites(bytes: &[u8]) -> [u64; Holding::SYSTEMS]
     requires { ⌜ size ≤ length (now bytes) ⌝ }
     ensures { λ r. ⌜ r ≡ littles 8 5 (drop 26 (now (bytes .entry))) ⌝ }
 {
@@ -118,7 +113,7 @@ fn satellites(bytes: &[u8]) -> [u64; Holding::SYSTEMS]
 }
 
 // The strips of 64 satellites.
-fn strips(bytes: &[u8]) -> [u16; Holding::SATELLITES]
+pub fn strips(bytes: &[u8]) -> [u16; Holding::SATELLITES]
     requires { ⌜ size ≤ length (now bytes) ⌝ }
     ensures { λ r. ⌜ r ≡ littles 2 64 (drop 66 (now (bytes .entry))) ⌝ }
 {
@@ -127,26 +122,33 @@ fn strips(bytes: &[u8]) -> [u16; Holding::SATELLITES]
     strips
 }
 
-// What so many bytes say.
-pub fn said(bytes: &[u8]) -> Holding
+// What so many bytes say but for masks and strips. A caller that goes on with a holding in parts asks for each of them, and no
+// holding is made to be taken apart.
+pub fn outline(bytes: &[u8]) -> Outline
     requires { ⌜ size ≤ length (now bytes) ⌝ }
-    ensures { λ r. ⌜ r ≡ said (now (bytes .entry)) ⌝ }
+    ensures { λ r. ⌜ r ≡ outlineOf (said (now (bytes .entry))) ⌝ }
 {
-    Holding {
+    Outline {
         held: bytes[0] == 1,
         iod: bytes[1],
-        count: bytes[2] as usize,
+        count: bytes[2],
+        nsat: bytes[3],
         ids: ids(bytes),
-        satellites: satellites(bytes),
-        signals: signals(bytes),
         flags: flags(bytes),
-        strips: strips(bytes),
-        nsat: bytes[3] as usize,
+        signals: signals(bytes),
         ncell: word(bytes, 4) as usize,
     }
 }
 
-// Whether there are 194, and those that stand for a truth are 0 or 1.
+// All that they say.
+pub fn said(bytes: &[u8]) -> Holding
+    requires { ⌜ size ≤ length (now bytes) ⌝ }
+    ensures { λ r. ⌜ r ≡ said (now (bytes .entry)) ⌝ }
+{
+    outline(bytes).with(satellites(bytes), strips(bytes))
+}
+
+// Whether there are 194, and those that stand for a truth are 0 or 1: others say no holding.
 pub fn passes(bytes: &[u8]) -> bool
     ensures { λ r. ⌜ r ≡ passes (now (bytes .entry)) ⌝ }
 {
@@ -157,14 +159,4 @@ pub fn passes(bytes: &[u8]) -> bool
         return false;
     }
     truths(bytes)
-}
-
-// What lent bytes say: other bytes, or fewer, say no holding.
-pub fn holding_in(bytes: &[u8]) -> Holding
-    ensures { λ r. ⌜ r ≡ holdingIn (now (bytes .entry)) ⌝ }
-{
-    if passes(bytes) {
-        return said(bytes);
-    }
-    stray()
 }

@@ -9,13 +9,13 @@ use Rattle.passing.proofs.give.start.Tie as tie
 
 returns : tie.Need-returns
 returns c =
-    let x = c .args in
-    rw (truth-byte (x .held), ← (two-parts (x .ncell) (c .pre .3)))
-    (stored-all (x .part .now) (digit (x .held) ∷ x .iod ∷ x .count ∷ x .nsat ∷ x .ncell % 256 ∷ x .ncell / 256 ∷ []) (c .pre .0))
+    let s = c .before .before .before in
+    let o = s .args .outline in
+    rw (truth-byte (o .held), ← (two-parts (o .ncell) (s .pre .1)))
+    (stored-all (s .args .part .now) (digit (o .held) ∷ o .iod ∷ o .count ∷ o .nsat ∷ o .ncell % 256 ∷ o .ncell / 256 ∷ []) (s .pre .0))
 
 pub start-spec : {M : Type 1} → statement M
 start-spec =
     tie.close
     (tie.spec (λ c. search needs) (λ c. search needs) (λ c. search needs) (λ c. search needs) (λ c. search needs) (λ c. search needs)
-    (λ c. search needs) (λ c. search needs) (λ c. simp length-set (omega arith)) (λ c. search needs) (λ c. simp length-set (omega arith))
-    (λ c. search needs) returns)
+    (λ c. simp length-set (omega arith)) (λ c. search needs) (λ c. simp length-set (omega arith)) (λ c. simp length-set) returns)
