@@ -3,3 +3,4 @@ pub mod Strips
 pub mod StageEnds
 pub mod ManySystems
 pub mod Offered
+pub mod MaskHead

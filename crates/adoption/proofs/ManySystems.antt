@@ -74,27 +74,27 @@ few-end before s bs end place = rw (test-end, done-end)
 abbrev pub ended : Head → List ℕ → ℕ → Mask → ℕ → ℕ → Ended Adopted
 ended head bs end m place n = endFrom (withSystems head n m) bs end place
 
--- the holding is the picture of a good mask, and all systems end as n more at a place after that mask's
-pub record Stands (head : Head) (bs : List ℕ) (end : ℕ) (all : Ended Adopted) (h : Holding) (at n : ℕ) : Type 0 where
+-- the holding is the picture of a good mask, and all systems end as n more at a place after that mask's, whatever the head is
+pub record Stands (bs : List ℕ) (end : ℕ) (all : Head → Ended Adopted) (h : Holding) (at n : ℕ) : Type 0 where
   pub m : Mask
   pub held : Sounds (mask m) h
   pub there : Within bs end at
-  pub left : all ≡ ended head bs end m at n
+  pub left : (head : Head) → all head ≡ ended head bs end m at n
 
 -- before the first
 abbrev pub firstMask : ℕ → Mask
 firstMask iod = record { iod = iod; systems = [] }
 
-pub none-yet : {bs : List ℕ} {end place : ℕ} (head : Head) (iod n : ℕ) → iod < 16 → Within bs end place → Stands head bs end (ended head bs end (firstMask iod) place n) (pictureOf (mask (firstMask iod))) place n
+pub none-yet : {bs : List ℕ} {end place : ℕ} (iod n : ℕ) → iod < 16 → Within bs end place → Stands bs end (λ head. ended head bs end (firstMask iod) place n) (pictureOf (mask (firstMask iod))) place n
 unfolding good goodSystems
-none-yet head iod n small at = record { m = firstMask iod; held = picture-sounds (mask (firstMask iod)) (true-and (lt-ltb iod 16 small) refl); there = at; left = refl }
+none-yet iod n small at = record { m = firstMask iod; held = picture-sounds (mask (firstMask iod)) (true-and (lt-ltb iod 16 small) refl); there = at; left = λ head. refl }
 
 -- after the last
-pub none-left : {head : Head} {bs : List ℕ} {end : ℕ} {all : Ended Adopted} {h : Holding} {at : ℕ} (s : Stands head bs end all h at 0) → all ≡ well (record { head = head; made = s .m }) at
+pub none-left : {bs : List ℕ} {end : ℕ} {all : Head → Ended Adopted} {h : Holding} {at : ℕ} (s : Stands bs end all h at 0) (head : Head) → all head ≡ well (record { head = head; made = s .m }) at
 unfolding withSystems systems _>>=_
-none-left s = s .left ∙ done-end _ _ _ _
+none-left s head = s .left head ∙ done-end _ _ _ _
 
-module _ {head : Head} {bs : List ℕ} {end : ℕ} {all : Ended Adopted} {h : Holding} {at n : ℕ} (s : Stands head bs end all h at n) where
+module _ {bs : List ℕ} {end : ℕ} {all : Head → Ended Adopted} {h : Holding} {at n : ℕ} (s : Stands bs end all h at n) where
   count-is : h .count ≡ length (s .m .systems)
   unfolding pictureOf
   count-is = ap (λ (g : Holding). g .count) (sym (s .held .picture))
@@ -120,7 +120,7 @@ module _ {head : Head} {bs : List ℕ} {end : ℕ} {all : Ended Adopted} {h : Ho
 
 -- ---- one more
 
-module _ {head : Head} {bs : List ℕ} {end : ℕ} {all : Ended Adopted} {h : Holding} {at n : ℕ} (s : Stands head bs end all h at (suc n)) where
+module _ {bs : List ℕ} {end : ℕ} {all : Head → Ended Adopted} {h : Holding} {at n : ℕ} (s : Stands bs end all h at (suc n)) where
   abbrev before : List System
   before = s .m .systems
 
@@ -129,11 +129,11 @@ module _ {head : Head} {bs : List ℕ} {end : ℕ} {all : Ended Adopted} {h : Ho
     unfolding satellitesHeld
     ends = rw (← (ids-named s .1), ← (s .held .nsat)) (sym is)
 
-    pub one-refused : {q : Refusal} {missing : ℕ} → r ≡ Refused q missing → all ≡ badly q missing
+    pub one-refused : {q : Refusal} {missing : ℕ} → r ≡ Refused q missing → (head : Head) → all head ≡ badly q missing
     unfolding endSystem
-    one-refused same =
+    one-refused same head =
         let cut = then-badly (s .there) (untested (idsOf before) (length (satellites before))) (fewCells before) (ends ∙ ap (endSystem bs) same) in
-        s .left ∙ rw (one-first head n (s .m)) (then-badly (s .there) (system before) _ (rw (then-tested before) cut))
+        s .left head ∙ rw (one-first head n (s .m)) (then-badly (s .there) (system before) _ (rw (then-tested before) cut))
 
     -- read up to its cells
     module _ {k : Masks} {flag : Bool} {from : ℕ} (same : r ≡ Fine k flag from) where
@@ -173,9 +173,9 @@ module _ {head : Head} {bs : List ℕ} {end : ℕ} {all : Ended Adopted} {h : Ho
           (then-well (s .there) (untested (idsOf before) (length (satellites before))) (fewCells before) ran ∙ few-end before new bs end next
           ∙ ap (λ (c : ℕ). cond (leb c 256) (well new next) (badly Size 0)) cells-are)
 
-      pub too-many : 256 < ncell → all ≡ badly Size 0
-      too-many over =
-          s .left ∙ rw (one-first head n (s .m)) (then-badly (s .there) (system before) _ (tested ∙ rw (lt-leb ncell 256 over)))
+      pub too-many : 256 < ncell → (head : Head) → all head ≡ badly Size 0
+      too-many over head =
+          s .left head ∙ rw (one-first head n (s .m)) (then-badly (s .there) (system before) _ (tested ∙ rw (lt-leb ncell 256 over)))
 
       -- few enough
       module _ (few : ncell ≤ 256) where
@@ -205,7 +205,7 @@ module _ {head : Head} {bs : List ℕ} {end : ℕ} {all : Ended Adopted} {h : Ho
 
           -- with its strips and its slot the holding stands after it
           pub one-fine : {strips : List ℕ} {nsat cells place : ℕ} → strips ≡ sets (h .strips) (h .nsat) (stripsOf new) → nsat ≡ h .nsat + ones (k .satellites) → cells ≡ ncell → place ≡ next
-              → Stands head bs end all
+              → Stands bs end all
               (record {
                 held = h .held;
                 iod = h .iod;
@@ -226,5 +226,5 @@ module _ {head : Head} {bs : List ℕ} {end : ℕ} {all : Ended Adopted} {h : Ho
                 m = withOne (s .m) new;
                 held = subst (λ (g : Holding). Sounds (mask (withOne (s .m) new)) g) (sym built) (picture-sounds (mask (withOne (s .m) new)) good-more);
                 there = after;
-                left = s .left ∙ rw (one-first head n (s .m)) (then-well (s .there) (system before) _ fine);
+                left = λ head. s .left head ∙ rw (one-first head n (s .m)) (then-well (s .there) (system before) _ fine);
               })

@@ -11,7 +11,7 @@ ghost use mathlib.Core.Path.{_≡_};
 ghost use mathlib.Core.Bool.{true};
 ghost use mathlib.Core.List.{List};
 ghost use Prim.Native.Nat.{ℕ, _+_};
-ghost use Rattle.adoption.specs.Adoptions.{keeping, made, madeBy};
+ghost use Rattle.adoption.specs.Adoptions.{keeping, made, madeBy, headAt};
 ghost use Rattle.format.specs.Ends.{Within, endFrom};
 ghost use Rattle.adoption.specs.Stages.{afterCommonHead};
 ghost use Rattle.format.specs.Messages.{common, maskMessage};
@@ -22,9 +22,11 @@ ghost use Rattle.holding.specs.Pictures.{sound};
 use crate::systems::Before;
 use bits::read::Taken;
 use bits::read::Widths;
+use bits::read::cut;
+use bits::read::read_field;
 use bits::read::short_by;
 use format::ABSENT;
-use format::Answer;
+use format::Head;
 use format::Refusal;
 use heads::CommonHead;
 use heads::CommonTaken;
@@ -36,21 +38,28 @@ use heads::taken;
 use holding::Holding;
 use holding::Outline;
 
-// A mask message: the answer to it, and what is held after it: what was, or what has this outline, whose masks and strips
-// are left in what is lent for them.
+// Where a mask message ends: at the place behind it, or refused, and how many bits were missing.
+pub enum Ending {
+    Behind(usize),
+    Refused(Refusal, usize),
+}
+
+// A mask message: where it ends, and what is held after it: what was, or what has this outline, whose masks and strips
+// are left in what is lent for them. Its head is read where the message is answered (head_at): handed on from here it
+// would lie in each frame on the way.
 pub struct Adoption {
-    pub answer: Answer,
+    pub ending: Ending,
     pub kept: bool,
     pub outline: Outline,
 }
 
-// An answer that leaves what is held; the outline is then the empty one's.
-fn keeping(answer: Answer) -> Adoption
-    ensures { λ r. ⌜ r ≡ keeping answer ⌝ }
+// An ending that leaves what is held; the outline is then the empty one's.
+fn keeping(ending: Ending) -> Adoption
+    ensures { λ r. ⌜ r ≡ keeping ending ⌝ }
 {
     let empty = Holding::empty();
     Adoption {
-        answer,
+        ending,
         kept: true,
         outline: empty.outline(),
     }
@@ -60,6 +69,9 @@ fn keeping(answer: Answer) -> Adoption
 const COMMON: usize = heads::EPOCH + heads::AFTER_EPOCH;
 
 const COUNT: usize = 4;
+
+// How many bits of a number are above a front's.
+const ABOVE: usize = 64 - heads::FRONT;
 
 // The common head's fields, as a mask has it.
 const HEAD: Widths = Widths {
@@ -96,13 +108,11 @@ fn after_head(
 {
     let taken = taken(f, COMMON, COUNT);
     match taken {
-        Taken::Short(missing) => keeping(Answer::Refused(Refusal::Short, missing)),
+        Taken::Short(missing) => keeping(Ending::Refused(Refusal::Short, missing)),
         Taken::Whole(n) => {
-            let head = heading::head(table::MASK, h, n as i32, ABSENT, ABSENT);
             let place = f.start + COMMON + COUNT;
             let before = Before {
                 iod: h.iod as u8,
-                head,
                 systems: n as usize,
                 place,
             };
@@ -127,7 +137,18 @@ pub fn adopt(
 {
     let f = front_at(bytes, end, place);
     match head(f) {
-        CommonTaken::Short(missing) => keeping(Answer::Refused(Refusal::Short, missing)),
+        CommonTaken::Short(missing) => keeping(Ending::Refused(Refusal::Short, missing)),
         CommonTaken::Whole(h) => after_head(held, h, f, bytes, satellites, strips),
     }
+}
+
+// The head that a mask message says at the place behind its number and sub type, whether or not its bits are there. All
+// of them lie in one front.
+pub fn head_at(bytes: &[u8], place: usize) -> Head
+    ensures { λ r. ⌜ r ≡ headAt (now (bytes .entry)) place ⌝ }
+{
+    let front = read_field(bytes, place, heads::FRONT);
+    let h = parted(cut(front, ABOVE, COMMON));
+    let n = cut(front, ABOVE + COMMON, COUNT);
+    heading::head(table::MASK, h, n as i32, ABSENT, ABSENT)
 }

@@ -3,17 +3,15 @@ ghost use mathlib.Core.Path.{_≡_};
 ghost use Rattle.adoption.specs.Adoptions.{made, settledBy};
 ghost use Rattle.holding.specs.Outlines.{wholeOf};
 use crate::Adoption;
+use crate::Ending;
 use crate::keeping;
-use format::Answer;
-use format::Head;
 use format::Refusal;
 use holding::Holding;
 use holding::Outline;
 use holding::same::same;
 
-// What the message says: its head, the place after it, and the outline of the holding that it makes.
+// What the message says: the place after it, and the outline of the holding that it makes.
 pub struct Offer {
-    pub head: Head,
     pub next: usize,
     pub outline: Outline,
 }
@@ -32,25 +30,24 @@ pub fn settled(
     ensures { λ r. ⌜ made held r (now (satellites .exit)) (now (strips .exit)) ≡ settledBy (wholeOf held (now (satellites .entry)) (now (strips .entry))) offer (now (masks .entry)) (now (cells .entry)) ⌝ }
 {
     let new = offer.outline;
-    let head = offer.head;
-    let answer = Answer::Message(head, offer.next, 0);
+    let ending = Ending::Behind(offer.next);
     if !held.held || new.iod != held.iod {
         *satellites = *masks;
         *strips = *cells;
         return Adoption {
-            answer,
+            ending,
             kept: false,
             outline: new,
         };
     }
     if same(held, satellites, strips, new, masks, cells) {
-        return keeping(answer);
+        return keeping(ending);
     }
     *satellites = [0; Holding::SYSTEMS];
     *strips = [0; Holding::SATELLITES];
     let empty = Holding::empty();
     Adoption {
-        answer: Answer::Refused(Refusal::Changed, 0),
+        ending: Ending::Refused(Refusal::Changed, 0),
         kept: false,
         outline: empty.outline(),
     }

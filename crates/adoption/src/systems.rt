@@ -6,10 +6,12 @@ ghost use Prim.Native.Nat.{_≤_, _<_};
 ghost use lib.ListN.{length, take};
 ghost use Rattle.adoption.specs.Adoptions.{made, madeBy};
 ghost use Rattle.adoption.specs.Stages.{untested, endSystem, FitsSystem, withSystems};
+ghost use Rattle.format.specs.declared.Head.{Head};
 ghost use Rattle.format.specs.Ends.{Within, endFrom};
 ghost use Rattle.holding.specs.Outlines.{wholeOf};
 ghost use Rattle.holding.specs.Pictures.{sound};
 use crate::Adoption;
+use crate::Ending;
 use crate::cells;
 use crate::cells::Masks;
 use crate::cells::System;
@@ -20,8 +22,6 @@ use crate::settle::settled;
 use crate::stages;
 use crate::stages::Masked;
 use crate::stages::Named;
-use format::Answer;
-use format::Head;
 use format::Refusal;
 use heads::front_at;
 use holding::Holding;
@@ -58,17 +58,17 @@ fn read_system(
     }
 }
 
-// What a mask message says before its systems: the issue, the head, how many there are, and the place of the first.
+// What a mask message says before its systems: the issue, how many there are, and the place of the first.
 pub struct Before {
     pub iod: u8,
-    pub head: Head,
     pub systems: usize,
     pub place: usize,
 }
 
 // The systems from a place on, and the message that they end. The holding that they make is written out here and changed in
 // place: each function that it went through by value would be a copy. The test of 256 cells comes after the cell mask, or
-// after a zero flag (document 01, "Reader's order").
+// after a zero flag (document 01, "Reader's order"). Whatever the head is, the message ends at the same place and makes
+// the same holding.
 pub fn all(
     held: Outline,
     before: Before,
@@ -78,7 +78,7 @@ pub fn all(
     strips: &mut [u16; Holding::SATELLITES],
 ) -> Adoption
     requires { ⌜ (before .iod < 16) × Within (now bytes) end (before .place) × (sound (wholeOf held (now satellites) (now strips)) ≡ true) ⌝ }
-    ensures { λ r. ⌜ made held r (now (satellites .exit)) (now (strips .exit)) ≡ madeBy (wholeOf held (now (satellites .entry)) (now (strips .entry))) (endFrom (withSystems (before .head) (before .systems) (record { iod = before .iod; systems = [] })) (now (bytes .entry)) end (before .place)) ⌝ }
+    ensures { λ r. ⌜ ((head : Head) → made held r (now (satellites .exit)) (now (strips .exit)) ≡ madeBy (wholeOf held (now (satellites .entry)) (now (strips .entry))) (endFrom (withSystems head (before .systems) (record { iod = before .iod; systems = [] })) (now (bytes .entry)) end (before .place))) ⌝ }
 {
     let n = before.systems;
     let mut next = before.place;
@@ -94,33 +94,28 @@ pub fn all(
         nsat: 0,
         ncell: 0,
     };
-    while h.count < n {
-        let i = h.count;
-        let first = h.nsat;
+    while (h.count as usize) < n {
+        let i = h.count as usize;
+        let first = h.nsat as usize;
         match read_system(&h.ids, i, first, bytes, end, next) {
-            System::Refused(r, missing) => return keeping(Answer::Refused(r, missing)),
+            System::Refused(r, missing) => return keeping(Ending::Refused(r, missing)),
             System::Fine(m, flag, from) => {
                 h.ncell += grow::strips(&mut h.strips, first, m, flag, bytes, from);
                 if h.ncell > Holding::CELLS {
-                    return keeping(Answer::Refused(Refusal::Size, 0));
+                    return keeping(Ending::Refused(Refusal::Size, 0));
                 }
-                h.nsat = first + set_places::count(m.satellites);
+                h.nsat = (first + set_places::count(m.satellites)) as u8;
                 h.ids[i] = m.id;
                 h.satellites[i] = m.satellites;
                 h.signals[i] = m.signals;
                 h.flags[i] = flag;
-                h.count = i + 1;
+                h.count = (i + 1) as u8;
                 next = from + cells::width(m, flag);
             }
         }
     }
-    let head = before.head;
     let outline = h.outline();
-    let offer = Offer {
-        head,
-        next,
-        outline,
-    };
+    let offer = Offer { next, outline };
     let masks = h.satellites;
     let cells = h.strips;
     settled(held, offer, &masks, &cells, satellites, strips)

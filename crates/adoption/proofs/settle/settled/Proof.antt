@@ -5,7 +5,7 @@ use borrow.Author.Tests.{not-true, not-false}
 use Rattle.adoption.proofs.Offered.{settles-free, settles-other, settles-same, settles-changed}
 use Rattle.adoption.specs.Adoptions.{made}
 use Rattle.adoption.specs.declared.Adoption.{Adoption}
-use Rattle.format.specs.declared.Answer.the-variants.{Refused}
+use Rattle.adoption.specs.declared.Ending.the-variants.{Refused}
 use Rattle.format.specs.declared.Refusal.the-variants.{Changed}
 use Rattle.format.specs.Masks.{nothing}
 use Rattle.holding.specs.declared.Outline.{Outline}
@@ -17,7 +17,7 @@ use Rattle.adoption.proofs.settle.settled.Tie as tie
 -- another issue, or none
 returns : tie.Need-returns
 returns c =
-    let x = c .before .before .before .before .before .before .args in
+    let x = c .before .before .before .before .before .args in
     ⊎-elim
     (λ free. settles-free (x .held) (x .satellites .now) (x .strips .now) (x .offer) (x .masks .now) (x .cells .now) (not-true (x .held .held) (free .taken)))
     (λ other. settles-other (x .held) (x .satellites .now) (x .strips .now) (x .offer) (x .masks .now) (x .cells .now) (other .3 .taken))
@@ -29,7 +29,7 @@ module _ (c : tie.After-same) where
   e = c .before .before .before
 
   abbrev s : tie.Start
-  s = e .before .before .before .before .before .before .before
+  s = e .before .before .before .before .before .before
 
   held : s .args .held .held ≡ true
   held = not-false (s .args .held .held) (e .before .before .before .if1 .left)
@@ -47,7 +47,7 @@ returns-3 c =
     let f = c .before .before .before .before in
     let k = f .before in
     let x = s k .args in
-    ap (λ (o : Outline). made (x .held) (record { answer = Refused Changed 0; kept = false; outline = o }) (pictureOf nothing .satellites) (pictureOf nothing .strips)) (c .outline .ensures ∙ ap outlineOf (c .before .empty .ensures))
+    ap (λ (o : Outline). made (x .held) (record { ending = Refused Changed 0; kept = false; outline = o }) (pictureOf nothing .satellites) (pictureOf nothing .strips)) (c .outline .ensures ∙ ap outlineOf (c .before .empty .ensures))
     ∙ settles-changed (x .held) (x .satellites .now) (x .strips .now) (x .offer) (x .masks .now) (x .cells .now) (held k) (e k .if2 .left) (sym (k .same .ensures) ∙ f .if3 .left)
 
 pub settled-spec : {M : Type 1} → statement M

@@ -9,8 +9,8 @@ use Rattle.adoption.proofs.ManySystems.{ended, firstMask, Stands, none-
 use Rattle.adoption.specs.Adoptions.{keeping, made, madeBy}
 use Rattle.adoption.specs.declared.Adoption.{Adoption}
 use Rattle.adoption.specs.declared.cells.Masks.{Masks}
+use Rattle.adoption.specs.declared.Ending.the-variants.{Refused}
 use Rattle.adoption.specs.Stages.{cellBits}
-use Rattle.format.specs.declared.Answer.the-variants.{Refused}
 use Rattle.format.specs.declared.Refusal.{Refusal}
 use Rattle.format.specs.Ends.{Within}
 use Rattle.format.specs.Masks.{satellites, cells}
@@ -23,10 +23,10 @@ use Rattle.adoption.proofs.systems.all.Statement.{statement}
 use Rattle.adoption.proofs.systems.all.Tie as tie
 
 abbrev Inv-loop : tie.InvT-loop
-Inv-loop held said bytes end satellites strips n at₀ h₀ at h = Stands (said .head) bytes end (ended (said .head) bytes end (firstMask (said .iod)) (said .place) (said .systems)) h at (n - h .count)
+Inv-loop held bytes end satellites strips n at₀ h₀ at h = Stands bytes end (λ head. ended head bytes end (firstMask (h₀ .iod)) at₀ n) h at (n - h .count)
 
 abbrev μ-loop : tie.MeasureT-loop
-μ-loop held said bytes end satellites strips n at₀ h₀ at h = n - h .count
+μ-loop held bytes end satellites strips n at₀ h₀ at h = n - h .count
 
 -- what is held when it begins
 abbrev kept : tie.Start Inv-loop μ-loop → Holding
@@ -52,7 +52,7 @@ module _ (c : tie.After-read-system Inv-loop μ-loop) where
 
   stands :
       let x = l .before .before .args in
-      Stands (x .before .head) (x .bytes .now) (x .end) (ended (x .before .head) (x .bytes .now) (x .end) (firstMask (x .before .iod)) (x .before .place) (x .before .systems)) (l .loop .h) (l .loop .next) (suc more)
+      Stands (x .bytes .now) (x .end) (λ head. ended head (x .bytes .now) (x .end) (firstMask (x .before .iod)) (x .before .place) (x .before .systems)) (l .loop .h) (l .loop .next) (suc more)
   stands =
       let e : l .before .before .args .before .systems - l .loop .h .count ≡ suc more = omega arith in
       rw e at (l .loop .inv)
@@ -85,7 +85,7 @@ returns-2 : tie.Need-returns-2 Inv-loop μ-loop
 returns-2 c =
     let s = c .before .before in
     let p = q s in
-    stays (start (read p)) (c .keeping2 .ensures) (too-many (stands (read p)) (read p .read-system .result) (read p .read-system .ensures .0) (p .before .m .given .1) (omega (arith, s .strips .ensures .0 .0, c .before .if1 .taken)))
+    λ head. stays (start (read p)) (c .keeping2 .ensures) (too-many (stands (read p)) (read p .read-system .result) (read p .read-system .ensures .0) (p .before .m .given .1) (omega (arith, s .strips .ensures .0 .0, c .before .if1 .taken)) head)
 
 -- and few enough
 module _ (c : tie.Else1 Inv-loop μ-loop) where
@@ -107,26 +107,28 @@ loop-again c =
 returns-3 : tie.Need-returns-3 Inv-loop μ-loop
 returns-3 c =
     let o = c .before .before .before .before .before .before .before in
-    let a = o .before .before .before in
+    let a = o .before .before in
     let x = a .before .before .args in
     let h = a .loop .h in
     let none : x .before .systems - h .count ≡ 0 = omega arith in
     let s = rw none at (a .loop .inv) in
+    λ head.
     c .settled .ensures
-    ∙ offered (kept (a .before .before)) (a .before .before .pre .2) (s .m) (s .held) (x .before .head) (a .loop .next) (o .outline .ensures)
-    ∙ ap (madeBy (kept (a .before .before))) (sym (none-left s))
+    ∙ offered (kept (a .before .before)) (a .before .before .pre .2) (s .m) (s .held) head (a .loop .next) (o .outline .ensures)
+    ∙ ap (madeBy (kept (a .before .before))) (sym (none-left s head))
 
 pub all-spec : {M : Type 1} → statement M
 unfolding filled pictureOf satellites cells flatMap
 all-spec =
     tie.close
     (tie.spec Inv-loop μ-loop
-    (λ c. rw sub-zero (none-yet (c .before .args .before .head) (c .before .args .before .iod) (c .before .args .before .systems) (c .before .pre .0) (c .before .pre .1)))
+    (λ c. rw sub-zero (none-yet (c .before .args .before .iod) (c .before .args .before .systems) (c .before .pre .0) (c .before .pre .1)))
+    (λ c. omega (arith, c .loop .inv .held .few-systems)) (λ c. omega (arith, c .before .loop .inv .held .few-systems)) (λ c. omega (arith, c .before .loop .inv .held .few-satellites))
     (λ c κs. let l = c .before .before .before .before .loop .inv in (ids-named l .0, l .held .few-satellites, l .there)) (λ c. search needs) (λ c κs. search needs)
-    (λ c. let p = c .before .before .before .before in stays (start p) (c .keeping .ensures) (one-refused (stands p) (p .read-system .result) (p .read-system .ensures .0) (c .before .before .r .given .1)))
+    (λ c head. let p = c .before .before .before .before in stays (start p) (c .keeping .ensures) (one-refused (stands p) (p .read-system .result) (p .read-system .ensures .0) (c .before .before .r .given .1) head))
     (λ c. search needs)
     (λ c κs. (fits (c .before) .1, fits (c .before) .0, omega (arith, next (c .before)), omega (arith, next (c .before)), strips-left (stands (read (c .before)))))
     (λ c. omega (arith, c .strips .ensures .0 .1, l (read (q c)) .loop .inv .held .few-cells)) (λ c κs. search needs) returns-2 (λ c κs. search needs)
-    (λ c. omega (arith, c .count .ensures, fits (p (c .before)) .1)) (λ c. few (c .before)) (λ c. omega (arith, few (c .before))) (λ c. few (c .before))
-    (λ c. omega (arith, few (c .before))) (λ c. few (c .before)) (λ c. few (c .before)) (λ c. omega (arith, few (c .before))) (λ c κs. fits (p (c .before)) .0)
+    (λ c. omega (arith, c .count .ensures, fits (p (c .before)) .1)) (λ c. omega (arith, c .count .ensures, fits (p (c .before)) .1)) (λ c. few (c .before)) (λ c. omega (arith, few (c .before))) (λ c. few (c .before))
+    (λ c. omega (arith, few (c .before))) (λ c. few (c .before)) (λ c. few (c .before)) (λ c. omega (arith, few (c .before))) (λ c. omega (arith, few (c .before))) (λ c κs. fits (p (c .before)) .0)
     (λ c. omega (arith, c .width .ensures, next (p (c .before .before)))) (λ c. omega arith) loop-again (λ c κs. search needs) (λ c κs. search needs) returns-3)
