@@ -6,9 +6,12 @@ use Prim.Native.Nat.{ℕ, _-_, _*_, _≤_}
 use lib.Dec.{eqb}
 use lib.IntN.{ℤ}
 use lib.ListN.{length}
+use Rattle.adoption.specs.declared.Ending.{Ending}
+use Rattle.adoption.specs.declared.Ending.the-variants as Endings
 use Rattle.bits.specs.Places.{field}
 use Rattle.format.specs.declared.Answer.{Answer}
 use Rattle.format.specs.declared.Answer.the-variants as Answers
+use Rattle.format.specs.declared.Head.{Head}
 use Rattle.format.specs.declared.Refusal.{Refusal}
 use Rattle.format.specs.Ends.{endFrom}
 use Rattle.format.specs.Good.{isHolding}
@@ -50,6 +53,11 @@ outcomeAt h bytes end start rows = reading (lentBy h) bytes end start rows
 
 unfoldable pub readingOf : Holding → Outcome → Reading
 readingOf h o = record { answer = answerOf o; holding = holdingAfter h o }
+
+-- the answer to a mask message with this head, by where it ends
+unfoldable pub endingAnswer : Head → Ending → Answer
+endingAnswer head (Endings.Behind next) = Answers.Message head next 0
+endingAnswer head (Endings.Refused r missing) = Answers.Refused r missing
 
 -- the tests of what is lent
 abbrev pub testsOf : Holding → List ℕ → ℕ → ℕ → ℕ → List Test

@@ -4,6 +4,7 @@ pub mod message;
 pub mod raw;
 
 ghost use mathlib.Core.Path.{_≡_};
+ghost use mathlib.Core.Bool.{false};
 ghost use Rattle.format.specs.Reading.{placed, lentTests};
 ghost use Rattle.reader.specs.Readings.{testedBy};
 use format::Answer;
@@ -52,4 +53,15 @@ pub fn tested(held: bool, bytes: &[u8], end: usize, start: usize, room: usize) -
         return Verdict::Refused(Refusal::Value);
     }
     Verdict::Good
+}
+
+// Why a reading is refused where what is lent is no holding: what refuses it even with one comes first, then 12.
+pub fn unheld(bytes: &[u8], end: usize, start: usize, room: usize) -> Refusal
+    ensures { λ r. ⌜ testedBy (lentTests false (now (bytes .entry)) end start room) ≡ Verdict.Refused r ⌝ }
+{
+    let verdict = tested(true, bytes, end, start, room);
+    match verdict {
+        Verdict::Refused(r) => r,
+        Verdict::Good => Refusal::Value,
+    }
 }

@@ -3,6 +3,7 @@ ghost use mathlib.Core.Path.{_≡_};
 ghost use mathlib.Core.Bool.{true};
 ghost use Prim.Native.Nat.{_*_, _≤_};
 ghost use lib.ListN.{length};
+ghost use Rattle.adoption.specs.Adoptions.{headAt};
 ghost use Rattle.body.specs.Lent.{Lends};
 ghost use Rattle.format.specs.Messages.{maskMessage};
 ghost use Rattle.format.specs.Programs.{run};
@@ -11,9 +12,10 @@ ghost use Rattle.heads.specs.Fronts.{Opens};
 ghost use Rattle.heads.specs.Sorting.{adoptedBy};
 ghost use Rattle.holding.specs.Outlines.{wholeOf};
 ghost use Rattle.holding.specs.Pictures.{maskOf, sound};
-ghost use Rattle.reader.specs.Readings.{readingOf, readAt, unopenedAt, foundAt, Ready};
+ghost use Rattle.reader.specs.Readings.{endingAnswer, readingOf, readAt, unopenedAt, foundAt, Ready};
 ghost use Rattle.reader.specs.Bodies.{AsksBody, headedIn};
 use crate::Reading;
+use adoption::Ending;
 use bits::rest::zero_from;
 use body::Placed;
 use format::Answer;
@@ -54,7 +56,14 @@ fn body_of(
     match heading {
         Heading::Refused(r, missing) => Answer::Refused(r, missing),
         Heading::Rows(head, body, at) => {
-            let size = body::size(outline.nsat, outline.ncell, ids, masks, strips, body);
+            let size = body::size(
+                outline.nsat as usize,
+                outline.ncell,
+                ids,
+                masks,
+                strips,
+                body,
+            );
             let left = end - at;
             if left < size.bits {
                 return Answer::Refused(Refusal::Short, size.bits - left);
@@ -74,6 +83,16 @@ fn body_of(
     }
 }
 
+// The answer to a mask message at a place, by where it ends. Its head is read here, and only where it is accepted.
+pub fn mask_answer(ending: Ending, bytes: &[u8], place: usize) -> Answer
+    ensures { λ r. ⌜ r ≡ endingAnswer (headAt (now (bytes .entry)) place) ending ⌝ }
+{
+    match ending {
+        Ending::Behind(next) => Answer::Message(adoption::head_at(bytes, place), next, 0),
+        Ending::Refused(r, missing) => Answer::Refused(r, missing),
+    }
+}
+
 // A mask message behind its number and sub type.
 pub fn adopted(holding: Holding, bytes: &[u8], end: usize, place: usize) -> Reading
     requires { ⌜ (end ≤ 8 * length (now bytes)) × (end ≤ stretchLimit) × (place ≤ end) × (sound holding ≡ true) ⌝ }
@@ -83,12 +102,12 @@ pub fn adopted(holding: Holding, bytes: &[u8], end: usize, place: usize) -> Read
     let mut strips = holding.strips;
     let mut held = holding.outline();
     let adoption = adoption::adopt(held, bytes, end, place, &mut satellites, &mut strips);
-    let answer = adoption.answer;
+    let ending = adoption.ending;
     if !adoption.kept {
         held = held.adopt(adoption.outline);
     }
     Reading {
-        answer,
+        answer: mask_answer(ending, bytes, place),
         holding: held.with(satellites, strips),
     }
 }
@@ -136,7 +155,7 @@ pub fn find(
             let seen = Seen {
                 held: outline.held,
                 iod: outline.iod,
-                n: outline.nsat,
+                n: outline.nsat as usize,
                 subtype: n,
             };
             let heading = heading::of(kind, seen, strips, front, bytes);

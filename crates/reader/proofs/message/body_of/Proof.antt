@@ -61,7 +61,7 @@ module _ (c : tie.After-heading2) where
 -- its extent was counted
 module _ (z : tie.After-size) where
   abbrev t : tie.After-heading2
-  t = z .before .before
+  t = z .before .before .before
 
   counts : Counts (lines t) (z .size .result)
   counts = subst (λ (v : View). Counts (linesIn v (body t)) (z .size .result)) (lent-view (s t .pre .1)) (z .size .ensures)
@@ -141,7 +141,7 @@ pub body-of-spec : {M : Type 1} → statement M
 unfolding saidBy answerOf rowsAfter headedAt
 body-of-spec =
     tie.close
-    (tie.spec (λ c. search needs) (λ c. search needs) (λ c κs. let p = s (c .before) .pre in (lent-sizes (p .1) (p .0 .held), fits (c .before))) (λ c. begins (c .before .before))
+    (tie.spec (λ c. search needs) (λ c. search needs) (λ c. search needs) (λ c κs. let k = c .before .before in let p = s k .pre in (lent-sizes (p .1) (p .0 .held), fits k)) (λ c. begins (c .before .before .before))
     (λ c. search needs) returns (λ c. let e = c .before .before .before in omega (arith, begins (h e), start e .pre .0 .limit, e .if1 .left)) returns-2
     (λ c κs. fills (c .before .before .before))
     (λ c. let e = c .before .before .before .before .before .before in omega (arith, begins (h e), start e .pre .0 .limit, e .if1 .left))

@@ -2,7 +2,6 @@
 use Rattle.bits.proofs.Words.{_≡_, refl, sym, ap, _∙_, subst, List, ℕ, _+_, arith, needs}
 use mathlib.Core.Logic.{_⊎_, inl, inr}
 use denote.Enum.Declared.{tagOf}
-use Rattle.format.specs.declared.Answer.the-variants as Answers
 use Rattle.format.specs.Ends.{Within, endFrom}
 use Rattle.format.specs.Messages as Messages
 use Rattle.format.specs.Programs.{Ended, well}
@@ -106,14 +105,14 @@ returns c =
 -- any other message has a heading
 of-requires : tie.Need-of-requires
 of-requires c κs =
-    let k = c .before in
+    let k = c .before .before in
     let after = subst (λ (f : Front). Within (bs (t k)) (f .end) (f .start + 16)) (sym (is (t k))) (told k .after) in
     let fine = sounds (hold (s (t k))) (s (t k) .pre .0 .held) in
     (told k .small, fine .few-satellites, omega (arith, fine .few-satellites, fine .shaped .strips), rw (of-table k) (tabled (n k)), after, opens (t k))
 
 module _ (c : tie.After-of) where
   abbrev k : tie.After-kind-of
-  k = c .before .before
+  k = c .before .before .before
 
   abbrev start : tie.Start
   start = s (t k)
@@ -122,7 +121,7 @@ module _ (c : tie.After-of) where
   h = hold start
 
   other : kindFor (n k) ≡ Kinds.Mask → ⊥
-  other e = not-mask (k .kind-of .result) (c .before .match2 .keys2) (of-table k ∙ e)
+  other e = not-mask (k .kind-of .result) (c .before .before .match2 .keys2) (of-table k ∙ e)
 
   abbrev headed : Front → Kind → Ended Messages.Heading
   headed f q = endFrom (headingFor q (record { held = h .held; iod = h .iod; n = h .nsat; subtype = n k }) (skyIn (viewOf h))) (bs (t k)) (f .end) (f .start + 16)
@@ -161,6 +160,6 @@ pub find-spec : {M : Type 1} → statement M
 find-spec =
     tie.close
     (tie.spec (λ c κs. search needs) (λ c κs. (record { bytes = _; opens = opens c }, opens c .within .room)) (λ c. search needs)
-    (λ c κs. opens (c .before .before .before .before)) (λ c. search needs) (λ c κs. search needs) (λ c. search needs) returns of-requires
+    (λ c κs. opens (c .before .before .before .before)) (λ c. search needs) (λ c κs. search needs) (λ c. search needs) returns (λ c. search needs) of-requires
     (λ c κs. let q = c .before in let p = start q .pre in (p .0, p .1, q .of .ensures .1 .fits, rw (said q) (begins (told (k q) .after) _))) returns-2 (λ c. search needs)
     returns-3)
