@@ -22,11 +22,11 @@ use Rattle.reader.specs.Readings.{structOf, outcomeAt, testsOf, testedBy}
 use Rattle.reader.proofs.Lents.{sound-lent, is-holding, lent-back}
 use Rattle.reader.proofs.Outcomes.{Fine, tested-outcome, outcome-tested}
 use Rattle.walk.specs.declared.Halt.{Halt}
-use Rattle.walk.specs.Standing.{standAt, standFirst, Stands, restOf, walkedWith, walkedFrom, rowsFrom}
+use Rattle.walk.specs.Standing.{standFrom, standFirst, Stands, restOf, walkedWith, walkedFrom, rowsFrom}
 use Rattle.walk.specs.Walks.{walkAt, walkedOf}
 
--- what is lent is good at a place, and nothing was handed out before it
-pub begin : {h : Holding} {bytes : List ℕ} {end start : ℕ} {rows : List ℤ} → Fine h bytes end start (length rows) → Stands bytes end (standAt h (record { place = start; messages = 0; rows = 0 }) rows)
+-- what is lent is good at a place, and nothing is counted before it
+pub begin : {h : Holding} {bytes : List ℕ} {end start : ℕ} {rows : List ℤ} → Fine h bytes end start (length rows) → Stands bytes end (standFrom h start rows)
 begin fine =
     record {
       held = fine .held;

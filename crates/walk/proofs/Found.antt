@@ -8,6 +8,9 @@ use native.Mathlib.Omega.{arith}
 use lib.IntN.{ℤ}
 use lib.ListN.{length}
 use denote.Enum.Declared.{tagOf}
+use Rattle.adoption.specs.declared.Ending.{Ending}
+use Rattle.adoption.specs.declared.Ending.the-variants as Endings
+use Rattle.adoption.proofs.Ending as Ending
 use Rattle.format.specs.declared.Answer.{Answer}
 use Rattle.format.specs.declared.Answer.the-variants as Answers
 use Rattle.format.specs.declared.Head.{Head}
@@ -23,7 +26,7 @@ use Rattle.holding.specs.Pictures.{pictureOf, maskOf}
 use Rattle.reader.specs.declared.message.Found.{Found}
 use Rattle.reader.specs.declared.message.Found.the-variants.{Mask, Answered}
 use Rattle.reader.specs.declared.Reading.{Reading}
-use Rattle.reader.specs.Readings.{structOf, holdingAfter, readingOf, readAt, foundAt}
+use Rattle.reader.specs.Readings.{structOf, holdingAfter, readingOf, readAt, foundAt, endingAnswer}
 use Rattle.reader.proofs.Findings.{FoundMask, found-mask, FoundAnswer, found-answer, adopted-rows}
 use Rattle.reader.proofs.Lents.{kept}
 use Rattle.reader.proofs.message.Found.{the-type}
@@ -60,6 +63,12 @@ no-message (Answers.Message head next n) (inl e) = absurd (omega arith)
 no-message (Answers.Message head next n) (inr e) = absurd (omega arith)
 no-message Answers.Idle e = tt
 no-message (Answers.Refused r missing) e = tt
+
+-- a mask message that is refused
+pub refused-halts : (head : Head) (e : Ending) → tagOf Ending.the-type e ≡ 1 → Halts (Answered (endingAnswer head e))
+unfolding Halts endingAnswer
+refused-halts head (Endings.Behind next) e = absurd (omega arith)
+refused-halts head (Endings.Refused r missing) e = tt
 
 -- the tag of a mask
 pub mask-tag : (f : Found) → tagOf the-type f ≡ 0 → Mask ≡ f

@@ -1,16 +1,18 @@
--- Where reading under one mask comes to: whatever fuel there is, behind each message, and what is known there. Assumes nothing.
+-- Where reading under one mask comes to: whatever fuel there is, behind each message, whatever was handed out before, and what is known there. Assumes nothing.
 use mathlib.Core.Path.{_≡_, refl, sym, ap, subst, _∙_}
 use mathlib.Core.Bool.{Bool, true, false}
 use mathlib.Core.List.{List}
-use Prim.Native.Nat.{ℕ, zero, suc, _-_, _<_}
+use Prim.Native.Nat.{ℕ, zero, suc, _+_, _-_, _<_}
+use native.Mathlib.Nat.{add-zero, add-assoc}
 use native.Mathlib.Omega.{arith}
 use lib.IntN.{ℤ}
 use Rattle.format.specs.declared.Answer.the-variants as Answers
 use Rattle.format.specs.declared.Head.{Head}
 use Rattle.reader.specs.declared.message.Found.{Found}
 use Rattle.reader.specs.declared.message.Found.the-variants.{Mask, Answered}
+use Rattle.walk.specs.declared.Tally.{Tally}
 use Rattle.walk.specs.declared.under.Pause.{Pause}
-use Rattle.walk.specs.Standing.{Stand, standAt, Stands}
+use Rattle.walk.specs.Standing.{Stand, standAt, standFrom, Stands}
 use Rattle.walk.specs.Pausing.{foundIn, rowsIn, behind, goUnder, underFrom, underOn, pausesIn, pauseIn}
 use Rattle.walk.proofs.Found.{Halts, under-goes, halt-leaves}
 use Rattle.walk.proofs.Going.{Gone, gone-nowhere, gone-on}
@@ -22,6 +24,11 @@ stays Mask halts s more = refl
 stays (Answered (Answers.Message head next n)) halts s more = absurd halts
 stays (Answered Answers.Idle) halts s more = refl
 stays (Answered (Answers.Refused r missing)) halts s more = refl
+
+-- the same stand, with what was handed out before counted too
+abbrev pub summed : Tally → Stand → Stand
+summed before s =
+    standAt (s .holding) (record { place = s .tally .place; messages = before .messages + s .tally .messages; rows = before .rows + s .tally .rows }) (s .rows)
 
 module _ (bytes : List ℕ) (end : ℕ) where
   -- whatever fuel there is, if it is more than the bits left
@@ -99,3 +106,28 @@ module _ (bytes : List ℕ) (end : ℕ) where
       let it = under-comes s stands in
       let numbers : t .rows ≡ rows = sym (left ∙ halt-leaves bytes end t (it .stands) (foundIn bytes end t) refl (it .halts)) in
       λ i. standAt (it .holds i) (sym (ap (λ (q : Pause). q .tally) said) i) (numbers i)
+
+  -- ---- what was handed out before
+
+  -- where counting begins anew it is as good
+  pub afresh : (s : Stand) → Stands bytes end s → Stands bytes end (standFrom (s .holding) (s .tally .place) (s .rows))
+  afresh s stands =
+      record { held = stands .held; lent = stands .lent; limit = stands .limit; there = stands .there; room = stands .room; few = omega arith; rows = omega arith }
+
+  -- reading comes to the same stand, whatever was handed out before
+  under-summed : (before : Tally) (fuel : ℕ) (s : Stand) → underFrom fuel bytes end (summed before s) ≡ summed before (underFrom fuel bytes end s)
+  unfolding underFrom goUnder
+  under-summed before zero s = refl
+  under-summed before (suc fuel) s = go (foundIn bytes end s) (under-summed before fuel)
+    where
+      go : (f : Found) → ((t : Stand) → underFrom fuel bytes end (summed before t) ≡ summed before (underFrom fuel bytes end t))
+          → goUnder f (summed before s) (λ next n. underFrom fuel bytes end (behind bytes end (summed before s) next n)) ≡ summed before (goUnder f s (λ next n. underFrom fuel bytes end (behind bytes end s next n)))
+      go Mask then = refl
+      go (Answered (Answers.Message head next n)) then = simp add-assoc (then (behind bytes end s next n))
+      go (Answered Answers.Idle) then = refl
+      go (Answered (Answers.Refused r missing)) then = refl
+
+  -- so what is handed out under one mask may be counted from 0 and added
+  pub adds-up : (s : Stand) → underOn bytes end s ≡ summed (s .tally) (underOn bytes end (standFrom (s .holding) (s .tally .place) (s .rows)))
+  unfolding underOn
+  adds-up s = simp add-zero at (under-summed (s .tally) (suc (end - s .tally .place)) (standFrom (s .holding) (s .tally .place) (s .rows)))

@@ -25,8 +25,12 @@ pub record Stand : Type 0 where
 abbrev pub standAt : Holding → Tally → List ℤ → Stand
 standAt holding tally rows = record { holding = holding; tally = tally; rows = rows }
 
+-- where counting begins, at a place; and where a walk does, at place 0
+abbrev pub standFrom : Holding → ℕ → List ℤ → Stand
+standFrom holding place rows = standAt holding (record { place = place; messages = 0; rows = 0 }) rows
+
 abbrev pub standFirst : Holding → List ℤ → Stand
-standFirst holding rows = standAt holding (record { place = 0; messages = 0; rows = 0 }) rows
+standFirst holding rows = standFrom holding 0 rows
 
 -- all of it is good, in a stretch
 pub record Stands (bytes : List ℕ) (end : ℕ) (s : Stand) : Type 0 where

@@ -9,12 +9,14 @@ ghost use Rattle.holding.specs.Pictures.{sound};
 ghost use Rattle.walk.specs.Standing.{standFirst, Stands, haltOf, walkedFrom, rowsFrom};
 ghost use Rattle.walk.specs.Walks.{walkAt, walkedOf};
 use crate::under::under;
+use adoption::Ending;
 use format::Answer;
 use heads::OPENING;
 use holding::Holding;
 use holding::Outline;
 use reader::Verdict;
 use reader::message::Found;
+use reader::message::mask_answer;
 
 // A place, and how many messages and rows were handed out before it.
 pub struct Tally {
@@ -31,7 +33,7 @@ pub struct Halt {
 }
 
 // Where a walk begins.
-const START: Tally = Tally {
+pub const START: Tally = Tally {
     place: 0,
     messages: 0,
     rows: 0,
@@ -44,7 +46,7 @@ pub struct Stopped {
     pub outline: Outline,
 }
 
-// From mask to mask, all that is lent being good.
+// From mask to mask, all that is lent being good. What is handed out under each mask is counted from 0 and added.
 fn on(
     first: Outline,
     satellites: &mut [u64; Holding::SYSTEMS],
@@ -60,9 +62,14 @@ fn on(
     let mut outline = first;
     let mut tally = START;
     loop {
-        let pause = under(outline, satellites, strips, bytes, end, tally, false, rows);
+        let from = tally.place;
+        let pause = under(from, satellites, end, outline, bytes, false, rows, strips);
         let found = pause.found;
-        let here = pause.tally;
+        let here = Tally {
+            place: pause.tally.place,
+            messages: tally.messages + pause.tally.messages,
+            rows: tally.rows + pause.tally.rows,
+        };
         if let Found::Answered(stop) = found {
             return Stopped {
                 stop,
@@ -72,13 +79,13 @@ fn on(
         }
         let place = here.place + OPENING;
         let adoption = adoption::adopt(outline, bytes, end, place, satellites, strips);
-        let answer = adoption.answer;
+        let ending = adoption.ending;
         if !adoption.kept {
             outline = outline.adopt(adoption.outline);
         }
-        let Answer::Message(_, next, _) = answer else {
+        let Ending::Behind(next) = ending else {
             return Stopped {
-                stop: answer,
+                stop: mask_answer(ending, bytes, place),
                 tally: here,
                 outline,
             };

@@ -14,7 +14,7 @@ use Rattle.holding.specs.Outlines.{wholeOf}
 use Rattle.holding.specs.Pictures.{sound}
 use Rattle.reader.specs.declared.message.Found.{Found}
 use Rattle.reader.specs.declared.message.Found.the-variants.{Answered}
-use Rattle.walk.specs.Standing.{Stand, standAt, Stands}
+use Rattle.walk.specs.Standing.{Stand, standAt, standFrom, Stands}
 use Rattle.walk.specs.Pausing.{foundIn, rowsIn, pausesIn, pauseIn}
 use Rattle.walk.proofs.Found.{Halts, no-message, mask-tag, under-goes}
 use Rattle.walk.proofs.Going.{Goes}
@@ -23,22 +23,22 @@ use Rattle.walk.proofs.under.under.Statement.{statement}
 use Rattle.walk.proofs.under.under.Tie as tie
 
 abbrev Inv-loop : tie.InvT-loop
-Inv-loop outline satellites strips bytes end once rows₀ ids count tally₀ rows tally =
+Inv-loop from satellites end outline bytes once rows₀ strips ids count tally₀ rows tally =
     let holding = wholeOf outline satellites strips in
     Stands bytes end (standAt holding tally rows)
-    × (pausesIn once bytes end (standAt holding tally₀ rows₀) ≡ pausesIn once bytes end (standAt holding tally rows))
+    × (pausesIn once bytes end (standFrom holding from rows₀) ≡ pausesIn once bytes end (standAt holding tally rows))
     × (length rows ≡ length rows₀)
 
 abbrev μ-loop : tie.MeasureT-loop
-μ-loop outline satellites strips bytes end once rows₀ ids count tally₀ rows tally = end - tally .place
+μ-loop from satellites end outline bytes once rows₀ strips ids count tally₀ rows tally = end - tally .place
 
 loop-holds : tie.Need-loop-holds Inv-loop μ-loop
-loop-holds c = (c .before .before .pre, refl, refl)
+loop-holds c = (c .before .before .before .pre, refl, refl)
 
 -- where the loop stands
 module _ (c : tie.At-loop Inv-loop μ-loop) where
   abbrev s : tie.Start Inv-loop μ-loop
-  s = c .before .before .before
+  s = c .before .before .before .before
 
   abbrev hold : Holding
   hold = wholeOf (s .args .outline) (s .args .satellites .now) (s .args .strips .now)
@@ -47,7 +47,7 @@ module _ (c : tie.At-loop Inv-loop μ-loop) where
   here = standAt hold (c .loop .tally) (c .loop .rows)
 
   abbrev start : Stand
-  start = standAt hold (s .args .from) (s .args .rows .now)
+  start = standFrom hold (s .args .from) (s .args .rows .now)
 
   firm : sound hold ≡ true
   firm = c .loop .inv .0 .held
@@ -152,5 +152,5 @@ loop-again c =
 pub under-spec : {M : Type 1} → statement M
 under-spec =
     tie.close
-    (tie.spec Inv-loop μ-loop loop-holds (λ c. counted (hold c) (firm c)) (λ c. let l = c .before in prefix (hold l) (firm l))
+    (tie.spec Inv-loop μ-loop (λ c. search needs) loop-holds (λ c. counted (hold c) (firm c)) (λ c. let l = c .before in prefix (hold l) (firm l))
     find-requires (λ c. search needs) (λ c. search needs) (λ c. search needs) returns (λ c. search needs) (λ c. search needs) returns-2 (λ c. search needs) returns-3 add-messages add-rows loop-less loop-again)

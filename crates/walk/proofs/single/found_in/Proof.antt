@@ -1,4 +1,4 @@
--- `walk::single::seek` meets its contract. Assumes nothing.
+-- `walk::single::found_in` meets its contract. Assumes nothing.
 use mathlib.Core.Path.{_∙_, sym, ap}
 use borrow.Author.Needs.{needs}
 use lib.ListN.{length}
@@ -7,25 +7,26 @@ use Rattle.holding.specs.declared.Outline.{Outline}
 use Rattle.holding.specs.Outlines.{wholeOf}
 use Rattle.holding.specs.Pictures.{sound}
 use Rattle.reader.specs.Readings.{outcomeAt, soughtAt}
-use Rattle.walk.proofs.single.seek.Statement.{statement}
-use Rattle.walk.proofs.single.seek.Tie as tie
+use Rattle.walk.proofs.single.found_in.Statement.{statement}
+use Rattle.walk.proofs.single.found_in.Tie as tie
 
 seek-under-requires : tie.Need-seek-under-requires
 seek-under-requires c κs =
     let o = c .before .before .before .before .before in
-    let h = o .before .before .before .args .holding in
-    o .before .is-sound .ensures ∙ ap (λ (x : Outline). sound (wholeOf x (h .satellites) (h .strips))) (sym (o .outline .ensures))
+    let s = o .before .before in
+    let h = s .args .holding in
+    s .pre ∙ ap (λ (x : Outline). sound (wholeOf x (h .satellites) (h .strips))) (sym (o .outline .ensures))
 
 returns : tie.Need-returns
 returns c =
     let k = c .before in
     let o = k .before .before .before .before .before .before in
-    let x = o .before .before .before .args in
+    let x = o .before .before .args in
     let h = x .holding in (
       k .seek-under .ensures .0 ∙ ap (λ (y : Outline). soughtAt (wholeOf y (h .satellites) (h .strips)) (x .bytes .now) (x .end) (x .start) (length (x .rows .now))) (o .outline .ensures),
       k .seek-under .ensures .1
           ∙ ap (λ (y : Outline). rowsAfter (outcomeAt (wholeOf y (h .satellites) (h .strips)) (x .bytes .now) (x .end) (x .start) (x .rows .now)) (x .rows .now)) (o .outline .ensures),
     )
 
-pub seek-spec : {M : Type 1} → statement M
-seek-spec = tie.close (tie.spec (λ c κs. search needs) (λ c κs. search needs) seek-under-requires (λ c. search needs) returns)
+pub found-in-spec : {M : Type 1} → statement M
+found-in-spec = tie.close (tie.spec (λ c κs. search needs) seek-under-requires (λ c. search needs) returns)
