@@ -5,6 +5,7 @@ pub mod SlotTexts
 pub mod SlotsLeft
 pub mod HeldTexts
 pub mod SavedLines
+pub mod Compared
 pub mod SpreadBits
 pub mod StripsSaid
 pub mod SlotsSaid

@@ -14,8 +14,8 @@ use Rattle.format.specs.Good.{goodSystems, good}
 use Rattle.format.specs.Masks.{System, Mask, nothing, mask}
 use Rattle.format.specs.Saved.{systemText, heldText, lineOf}
 use Rattle.format.specs.Text.{dash, lineFeed, digitChar, decimal}
+use Rattle.saved.specs.Lines.{textFrom}
 use Rattle.saved.specs.Saying.{issueSaid}
-use Rattle.saved.proofs.MasksSaid.{textFrom}
 
 -- ---- a dash or an issue
 

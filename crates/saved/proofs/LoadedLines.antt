@@ -4,21 +4,25 @@ use mathlib.Core.Bool.{Bool, true, false, cond, _&&_, false≢true}
 use mathlib.Core.List.{List, []}
 use Prim.Native.Nat.{ℕ}
 use lib.Dec.{eqb}
+use lib.ListN.{replicate}
 use borrow.Author.Tests.{eqb-true}
 use Rattle.format.proofs.Sames.{sameList-sound, sameList-refl, eqb-refl}
 use Rattle.format.proofs.SavedForm.{load-line, line-load}
 use Rattle.format.specs.declared.Refusal.the-variants.{Value}
 use Rattle.format.specs.Good.{good}
-use Rattle.format.specs.Masks.{Held}
+use Rattle.format.specs.Masks.{Held, nothing}
 use Rattle.format.specs.Same.{sameList}
 use Rattle.format.specs.Saved as Saved
 use Rattle.format.specs.Saved.{lineOf, heldFrom, loaded, unloaded, load, doneLoading, heldLoaded}
 use Rattle.format.specs.Text.{fieldsFrom}
 use Rattle.holding.proofs.Pictured.{mask-picture, sound-picture, picture-sound}
 use Rattle.holding.specs.declared.Holding.{Holding}
+use Rattle.holding.specs.declared.Outline.{Outline}
+use Rattle.holding.specs.Outlines.{outlineOf}
 use Rattle.holding.specs.Pictures.{pictureOf, maskOf, sound}
-use Rattle.saved.specs.declared.LoadAnswer.the-variants.{Loaded}
-use Rattle.saved.specs.Loads.{loadingBy, doneLoaded}
+use Rattle.saved.specs.declared.LoadAnswer.the-variants.{Loaded, Refused}
+use Rattle.saved.specs.Loads.{loadingOf, loadingBy, doneLoaded}
+use Rattle.saved.proofs.MasksSaid.{empty-whole}
 
 -- a line that is loaded to nothing is refused with 12
 not-loaded : (line : List ℕ) → ((held : Held) → load line ≡ loaded held → ⊥) → load line ≡ unloaded Value
@@ -53,6 +57,12 @@ module _ (line : List ℕ) (h : Holding) (would : (held : Held) → good held �
       let sounds = picture-sound h on in
       let loads : load line ≡ loaded (maskOf h) = ap load (sym (sameList-sound eqb eqb-true (lineOf (maskOf h)) line same)) ∙ load-line (maskOf h) (sounds .0) in
       ap loadingBy loads ∙ ap (λ (g : Holding). record { answer = Loaded; holding = g }) (sounds .1)
+
+-- the empty holding in parts beside a refusal
+pub is-refused : (line : List ℕ) → load line ≡ unloaded Value → {o : Outline} → o ≡ outlineOf (pictureOf nothing)
+    → loadingOf (record { answer = Refused Value; outline = o }) (replicate 5 0) (replicate 64 0) ≡ loadingBy (load line)
+unfolding loadingBy
+is-refused line off empty = ap (λ (h : Holding). record { answer = Refused Value; holding = h }) (empty-whole empty) ∙ sym (ap loadingBy off)
 
 -- ---- what the code answers is the paper's answer
 

@@ -1,26 +1,25 @@
 -- The longest line of a sound holding. Assumes nothing.
 use mathlib.Core.Path.{_≡_, refl, ap, _∙_}
-use mathlib.Core.Bool.{Bool, true, false, cond, _&&_}
-use mathlib.Core.List.{flatMap}
+use mathlib.Core.Bool.{Bool, true, false, cond}
+use mathlib.Core.List.{[], _∷_, flatMap}
 use Prim.Native.Nat.{ℕ, zero, suc, _+_, _-_, _*_, _/_, _^_, _≤_, _<_}
 use native.Mathlib.Nat.{mul-le-mul-left}
 use native.Mathlib.Omega.{arith}
 use lib.Count.{ones, ones-le}
-use lib.Dec.{eqb, ltb}
+use lib.Dec.{eqb}
 use lib.ListN.{length, drop, length-append}
-use borrow.Author.Tests.{ltb-true}
-use Rattle.format.proofs.Sames.{and-true}
 use Rattle.format.specs.Saved.{systemText, lineOf}
-use Rattle.holding.proofs.SoundTested.{sound-tested}
+use Rattle.format.specs.Text.{dash, decimal}
 use Rattle.holding.specs.declared.Holding.{Holding}
+use Rattle.holding.specs.Outlines.{outlineOf}
 use Rattle.holding.specs.Pictures.{maskOf, sound}
-use Rattle.holding.specs.Testing.{tested}
 use Rattle.text.proofs.LastDigits.{short}
 use Rattle.text.proofs.Values.{decimal-long}
 use Rattle.saved.specs.declared.systems.Slot.{Slot}
+use Rattle.saved.specs.Lines.{lineFront}
 use Rattle.saved.specs.Slots.{slotAt, systemIn, systemsFrom, cellCount, cellLong, systemLong}
-use Rattle.saved.proofs.HeldTexts.{nothing-text, mask-long, line-long}
-use Rattle.saved.proofs.SlotsLeft.{SlotsLeft, all-slots, few-slots, small, slot-passed, id-few, next-text, next-long, no-text}
+use Rattle.saved.proofs.HeldTexts.{issue-few, line-pieces}
+use Rattle.saved.proofs.SlotsLeft.{SlotsLeft, all-slots, few-slots, low, small, slot-passed, id-few, next-text, next-long, no-text}
 
 -- four digits for each satellite, or a dash
 cell-most : (n k : ℕ) → n ≤ 16 * k → cellLong n ≤ 4 * k + 1
@@ -44,6 +43,10 @@ module _ {h : Holding} {i n : ℕ} (l : SlotsLeft h i n) (more : i < h .count) w
       let s = slotAt h i in
       omega (arith, short (s .id) (omega (arith, id-few l more)), cell-most (cellCount s) (ones (s .satellites)) (cells-most s (small l more)))
 
+  -- with 40 satellites
+  pub piece-most : {s : Slot} → s ≡ slotAt h i → length (systemText (systemIn s (drop n (h .strips)))) ≤ 182
+  piece-most is = rw is (omega (arith, next-long l more, system-most, ones-le 40 (slotAt h i .satellites) (low l more)))
+
 -- the systems that are left
 systems-most : (k : ℕ) {h : Holding} {i n : ℕ} → SlotsLeft h i n → h .count ≡ i + k → length (flatMap systemText (systemsFrom h i n)) ≤ 22 * k + 4 * (64 - n)
 systems-most zero l e = omega (arith, ap length (no-text l (omega arith)))
@@ -55,19 +58,17 @@ systems-most (suc k) {h} {i} {n} l e =
     let parts : length (flatMap systemText (systemsFrom h i n)) ≡ length text + length rest = ap length (next-text l more) ∙ length-append text rest in
     omega (arith, parts, next-long l more, system-most l more, slot-passed l more .few, systems-most k (slot-passed l more) (omega arith))
 
--- the issue has 4 bits
-issue-few : (h : Holding) → sound h ≡ true → h .held ≡ true → h .iod < 16
-unfolding tested
-issue-few h e on =
-    let first = and-true (cond (h .held) (ltb (h .iod) 16) (eqb (h .iod) 0 && eqb (h .count) 0)) _ (sound-tested h e) .0 in
-    ltb-true (h .iod) 16 (rw on at first)
-
--- three characters around it, two digits of the issue, five systems and 64 satellites
-pub line-most : (h : Holding) → sound h ≡ true → length (lineOf (maskOf h)) ≤ 371
-line-most h e = go (h .held) refl
+-- letter, tab and two digits of the issue
+pub front-most : (h : Holding) → sound h ≡ true → length (lineFront (outlineOf h)) ≤ 4
+unfolding lineFront
+front-most h e = omega (arith, go (h .held) refl)
   where
-    go : (held : Bool) → h .held ≡ held → length (lineOf (maskOf h)) ≤ 371
-    go false off = omega (arith, line-long (maskOf h), ap length (nothing-text h off))
-    go true on =
-        let all = all-slots h e in
-        omega (arith, line-long (maskOf h), mask-long h on, decimal-long 1 (h .iod) (omega (arith, issue-few h e on)), few-slots all, systems-most (h .count) all (omega arith))
+    go : (held : Bool) → h .held ≡ held → length (cond held (decimal (h .iod)) (dash ∷ [])) ≤ 2
+    go false off = omega arith
+    go true on = decimal-long 1 (h .iod) (omega (arith, issue-few h e on))
+
+-- with five systems, 64 satellites and the line feed
+pub line-most : (h : Holding) → sound h ≡ true → length (lineOf (maskOf h)) ≤ 371
+line-most h e =
+    let all = all-slots h e in
+    omega (arith, simp length-append at (ap length (line-pieces h e)), front-most h e, few-slots all, systems-most (h .count) all (omega arith))

@@ -6,22 +6,25 @@ use Prim.Native.Nat.{ℕ, _+_, _*_, _≤_, _<_}
 use native.Mathlib.Nat.{add-zero}
 use native.Mathlib.Omega.{arith}
 use lib.Count.{ones}
-use lib.ListN.{length, getD, drop, length-append}
-use lib.Seq.{append-snoc, drop-at, drop-drop, getD-drop}
+use lib.ListN.{length, getD, drop, set, replicate, length-append}
+use lib.Seq.{append-snoc, drop-at, drop-drop, getD-drop, sets}
 use Rattle.bits.specs.BitLists.{number}
 use Rattle.format.proofs.MakesBack.{GoodSystem, good-system, few-systems}
 use Rattle.format.proofs.Sames.{and-true}
 use Rattle.format.specs.Good.{goodSystem, goodSystems, good}
-use Rattle.format.specs.Masks.{System, mask, satellites, cells}
+use Rattle.format.specs.Masks.{System, nothing, mask, satellites, cells}
 use Rattle.format.specs.Saved.{cellText, systemText}
 use Rattle.format.specs.Text.{tab, lineFeed, hexBits}
 use Rattle.holding.proofs.Built.{system-built}
 use Rattle.holding.proofs.Places.{ones-number}
 use Rattle.holding.proofs.PicturedStrips.{length-strips}
-use Rattle.holding.specs.Building.{withStrips, withSystem}
+use Rattle.holding.specs.Building.{onesIn, withStrips, withSystem}
 use Rattle.holding.specs.declared.Holding.{Holding}
-use Rattle.holding.specs.Pictures.{stripsOf, pictureOf}
+use Rattle.holding.specs.declared.Outline.{Outline}
+use Rattle.holding.specs.Outlines.{outlineOf, wholeOf}
+use Rattle.holding.specs.Pictures.{filled, stripsOf, pictureOf}
 use Rattle.saved.specs.declared.systems.Slot.{Slot}
+use Rattle.saved.specs.Lines.{textFrom}
 use Rattle.saved.specs.Saying.{slotSaid, stripsSaid}
 use Rattle.saved.specs.Slots.{systemLong}
 use Rattle.saved.proofs.SlotsSaid.{slotOf, slot-said, cells-said, long-said, strips-said}
@@ -30,10 +33,6 @@ use Rattle.saved.proofs.StripsSaid.{length-said}
 -- the picture of a mask with an issue and some systems
 abbrev pub maskWith : ℕ → List System → Holding
 maskWith iod ss = pictureOf (mask (record { iod = iod; systems = ss }))
-
--- a line from the first of some systems on
-abbrev pub textFrom : List System → List ℕ
-textFrom ss = flatMap systemText ss ++ (lineFeed ∷ [])
 
 -- a holding with a slot more, whose cell mask begins a text
 abbrev pub withSlot : Holding → Slot → List ℕ → Holding
@@ -150,16 +149,28 @@ module _ {line : List ℕ} {iod : ℕ} {ss : List System} {h : Holding} {place :
 
 -- ---- what holds of any line, and what of the line of a good mask
 
-pub record Building (line : List ℕ) (iod at : ℕ) (h : Holding) (place : ℕ) : Type 0 where
-  pub slots : h .count ≤ 5
-  pub satellites : h .nsat ≤ 64
-  pub cells : h .ncell ≤ 1024 * h .count
-  pub near : place ≤ at + 5000 * h .count
-  pub says : (ss : List System) → goodSystems [] ss ≡ true → drop at line ≡ textFrom ss → SystemsLeft line iod ss h place
+-- built so far: an outline, masks and strips
+pub record Building (line : List ℕ) (iod at : ℕ) (o : Outline) (sats strips : List ℕ) (place : ℕ) : Type 0 where
+  pub slots : o .count ≤ 5
+  pub satellites : o .nsat ≤ 64
+  pub cells : o .ncell ≤ 1024 * o .count
+  pub near : place ≤ at + 5000 * o .count
+  pub says : (ss : List System) → goodSystems [] ss ≡ true → drop at line ≡ textFrom ss → SystemsLeft line iod ss (wholeOf o sats strips) place
 
-pub none-built : (line : List ℕ) (iod at : ℕ) {h : Holding} → h ≡ maskWith iod [] → Building line iod at h at
-unfolding pictureOf satellites cells flatMap
-none-built line iod at is =
+-- the empty one
+pub empty-whole : {o : Outline} → o ≡ outlineOf (pictureOf nothing) → wholeOf o (replicate 5 0) (replicate 64 0) ≡ pictureOf nothing
+unfolding pictureOf
+empty-whole empty = ap (λ (o : Outline). wholeOf o (replicate 5 0) (replicate 64 0)) empty
+
+-- and with an issue
+abbrev pub issued : ℕ → Outline → Outline
+issued iod o = record { held = true; iod = iod; count = o .count; nsat = o .nsat; ids = o .ids; flags = o .flags; signals = o .signals; ncell = o .ncell }
+
+pub none-built : (line : List ℕ) (iod at : ℕ) {o : Outline} {sats strips : List ℕ} → o ≡ outlineOf (pictureOf nothing) → sats ≡ replicate 5 0 → strips ≡ replicate 64 0
+    → Building line iod at (issued iod o) sats strips at
+unfolding pictureOf filled satellites cells flatMap
+none-built line iod at {o} {sats} {strips} empty masks none =
+    let is : wholeOf (issued iod o) sats strips ≡ maskWith iod [] = rw (masks, none) (ap (λ (o : Outline). wholeOf (issued iod o) (replicate 5 0) (replicate 64 0)) empty) in
     record {
       slots = omega (arith, ap (λ (h : Holding). h .count) is);
       satellites = omega (arith, ap (λ (h : Holding). h .nsat) is);
@@ -168,18 +179,38 @@ none-built line iod at is =
       says = λ ss fine text. record { before = []; rest = ss; all = refl; fit = fine; picture = is; text = text };
     }
 
-module _ {line : List ℕ} {iod at : ℕ} {h : Holding} {place : ℕ} (b : Building line iod at h place) where
-  pub next-built : h .count < 5 → getD line place 0 ≡ tab → {slot : Slot} → slot ≡ slotSaid (drop place line) → h .nsat + ones (slot .satellites) ≤ 64
-      → {made : Holding} → made ≡ withSlot h slot (drop (place + 21) line) → made .ncell ≤ h .ncell + 1024 → {long : ℕ} → long ≡ systemLong slot → long ≤ 5000
-      → Building line iod at made (place + long)
+-- with a slot more, of some satellites and cells
+abbrev pub slotted : Outline → Slot → ℕ → ℕ → Outline
+slotted o s n cells =
+    record {
+      held = o .held;
+      iod = o .iod;
+      count = o .count + 1;
+      nsat = o .nsat + n;
+      ids = set (o .ids) (o .count) (s .id);
+      flags = set (o .flags) (o .count) (s .flag);
+      signals = set (o .signals) (o .count) (s .signals);
+      ncell = o .ncell + cells;
+    }
+
+module _ {line : List ℕ} {iod at : ℕ} {o : Outline} {sats strips : List ℕ} {place : ℕ} (b : Building line iod at o sats strips place) where
+  -- the strips that are said of a slot
+  abbrev said : Slot → List ℕ
+  said s = stripsSaid s (ones (s .satellites)) (hexBits (drop (place + 21) line))
+
+  slotted-is : (s : Slot) {n cells : ℕ} {after : List ℕ} → n ≡ ones (s .satellites) → cells ≡ onesIn (said s) → after ≡ sets strips (o .nsat) (said s)
+      → wholeOf (slotted o s n cells) (set sats (o .count) (s .satellites)) after ≡ withSlot (wholeOf o sats strips) s (drop (place + 21) line)
   unfolding withSystem withStrips
-  next-built room here {slot} e few {made} is some {long} size short =
-      let count : made .count ≡ h .count + 1 = ap (λ (g : Holding). g .count) is in
-      let nsat : made .nsat ≡ h .nsat + ones (slot .satellites) = ap (λ (g : Holding). g .nsat) is ∙ rw (length-said slot (ones (slot .satellites)) (hexBits (drop (place + 21) line))) in
+  slotted-is s count sum stored = rw (count, sum, stored, length-said s (ones (s .satellites)) (hexBits (drop (place + 21) line)))
+
+  pub next-built : o .count < 5 → getD line place 0 ≡ tab → {s : Slot} → s ≡ slotSaid (drop place line) → {n : ℕ} → n ≡ ones (s .satellites) → o .nsat + n ≤ 64
+      → {cells : ℕ} {after : List ℕ} → ((cells ≡ onesIn (said s)) × (cells ≤ 1024)) × (after ≡ sets strips (o .nsat) (said s)) → {long : ℕ} → (long ≡ systemLong s) × (long ≤ 5000)
+      → Building line iod at (slotted o s n cells) (set sats (o .count) (s .satellites)) after (place + long)
+  next-built room here {s} e count few stored size =
       record {
-        slots = omega (arith, count);
-        satellites = omega (arith, nsat);
-        cells = omega (arith, count, b .cells);
-        near = omega (arith, count, b .near);
-        says = λ ss fine text. one-built (b .says ss fine text) here room e is size;
+        slots = omega arith;
+        satellites = omega arith;
+        cells = omega (arith, b .cells, stored .0 .1);
+        near = omega (arith, b .near, size .1);
+        says = λ ss fine text. one-built (b .says ss fine text) here room e (slotted-is s count (stored .0 .0) (stored .1)) (size .0);
       }

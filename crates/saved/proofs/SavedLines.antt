@@ -20,6 +20,10 @@ use Rattle.holding.specs.declared.Holding.{Holding}
 use Rattle.holding.specs.Pictures.{maskOf, sound, lentBy}
 use Rattle.saved.specs.Saves.{savingBy, doneBy}
 
+-- a text from the first byte on
+pub text-over : (text buffer : List ℕ) → length text ≤ length buffer → sets buffer 0 text ≡ text ++ drop (length text) buffer
+text-over text buffer long = sets-eq text buffer 0 (rw zero-add long) ∙ rw zero-add
+
 module _ (h : Holding) (buffer : List ℕ) where
   abbrev line : List ℕ
   line = lineOf (maskOf h)
@@ -40,9 +44,6 @@ module _ (h : Holding) (buffer : List ℕ) where
     pub finds-room : length line ≤ length buffer → saving (lentBy h) buffer ≡ saved (length line)
     unfolding saving lentBy isHolding heldIn verdict
     finds-room long = rw (on, holds, le-leb (length line) (length buffer) long)
-
-    pub line-over : length line ≤ length buffer → sets buffer 0 line ≡ line ++ drop (length line) buffer
-    line-over long = sets-eq line buffer 0 (rw zero-add long) ∙ rw zero-add
 
     loads : load (take (length line) (bufferAfter (saved (length line)) (maskOf h) buffer)) ≡ loaded (maskOf h)
     unfolding bufferAfter

@@ -1,5 +1,5 @@
 -- The slots of a sound holding one after the other: what each may be read by, the systems and the texts that are left. Assumes nothing.
-use mathlib.Core.Path.{_≡_, sym, ap, _∙_}
+use mathlib.Core.Path.{_≡_, refl, sym, ap, _∙_}
 use mathlib.Core.Bool.{true, cond, _&&_}
 use mathlib.Core.List.{List, [], _∷_, _++_, flatMap}
 use Prim.Native.Nat.{ℕ, suc, _+_, _-_, _*_, _^_, _≤_, _<_}
@@ -24,6 +24,7 @@ use Rattle.holding.specs.declared.Holding.{Holding}
 use Rattle.holding.specs.Pictures.{systemsOf, sound}
 use Rattle.holding.specs.Testing.{slotFits, slotsFit, tested}
 use Rattle.text.proofs.Stores.{Wrote, Left, all-left, part-wrote, left-room, none-left}
+use Rattle.saved.specs.declared.systems.Slot.{Slot}
 use Rattle.saved.specs.Slots.{slotAt, systemIn, systemsFrom, systemLong}
 use Rattle.saved.proofs.SlotTexts.{system-long}
 
@@ -99,6 +100,21 @@ module _ {h : Holding} {i n : ℕ} (l : SlotsLeft h i n) where
     pub next-long : length (systemText (systemIn (slotAt h i) (drop n (h .strips)))) ≡ systemLong (slotAt h i)
     next-long = system-long (slotAt h i) (drop n (h .strips)) low small strips-room
 
+    -- the same of a slot that was read, and a number of satellites that was counted
+    module _ {s : Slot} (is : s ≡ slotAt h i) where
+      pub read-low : s .satellites < 2 ^ 40
+      read-low = rw is low
+
+      pub read-few : n + ones (s .satellites) ≤ 64
+      read-few = rw is (slot-passed .few)
+
+      module _ {k : ℕ} (count : k ≡ ones (s .satellites)) where
+        pub read-passed : SlotsLeft h (i + 1) (n + k)
+        read-passed = rw (count, is) slot-passed
+
+        pub read-text : flatMap systemText (systemsFrom h i n) ≡ systemText (systemIn s (drop n (h .strips))) ++ flatMap systemText (systemsFrom h (i + 1) (n + k))
+        read-text = rw (count, is) next-text
+
   -- none is left
   pub no-text : h .count ≤ i → flatMap systemText (systemsFrom h i n) ≡ []
   unfolding flatMap systemsOf
@@ -146,16 +162,13 @@ pub none-written : (before : List ℕ) (start : ℕ) (h : Holding) → sound h �
 none-written before start h e = record { slots = all-slots h e; text = all-left before start (flatMap systemText (systemsFrom h 0 0)) }
 
 module _ {before : List ℕ} {start : ℕ} {h : Holding} {line : List ℕ} {place n i : ℕ} (l : TextLeft before start h line place n i) where
-  pub one-room : i < h .count → start + length (flatMap systemText (systemsFrom h 0 0)) ≤ length before
-      → place + length (systemText (systemIn (slotAt h i) (drop n (h .strips)))) ≤ length line
-  one-room more room =
-      let text = systemText (systemIn (slotAt h i) (drop n (h .strips))) in
-      let rest = flatMap systemText (systemsFrom h (i + 1) (n + ones (slotAt h i .satellites))) in
-      omega (arith, left-room (l .text) room, ap length (next-text (l .slots) more) ∙ length-append text rest)
+  module _ (more : i < h .count) {s : Slot} (is : s ≡ slotAt h i) where
+    pub one-room : start + length (flatMap systemText (systemsFrom h 0 0)) ≤ length before → place + length (systemText (systemIn s (drop n (h .strips)))) ≤ length line
+    one-room room = omega (arith, left-room (l .text) room, simp length-append at (ap length (read-text (l .slots) more is refl)))
 
-  pub one-written : i < h .count → {after : List ℕ} {end : ℕ} → Wrote line place (systemText (systemIn (slotAt h i) (drop n (h .strips)))) after end
-      → TextLeft before start h after end (n + ones (slotAt h i .satellites)) (i + 1)
-  one-written more w = record { slots = slot-passed (l .slots) more; text = part-wrote (l .text) (next-text (l .slots) more) w }
+    pub one-written : {after : List ℕ} {end : ℕ} → Wrote line place (systemText (systemIn s (drop n (h .strips)))) after end → {k : ℕ} → k ≡ ones (s .satellites)
+        → TextLeft before start h after end (n + k) (i + 1)
+    one-written w count = record { slots = read-passed (l .slots) more is count; text = part-wrote (l .text) (read-text (l .slots) more is count) w }
 
   pub all-written : h .count ≤ i → Wrote before start (flatMap systemText (systemsFrom h 0 0)) line place
   all-written all = none-left (l .text) (no-text (l .slots) all)

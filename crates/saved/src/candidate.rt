@@ -1,24 +1,28 @@
 // The holding that a line would say (document 01, "Saved mask and listing"), if it is the line of one. Of any other line it
-// makes something, which `load` tests: so no field is tested here, and a place past the end says 0.
+// makes something, which `load_parts` tests: so no field is tested here, and a place past the end says 0. It is made in
+// parts, its masks and strips in arrays that are lent: by value it would be a copy for each function that it comes through.
 ghost use mathlib.Core.Path.{_≡_};
 ghost use mathlib.Core.Bool.{true};
-ghost use mathlib.Core.List.{List, [], _∷_, _++_, flatMap};
+ghost use mathlib.Core.List.{List, []};
 ghost use Prim.Native.Nat.{_+_, _^_, _≤_, _<_};
 ghost use lib.Count.{ones};
-ghost use lib.ListN.{drop};
+ghost use lib.ListN.{drop, replicate};
 ghost use lib.Seq.{sets};
 ghost use Rattle.format.specs.Good.{goodSystems, good};
 ghost use Rattle.format.specs.Masks.{System, Held, mask};
-ghost use Rattle.format.specs.Saved.{systemText, lineOf};
-ghost use Rattle.format.specs.Text.{lineFeed, hexBits};
-ghost use Rattle.holding.specs.Building.{onesIn, withStrips, withSystem};
+ghost use Rattle.format.specs.Saved.{lineOf};
+ghost use Rattle.format.specs.Text.{hexBits};
+ghost use Rattle.holding.specs.Building.{onesIn};
+ghost use Rattle.holding.specs.Outlines.{wholeOf};
 ghost use Rattle.holding.specs.Pictures.{pictureOf};
+ghost use Rattle.saved.specs.Lines.{textFrom};
 ghost use Rattle.saved.specs.Saying.{slotSaid, stripSaid, stripsSaid, issueSaid};
 use crate::characters::char_at;
 use crate::characters::spread_at;
 use crate::systems;
 use crate::systems::Slot;
 use holding::Holding;
+use holding::Outline;
 use holding::set_places;
 use text::DASH;
 use text::TAB;
@@ -102,36 +106,41 @@ fn strips_said(
     cells
 }
 
-// With one system more, whose cell mask stands at a place.
-fn with_slot(mut h: Holding, s: Slot, line: &[u8], at: usize) -> Holding
-    requires { ⌜ (h .count < 5) × (h .nsat + ones (s .satellites) ≤ 64) × (h .ncell < 2 ^ 32) × (at < 2 ^ 32) ⌝ }
-    ensures { λ r. ⌜ r ≡ withSystem (withStrips h (stripsSaid s (ones (s .satellites)) (hexBits (drop at (now (line .entry)))))) (s .id) (s .satellites) (s .signals) (s .flag) ⌝ }
-    ensures { λ r. ⌜ r .ncell ≤ h .ncell + 1024 ⌝ }
+// The mask with an issue and the systems from a place on, as far as a holding has room for them: its outline, and its masks
+// and strips in arrays of zeros.
+fn mask_said(
+    iod: u8,
+    line: &[u8],
+    at: usize,
+    satellites: &mut [u64; Holding::SYSTEMS],
+    strips: &mut [u16; Holding::SATELLITES],
+) -> Outline
+    requires { ⌜ (at < 2 ^ 16) × (now satellites ≡ replicate 5 0) × (now strips ≡ replicate 64 0) ⌝ }
+    ensures { λ r. ⌜ ((ss : List System) → goodSystems [] ss ≡ true → drop at (now (line .entry)) ≡ textFrom ss → wholeOf r (now (satellites .exit)) (now (strips .exit)) ≡ pictureOf (mask (record { iod = iod; systems = ss }))) ⌝ }
 {
-    let first = h.nsat;
-    h.ncell += strips_said(&mut h.strips, first, s, line, at);
-    h.nsat = first + set_places::count(s.satellites);
-    h.with_system(s.id, s.satellites, s.signals, s.flag)
-}
-
-// The mask with an issue and the systems from a place on, as far as a holding has room for them.
-fn mask_said(iod: u8, line: &[u8], at: usize) -> Holding
-    requires { ⌜ at < 2 ^ 16 ⌝ }
-    ensures { λ r. ⌜ ((ss : List System) → goodSystems [] ss ≡ true → drop at (now (line .entry)) ≡ flatMap systemText ss ++ (lineFeed ∷ []) → r ≡ pictureOf (mask (record { iod = iod; systems = ss }))) ⌝ }
-{
-    let mut h = Holding::empty();
+    let empty = Holding::empty();
+    let mut h = empty.outline();
     h.held = true;
     h.iod = iod;
     let mut place = at;
-    while h.count < Holding::SYSTEMS {
+    while (h.count as usize) < Holding::SYSTEMS {
         if char_at(line, place) != TAB {
             return h;
         }
         let s = slot_said(line, place);
-        if h.nsat + set_places::count(s.satellites) > Holding::SATELLITES {
+        let i = h.count as usize;
+        let first = h.nsat as usize;
+        let n = set_places::count(s.satellites);
+        if first + n > Holding::SATELLITES {
             return h;
         }
-        h = with_slot(h, s, line, place + CELLS);
+        h.ncell += strips_said(strips, first, s, line, place + CELLS);
+        h.nsat = (first + n) as u8;
+        h.ids[i] = s.id;
+        satellites[i] = s.satellites;
+        h.signals[i] = s.signals;
+        h.flags[i] = s.flag;
+        h.count = (i + 1) as u8;
         place += systems::system_long(s);
     }
     h
@@ -152,14 +161,21 @@ fn issue_said(line: &[u8]) -> u8
     ((10 * tens + said(second)) % 256) as u8
 }
 
-// A dash, or an issue and systems.
-pub fn candidate(line: &[u8]) -> Holding
-    ensures { λ r. ⌜ ((held : Held) → good held ≡ true → lineOf held ≡ now (line .entry) → r ≡ pictureOf held) ⌝ }
+// A dash, or an issue and systems. Its masks and strips go into the lent arrays, whatever stood there.
+pub fn candidate(
+    line: &[u8],
+    satellites: &mut [u64; Holding::SYSTEMS],
+    strips: &mut [u16; Holding::SATELLITES],
+) -> Outline
+    ensures { λ r. ⌜ ((held : Held) → good held ≡ true → lineOf held ≡ now (line .entry) → wholeOf r (now (satellites .exit)) (now (strips .exit)) ≡ pictureOf held) ⌝ }
 {
+    *satellites = [0; Holding::SYSTEMS];
+    *strips = [0; Holding::SATELLITES];
     if char_at(line, ISSUE) == DASH {
-        return Holding::empty();
+        let empty = Holding::empty();
+        return empty.outline();
     }
     let iod = issue_said(line);
     let at = ISSUE + number::decimals(iod as u64);
-    mask_said(iod, line, at)
+    mask_said(iod, line, at, satellites, strips)
 }

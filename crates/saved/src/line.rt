@@ -1,4 +1,4 @@
-// The line of a sound holding: how long it is, and its text.
+// The line of a sound holding (document 01, "Saved mask and listing"): how long it is, its text, and whether a line is it.
 ghost use mathlib.Core.Path.{_≡_};
 ghost use mathlib.Core.Bool.{true};
 ghost use mathlib.Core.List.{List, flatMap};
@@ -7,9 +7,10 @@ ghost use lib.Dec.{eqb};
 ghost use lib.ListN.{length};
 ghost use lib.Seq.{sets};
 ghost use Rattle.format.specs.Same.{sameList};
-ghost use Rattle.format.specs.Saved.{systemText, heldText, lineOf};
+ghost use Rattle.format.specs.Saved.{systemText, lineOf};
 ghost use Rattle.holding.specs.Outlines.{wholeOf};
 ghost use Rattle.holding.specs.Pictures.{maskOf, sound};
+ghost use Rattle.saved.specs.Lines.{lineFront, standsAt};
 ghost use Rattle.saved.specs.Slots.{Outlined, HasRoom, systemsFrom};
 use crate::systems;
 use holding::Holding;
@@ -32,7 +33,7 @@ fn systems_long(outline: Outline, satellites: &[u64; Holding::SYSTEMS]) -> usize
 {
     let mut long = 0;
     let mut i = 0;
-    while i < outline.count {
+    while i < outline.count as usize {
         long += systems::system_long(systems::slot_in(outline, satellites, i));
         i += 1;
     }
@@ -70,7 +71,7 @@ fn systems_text(
     let mut place = at;
     let mut from = 0;
     let mut i = 0;
-    while i < outline.count {
+    while i < outline.count as usize {
         let slot = systems::slot_in(outline, satellites, i);
         place = systems::system(line, place, slot, strips, from);
         from += set_places::count(slot.satellites);
@@ -79,26 +80,21 @@ fn systems_text(
     place
 }
 
-// A dash where nothing is held, else the issue and the systems.
-fn held_text(
-    line: &mut [u8],
-    at: usize,
-    outline: Outline,
-    satellites: &[u64; Holding::SYSTEMS],
-    strips: &[u16; Holding::SATELLITES],
-) -> usize
-    requires { ⌜ HasRoom (wholeOf outline (now satellites) (now strips)) (heldText (maskOf (wholeOf outline (now satellites) (now strips)))) at (now line) ⌝ }
-    ensures { λ r. ⌜ r ≡ at + length (heldText (maskOf (wholeOf outline (now (satellites .entry)) (now (strips .entry))))) ⌝ }
-    ensures { λ _. ⌜ now (line .exit) ≡ sets (now (line .entry)) at (heldText (maskOf (wholeOf outline (now (satellites .entry)) (now (strips .entry))))) ⌝ }
+// What comes before its systems: the letter, a tab, and a dash where nothing is held, else the issue.
+fn front_text(line: &mut [u8], outline: Outline) -> usize
+    requires { ⌜ length (lineFront outline) ≤ length (now line) ⌝ }
+    ensures { λ r. ⌜ r ≡ length (lineFront outline) ⌝ }
+    ensures { λ _. ⌜ now (line .exit) ≡ sets (now (line .entry)) 0 (lineFront outline) ⌝ }
 {
+    let first = put(line, 0, LETTER);
+    let second = put(line, first, TAB);
     if !outline.held {
-        return put(line, at, DASH);
+        return put(line, second, DASH);
     }
-    let from = number::number(line, at, outline.iod as u64);
-    systems_text(line, from, outline, satellites, strips)
+    number::number(line, second, outline.iod as u64)
 }
 
-// The line, from the first byte on.
+// The line, from the first byte on: a sound holding that holds nothing has no systems.
 pub fn line_text(
     line: &mut [u8],
     outline: Outline,
@@ -109,22 +105,19 @@ pub fn line_text(
     ensures { λ r. ⌜ r ≡ length (lineOf (maskOf (wholeOf outline (now (satellites .entry)) (now (strips .entry))))) ⌝ }
     ensures { λ _. ⌜ now (line .exit) ≡ sets (now (line .entry)) 0 (lineOf (maskOf (wholeOf outline (now (satellites .entry)) (now (strips .entry))))) ⌝ }
 {
-    let first = put(line, 0, LETTER);
-    let second = put(line, first, TAB);
-    let third = held_text(line, second, outline, satellites, strips);
-    put(line, third, LINE_FEED)
+    let first = front_text(line, outline);
+    let second = systems_text(line, first, outline, satellites, strips);
+    put(line, second, LINE_FEED)
 }
 
-// Whether two texts are the same.
-fn same(a: &[u8], b: &[u8]) -> bool
-    ensures { λ r. ⌜ r ≡ sameList eqb (now (a .entry)) (now (b .entry)) ⌝ }
+// Whether a text stands at a place of a line.
+fn stands(line: &[u8], at: usize, text: &[u8]) -> bool
+    requires { ⌜ at + length (now text) ≤ length (now line) ⌝ }
+    ensures { λ r. ⌜ r ≡ standsAt (now (line .entry)) at (now (text .entry)) ⌝ }
 {
-    if a.len() != b.len() {
-        return false;
-    }
     let mut i = 0;
-    while i < a.len() {
-        if a[i] != b[i] {
+    while i < text.len() {
+        if line[at + i] != text[i] {
             return false;
         }
         i += 1;
@@ -132,13 +125,12 @@ fn same(a: &[u8], b: &[u8]) -> bool
     true
 }
 
-// The longest line of a sound holding: letter, tab, an issue of two digits and the line feed; for each system what is fixed, its
-// ID and a dash; for each satellite a bit of a cell mask for each signal.
-const LONGEST: usize = 5
-    + (systems::FIXED + 2) * Holding::SYSTEMS
-    + systems::SIGNAL_DIGITS * Holding::SATELLITES;
+// A piece of a line is the text of one system at most: what is fixed, its ID and a dash; for each place of its satellite mask a
+// bit of a cell mask for each signal.
+const PIECE: usize = systems::FIXED + 2 + systems::SIGNAL_DIGITS * Holding::SATELLITE_MASK;
 
-// Whether a line is a sound holding's own.
+// Whether a line is a sound holding's own, piece by piece: the text of one system is made at a time, so that no room for a
+// whole line is needed.
 pub fn is_own(
     outline: Outline,
     satellites: &[u64; Holding::SYSTEMS],
@@ -148,7 +140,25 @@ pub fn is_own(
     requires { ⌜ sound (wholeOf outline (now satellites) (now strips)) ≡ true ⌝ }
     ensures { λ r. ⌜ r ≡ sameList eqb (lineOf (maskOf (wholeOf outline (now (satellites .entry)) (now (strips .entry))))) (now (line .entry)) ⌝ }
 {
-    let mut own = [0u8; LONGEST];
-    let n = line_text(&mut own, outline, satellites, strips);
-    same(&own[..n], line)
+    if line.len() != line_long(outline, satellites) {
+        return false;
+    }
+    let mut piece = [0u8; PIECE];
+    let mut place = front_text(&mut piece, outline);
+    if !stands(line, 0, &piece[..place]) {
+        return false;
+    }
+    let mut from = 0;
+    let mut i = 0;
+    while i < outline.count as usize {
+        let slot = systems::slot_in(outline, satellites, i);
+        let long = systems::system(&mut piece, 0, slot, strips, from);
+        if !stands(line, place, &piece[..long]) {
+            return false;
+        }
+        place += long;
+        from += set_places::count(slot.satellites);
+        i += 1;
+    }
+    line[place] == LINE_FEED
 }

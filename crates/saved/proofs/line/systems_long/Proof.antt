@@ -36,6 +36,7 @@ systems-long-spec =
     Inv-loop
     μ-loop
     (λ c strips sounds. none-long _ sounds)
+    (λ c. search needs)
     (λ c κs. omega (arith, few-slots (one (c .before .before) .slots)))
     (λ c κs. search needs)
     (λ c. omega (arith, long-few (one (c .before .before .before .before)), c .system-long .ensures .1))

@@ -1,17 +1,14 @@
 -- `saved::line::systems_text` meets its contract. The loop's invariant: what is written, and the slots that are left. Assumes nothing.
-use mathlib.Core.Path.{_≡_, ap}
 use Prim.Native.Nat.{_+_, _-_, _≤_}
 use native.Mathlib.Omega.{arith}
 use borrow.Author.Needs.{needs}
 use lib.Count.{ones}
-use lib.ListN.{length, drop}
+use lib.ListN.{drop}
 use Rattle.format.specs.Saved.{systemText}
-use Rattle.holding.specs.declared.Holding.{Holding}
 use Rattle.holding.specs.Outlines.{wholeOf}
 use Rattle.text.proofs.Stores.{wrote, told}
-use Rattle.saved.specs.declared.systems.Slot.{Slot}
-use Rattle.saved.specs.Slots.{slotAt, systemIn}
-use Rattle.saved.proofs.SlotsLeft.{few-slots, strips-there, low, slot-passed, TextLeft, none-written, one-room, one-written, all-written}
+use Rattle.saved.specs.Slots.{systemIn}
+use Rattle.saved.proofs.SlotsLeft.{few-slots, strips-there, read-low, read-few, TextLeft, none-written, one-room, one-written, all-written}
 use Rattle.saved.proofs.line.systems_text.Statement.{statement}
 use Rattle.saved.proofs.line.systems_text.Tie as tie
 
@@ -26,34 +23,22 @@ module _ (c : tie.After-slot-in Inv-loop μ-loop) where
   abbrev at : tie.At-loop Inv-loop μ-loop
   at = c .before .before .before
 
-  abbrev h : Holding
-  h = let x = at .before .before .args in wholeOf (x .outline) (x .satellites .now) (x .strips .now)
-
-  sats : c .slot-in .result .satellites ≡ slotAt h (at .loop .i) .satellites
-  sats = ap (λ (s : Slot). s .satellites) (c .slot-in .ensures)
-
-  text : systemText (systemIn (c .slot-in .result) (drop (at .loop .from) (h .strips))) ≡ systemText (systemIn (slotAt h (at .loop .i)) (drop (at .loop .from) (h .strips)))
-  text = ap (λ (s : Slot). systemText (systemIn s (drop (at .loop .from) (h .strips)))) (c .slot-in .ensures)
-
-  few : at .loop .from + ones (slotAt h (at .loop .i) .satellites) ≤ 64
-  few = slot-passed (at .loop .inv .slots) (omega arith) .few
+  few : at .loop .from + ones (c .slot-in .result .satellites) ≤ 64
+  few = read-few (at .loop .inv .slots) (omega arith) (c .slot-in .ensures)
 
 system-requires : tie.Need-system-requires Inv-loop μ-loop
 system-requires c κs =
     let s = c .before .before in
-    let l = at s .loop .inv in (
-      omega (arith, sats s, low (l .slots) (omega arith)),
-      omega (arith, ap ones (sats s), few s, strips-there (l .slots)),
-      omega (arith, ap length (text s), one-room l (omega arith) (at s .before .before .pre .1)),
-    )
+    let l = at s .loop .inv in
+    (read-low (l .slots) (omega arith) (s .slot-in .ensures), omega (arith, few s, strips-there (l .slots)), one-room l (omega arith) (s .slot-in .ensures) (at s .before .before .pre .1))
 
 loop-again : tie.Need-loop-again Inv-loop μ-loop
 loop-again c =
     let y = c .before .before .before in
     let s = y .before .before .before in
     let l = at s .loop in
-    rw (c .count .ensures, sats s)
-    (one-written (l .inv) (omega arith) (rw (text s) at (wrote (l .line) (systemText (systemIn (s .slot-in .result) (drop (l .from) (h s .strips)))) (y .system .ensures))))
+    let text = systemText (systemIn (s .slot-in .result) (drop (l .from) (at s .before .before .args .strips .now))) in
+    one-written (l .inv) (omega arith) (s .slot-in .ensures) (wrote (l .line) text (y .system .ensures)) (c .count .ensures)
 
 pub systems-text-spec : {M : Type 1} → statement M
 systems-text-spec =
@@ -62,10 +47,11 @@ systems-text-spec =
     Inv-loop
     μ-loop
     (λ c. let s = c .before in none-written (s .args .line .now) (s .args .at) (wholeOf (s .args .outline) (s .args .satellites .now) (s .args .strips .now)) (s .pre .0))
+    (λ c. search needs)
     (λ c κs. omega (arith, few-slots (c .before .before .loop .inv .slots)))
     system-requires
     (λ c κs. search needs)
-    (λ c. let s = c .before .before .before .before .before .before in omega (arith, c .count .ensures, ap ones (sats s), few s))
+    (λ c. let s = c .before .before .before .before .before .before in omega (arith, c .count .ensures, few s))
     (λ c. omega (arith, few-slots (c .before .before .before .before .before .before .before .before .before .loop .inv .slots)))
     (λ c. omega arith)
     loop-again
