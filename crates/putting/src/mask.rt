@@ -92,7 +92,7 @@ pub fn put_systems(
     let mut behind = pen;
     let mut from = 0;
     let mut i = 0;
-    while i < outline.count {
+    while i < outline.count as usize {
         let slot = systems::slot_in(outline, satellites, i);
         behind = put_system(bytes, behind, slot, &all[from..]);
         from += set_places::count(slot.satellites);
@@ -112,7 +112,7 @@ pub fn mask_bits(outline: Outline, satellites: &[u64; Holding::SYSTEMS]) -> usiz
 {
     let mut bits = 0;
     let mut i = 0;
-    while i < outline.count {
+    while i < outline.count as usize {
         bits += FIXED + systems::cell_count(systems::slot_in(outline, satellites, i));
         i += 1;
     }

@@ -84,7 +84,7 @@ fn rows_right(
         return values_right(plan, s, rows, count);
     }
     let ids = outline.ids;
-    let n = outline.count;
+    let n = outline.count as usize;
     let body = plan.body;
     let shaped = Shaped { body, shape: s };
     rows_fit(&ids[..n], masks, strips, shaped, rows, count)
@@ -144,7 +144,7 @@ pub fn of_mask(
 {
     let head = asked.head;
     let start = asked.start;
-    if !mask_fits(head, outline.count, asked.count) {
+    if !mask_fits(head, outline.count as usize, asked.count) {
         return Writing::Refused(Refusal::Value);
     }
     let bits = MASK_FRONT + mask_bits(outline, satellites);

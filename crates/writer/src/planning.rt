@@ -50,7 +50,7 @@ fn selected(
         return Selected { word: ALL, told: 0 };
     }
     let ids = outline.ids;
-    let n = outline.count;
+    let n = outline.count as usize;
     marked(&ids[..n], masks, strips, cells, rows, asked.count)
 }
 
@@ -72,7 +72,13 @@ fn masked(
             return Planned::Never;
         }
         let chosen = selected(outline, masks, strips, layout.cells, asked, rows);
-        return Planned::Message(plan::flagged(head, layout, asked.start, chosen, outline.nsat));
+        return Planned::Message(plan::flagged(
+            head,
+            layout,
+            asked.start,
+            chosen,
+            outline.nsat as usize,
+        ));
     }
     if !plan::alone_fits(head) {
         return Planned::Never;

@@ -35,6 +35,7 @@ mask-bits-spec =
     Inv-loop
     μ-loop
     (λ c strips on. none-counted (wholeOf (c .args .outline) (c .args .satellites .now) strips) on)
+    (λ c. search needs)
     (λ c κs. omega (arith, few-slots (here (c .before .before) .slots)))
     (λ c κs. search needs)
     (λ c. omega (arith, c .cell-count .ensures .1))

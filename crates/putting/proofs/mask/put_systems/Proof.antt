@@ -37,6 +37,7 @@ put-systems-spec =
     Inv-loop
     μ-loop
     (λ c. let s = c .before .before in all-systems (wholeOf (s .args .outline) (s .args .satellites .now) (s .args .strips .now)) (s .pre .0) (s .pre .1))
+    (λ c. search needs)
     (λ c κs. omega (arith, few-slots (c .before .before .loop .inv .slots)))
     (λ c. omega (arith, c .before .before .before .before .loop .inv .slots .few))
     strips-inside

@@ -44,14 +44,14 @@ module _ (s : tie.Start) where
 returns : tie.Need-returns
 unfolding masked answered bytesAfter
 returns c =
-    let s = c .before .before .before .before in
+    let s = c .before .before .before .before .before in
     let wrong : fit s ≡ false = sym (c .before .mask-fits .ensures) ∙ not-true _ (c .if1 .taken) in
     rw (unfit (bits s) (s .args .bytes .now) (start s) wrong) (refl, refl)
 
 -- head and count fit
 module _ (c : tie.After-mask-bits) where
   abbrev st : tie.Start
-  st = c .before .before .before .before .before
+  st = c .before .before .before .before .before .before
 
   right : fit st ≡ true
   right = sym (c .before .before .mask-fits .ensures) ∙ not-false _ (c .before .if1 .left)
@@ -124,15 +124,15 @@ returns-3 c =
     let parts = mask-parts (holding s) (s .pre .0) (head s) (count s) (s .pre .1) (right (z x)) (start s) in
     rw (done (bits s) (s .args .bytes .now) (start s) (right (z x)) (inside x)) (
       ap Done (ap (λ (n : ℕ). start s + n) (sym (long (z x)))),
-      all-set (maskFields (holding s)) (front x) (s .args .bytes .now) (begins x) (λ k. z x .before .before .before .before .slice-known .given k .fits) (pens p) (inks p) (c .before .before .set .ensures)
+      all-set (maskFields (holding s)) (front x) (s .args .bytes .now) (begins x) (λ k. z x .before .before .before .before .before .slice-known .given k .fits) (pens p) (inks p) (c .before .before .set .ensures)
           ∙ ap₂ (setBytes (s .args .bytes .now)) m (sym parts),
     )
 
 pub of-mask-spec : {M : Type 1} → statement M
 of-mask-spec =
     tie.close
-    (tie.spec (λ c κs. let s = c .before .before in omega (arith, sounds (holding s) (s .pre .0) .few-systems)) returns
-    (λ c κs. let s = c .before .before .before .before in record { strips = s .args .strips .now; sounds = s .pre .0 }) (λ c. search needs) (λ c κs. search needs) (λ c. search needs) (λ c. search needs) returns-2
+    (tie.spec (λ c. search needs) (λ c κs. let s = c .before .before .before in omega (arith, sounds (holding s) (s .pre .0) .few-systems)) returns
+    (λ c κs. let s = c .before .before .before .before .before in record { strips = s .args .strips .now; sounds = s .pre .0 }) (λ c. search needs) (λ c κs. search needs) (λ c. search needs) (λ c. search needs) returns-2
     (λ c κs. let x = c .before in let s = st (z x) in (right-common (holding s) (s .pre .0) (head s) (count s) (s .pre .1) (right (z x)), s .pre .1, right-count (holding s) (s .pre .0) (head s) (count s) (s .pre .1) (right (z x))))
     (λ c κs. let x = c .before .before in rw (c .mask .ensures) (begins-alone (begins x))) put-systems-requires
     (λ c κs. let p = c .before .before .before in let x = e p in ready-last (maskFields (holding (st (z x)))) _ (st (z x) .args .bytes .now) (ready x) (pens p) (inks p))

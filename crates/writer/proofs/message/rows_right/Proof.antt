@@ -1,5 +1,5 @@
 -- `writer::message::rows_right` meets its contract. Assumes nothing.
-use Rattle.bits.proofs.Words.{_≡_, sym, ap, _∙_, ℕ, _*_, _/_, _≤_, _&&_, arith, eqb, length}
+use Rattle.bits.proofs.Words.{_≡_, sym, ap, _∙_, ℕ, _*_, _/_, _≤_, _&&_, arith, eqb, length, needs}
 use Rattle.body.proofs.Bodies.{counted, prefix, lends}
 use Rattle.holding.specs.declared.Holding.{Holding}
 use Rattle.holding.specs.Outlines.{wholeOf}
@@ -31,6 +31,6 @@ returns c =
 pub rows-right-spec : {M : Type 1} → statement M
 rows-right-spec =
     tie.close
-    (tie.spec (λ c κs. let s = c .before .before .before in (s .pre .2 .four (c .if1 .taken), s .pre .3, whole s)) returns
-    (λ c. let s = c .before .before .before .before .before in counted (holding s) (s .pre .0)) (λ c. let s = c .before .before .before .before .before .before in prefix (holding s) (s .pre .0))
-    (λ c κs. let s = c .before .before .before .before .before .before in (lends (holding s) (s .pre .0), record { fits = s .pre .1 .body; made = s .pre .3 }, whole s)) (λ c. c .rows-fit .ensures))
+    (tie.spec (λ c κs. let s = c .before .before .before in (s .pre .2 .four (c .if1 .taken), s .pre .3, whole s)) returns (λ c. search needs)
+    (λ c. let s = c .before .before .before .before .before .before in counted (holding s) (s .pre .0)) (λ c. let s = c .before .before .before .before .before .before .before in prefix (holding s) (s .pre .0))
+    (λ c κs. let s = c .before .before .before .before .before .before .before in (lends (holding s) (s .pre .0), record { fits = s .pre .1 .body; made = s .pre .3 }, whole s)) (λ c. c .rows-fit .ensures))

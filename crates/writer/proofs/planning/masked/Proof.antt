@@ -22,7 +22,7 @@ with-flags v l h start rows flagged head = rw (flagged, head)
 
 returns-2 : tie.Need-returns-2
 returns-2 c =
-    let p = c .before in
+    let p = c .before .before in
     let e = p .before in
     let s = e .before .before .before .before .before .before in
     let x = s .args in
@@ -34,6 +34,6 @@ unfolding maskedPlan alonePlan
 masked-spec =
     tie.close
     (tie.spec (λ c κs. search needs) (λ c. rw (c .before .before .if1 .taken, sym (c .before .flagged-fits .ensures) ∙ not-true _ (c .if2 .taken)))
-    (λ c κs. let s = c .before .before .before .before .before .before in (s .pre .0, s .pre .2)) (λ c κs. let e = c .before in let s = e .before .before .before .before .before .before in (fit e, omega (arith, s .pre .1 .small))) returns-2
+    (λ c κs. let s = c .before .before .before .before .before .before in (s .pre .0, s .pre .2)) (λ c. search needs) (λ c κs. let e = c .before .before in let s = e .before .before .before .before .before .before in (fit e, omega (arith, s .pre .1 .small))) returns-2
     (λ c κs. search needs) (λ c. rw (c .before .before .if1 .left, sym (c .before .alone-fits .ensures) ∙ not-true _ (c .if3 .taken))) (λ c κs. search needs)
     (λ c. let e = c .before in rw (e .before .before .if1 .left, sym (e .before .alone-fits .ensures) ∙ not-false _ (e .if3 .left)) (ap Message (c .alone .ensures))))

@@ -19,7 +19,7 @@ pub selected-spec : {M : Type 1} → statement M
 unfolding selectedBy
 selected-spec =
     tie.close
-    (tie.spec (λ c κs. search needs) (λ c. rw (none (c .before) ∙ c .if1 .taken)) (λ c. start (c .before .before) .pre .0 .counted)
-    (λ c. let s = start (c .before .before .before) in sym (length-take-le (s .args .outline .count) (s .args .outline .ids) (s .pre .0 .counted)))
-    (λ c κs. let s = start (c .before .before .before) in (s .pre .0 .slots, s .pre .0 .few, s .pre .0 .covered, s .pre .1))
-    (λ c. let e = c .before .before .before in rw (none (e .before) ∙ e .if1 .left) (c .marked .ensures)))
+    (tie.spec (λ c κs. search needs) (λ c. rw (none (c .before) ∙ c .if1 .taken)) (λ c. search needs) (λ c. start (c .before .before .before) .pre .0 .counted)
+    (λ c. let s = start (c .before .before .before .before) in sym (length-take-le (s .args .outline .count) (s .args .outline .ids) (s .pre .0 .counted)))
+    (λ c κs. let s = start (c .before .before .before .before) in (s .pre .0 .slots, s .pre .0 .few, s .pre .0 .covered, s .pre .1))
+    (λ c. let e = c .before .before .before .before in rw (none (e .before) ∙ e .if1 .left) (c .marked .ensures)))
