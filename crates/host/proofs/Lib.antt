@@ -1,3 +1,4 @@
 pub mod Outcomes
+pub mod Opened
 pub mod Walks
 pub mod HandedLines

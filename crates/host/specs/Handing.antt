@@ -1,13 +1,15 @@
 -- What the host is handed: docs/HOST.md.
-use mathlib.Core.Bool.{Bool, cond}
+use mathlib.Core.Bool.{Bool, true, cond}
 use mathlib.Core.List.{List}
 use Prim.Native.Nat.{ℕ}
-use lib.Dec.{leb}
+use lib.Dec.{eqb, leb, ltb}
 use lib.IntN.{ℤ}
 use lib.ListN.{length}
 use Rattle.bits.specs.Parts.{startOf, countOf}
+use Rattle.format.specs.declared.Answer.{Answer}
 use Rattle.format.specs.declared.Head.{Head}
-use Rattle.format.specs.Answers.{Said, stop, message, saidAt}
+use Rattle.format.specs.declared.Refusal.the-variants.{Changed}
+use Rattle.format.specs.Answers.{Said, numberOf, stop, message, saidAt}
 use Rattle.format.specs.Masks.{nothing, Lent, stray, lent}
 use Rattle.format.specs.Reading.{Outcome, changed, lentAfter, answerOf, over}
 use Rattle.format.specs.Rows.{absent}
@@ -18,6 +20,7 @@ use Rattle.host.specs.declared.Handed.{Handed}
 use Rattle.host.specs.declared.Walked.{Walked}
 use Rattle.passing.specs.Passing.{size, bytesOf, holdingIn}
 use Rattle.reader.specs.Readings.{outcomeAt}
+use Rattle.walk.specs.declared.Tally.{Tally}
 use Rattle.walk.specs.Walks.{walkAt}
 
 unfoldable pub noHead : Head
@@ -73,7 +76,17 @@ walkedTo w =
     let said = saidAt (w .place) (answerOf (w .stop)) in
     record { answer = numberSaid said; place = w .place; missing = missingSaid said; messages = messages w; rows = rowCount (w .handed) }
 
--- what is written after a walk: nothing where the bytes were no holding
+-- the same of the stop's answer with its place and what was handed out before it
+unfoldable pub walkedAt : Answer → Tally → Walked
+walkedAt a tally =
+    let said = saidAt (tally .place) a in
+    record { answer = numberSaid said; place = tally .place; missing = missingSaid said; messages = tally .messages; rows = tally .rows }
+
+-- whether a walk may have changed what is held: a message was accepted, or the stop is 13
+unfoldable pub changing : Answer → ℕ → Bool
+changing a n = cond (ltb 0 n) true (eqb (numberSaid (saidAt 0 a)) (numberOf Changed))
+
+-- what is written after a walk: nothing where nothing changed
 unfoldable pub leftBytes : Bool → Holding → List ℕ → List ℕ
 leftBytes held after bs = cond held (over (bytesOf after) bs) bs
 

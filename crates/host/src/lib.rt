@@ -16,17 +16,24 @@ ghost use Rattle.holding.specs.Outlines.{wholeOf};
 ghost use Rattle.holding.specs.Pictures.{maskOf, sound};
 ghost use Rattle.passing.specs.Passing.{size, bytesOf, holdingIn};
 ghost use Rattle.reader.specs.Readings.{soughtAt};
-ghost use Rattle.host.specs.Handing.{handedBy, handed, numberSaid, missingSaid, bytesAfter, holdingBytes, hostOutcome, hostWalk, walkedTo, leftBytes, walkBytes, emptied, emptiedNumber};
+ghost use Rattle.host.specs.Handing.{handedBy, handed, numberSaid, missingSaid, bytesAfter, holdingBytes, hostOutcome, hostWalk, walkedAt, walkedTo, changing, leftBytes, walkBytes, emptied, emptiedNumber};
 use bits::part::begins;
 use bits::part::counts;
 use format::ABSENT;
 use format::Answer;
 use format::Head;
+use format::Refusal;
 use format::number;
 use heads::OPENING;
 use holding::Holding;
 use holding::Outline;
+use passing::give::holding_over;
+use passing::take;
 use reader::message::Found;
+use reader::message::mask_answer;
+use reader::unheld;
+use walk::START;
+use walk::Tally;
 
 // What a reading hands out: the answer's number, the place after the message or the start asked for, how many bits were
 // missing, the row count, where the raw part begins and how many bytes it has, the head.
@@ -127,38 +134,23 @@ fn hand(answer: Answer, start: usize) -> Handed
     }
 }
 
-// What lent bytes say, in parts: masks and strips into what is lent for them. The struct lives here alone, and what comes
-// after it can lie at its place of the stack.
-fn opened(
-    holding: &[u8],
-    satellites: &mut [u64; Holding::SYSTEMS],
-    strips: &mut [u16; Holding::SATELLITES],
-) -> Outline
-    ensures { λ r. ⌜ wholeOf r (now (satellites .exit)) (now (strips .exit)) ≡ holdingIn (now (holding .entry)) ⌝ }
-{
-    let held = passing::take::holding_in(holding);
-    let masks = held.satellites;
-    let cells = held.strips;
-    *satellites = masks;
-    *strips = cells;
-    held.outline()
-}
-
-// Reads the mask message behind its number and sub type: the holding's bytes become those of what is held after it.
+// Reads the mask message behind its number and sub type: the holding's bytes become those of what is held after it. (They
+// are opened in parts: a holding made of them, to be taken apart, would stay on the stack.)
 fn adopt(holding: &mut [u8], bytes: &[u8], end: usize, place: usize) -> Answer
     requires { ⌜ Within (now bytes) end place × (sound (holdingIn (now holding)) ≡ true) × (size ≤ length (now holding)) × (over (bytesOf (holdingIn (now holding))) (now holding) ≡ now holding) ⌝ }
     ensures { λ r. ⌜ r ≡ answerOf (adoptedBy (maskOf (holdingIn (now (holding .entry)))) place (run maskMessage (bitsFrom (now (bytes .entry)) end place))) ⌝ }
     ensures { λ _. ⌜ now (holding .exit) ≡ bytesAfter (lentAfter (adoptedBy (maskOf (holdingIn (now (holding .entry)))) place (run maskMessage (bitsFrom (now (bytes .entry)) end place)))) (now (holding .entry)) ⌝ }
 {
-    let mut satellites = [0u64; Holding::SYSTEMS];
-    let mut strips = [0u16; Holding::SATELLITES];
-    let mut held = opened(holding, &mut satellites, &mut strips);
+    let mut satellites = take::satellites(holding);
+    let mut strips = take::strips(holding);
+    let mut held = take::outline(holding);
     let adoption = adoption::adopt(held, bytes, end, place, &mut satellites, &mut strips);
     if !adoption.kept {
         held = held.adopt(adoption.outline);
     }
-    passing::give::holding_over(holding, held.with(satellites, strips));
-    adoption.answer
+    holding_over(holding, held, &satellites, &strips);
+    let ending = adoption.ending;
+    mask_answer(ending, bytes, place)
 }
 
 // Makes the empty holding.
@@ -170,7 +162,10 @@ pub extern "C" fn hundurzek_empty(holding: &mut [u8]) -> u64
     if holding.len() < passing::SIZE {
         return 1;
     }
-    passing::give::holding_over(holding, Holding::empty());
+    let empty = Holding::empty();
+    let satellites = empty.satellites;
+    let strips = empty.strips;
+    holding_over(holding, empty.outline(), &satellites, &strips);
     0
 }
 
@@ -180,9 +175,13 @@ fn sought(holding: &[u8], bytes: &[u8], end: usize, start: usize, rows: &mut [i3
     ensures { λ r. ⌜ r ≡ soughtAt (holdingIn (now (holding .entry))) (now (bytes .entry)) end start (length (now (rows .entry))) ⌝ }
     ensures { λ _. ⌜ now (rows .exit) ≡ rowsAfter (hostOutcome (now (holding .entry)) (now (bytes .entry)) end start (now (rows .entry))) (now (rows .entry)) ⌝ }
 {
-    let mut satellites = [0u64; Holding::SYSTEMS];
-    let mut strips = [0u16; Holding::SATELLITES];
-    let outline = opened(holding, &mut satellites, &mut strips);
+    if !take::passes(holding) {
+        let refusal = unheld(bytes, end, start, rows.len());
+        return Found::Answered(Answer::Refused(refusal, 0));
+    }
+    let satellites = take::satellites(holding);
+    let strips = take::strips(holding);
+    let outline = take::outline(holding);
     let is = outline.is_sound(&satellites, &strips);
     walk::single::seek_under(is, outline, &satellites, &strips, bytes, end, start, rows)
 }
@@ -207,15 +206,44 @@ pub extern "C" fn hundurzek_read(
     }
 }
 
-// What is held after a walk; bytes that were no holding stay as they were.
-fn leave(holding: &mut [u8], held: bool, after: Holding)
-    requires { ⌜ (held ≡ true → (size ≤ length (now holding)) × (sound after ≡ true)) ⌝ }
-    ensures { λ _. ⌜ now (holding .exit) ≡ leftBytes held after (now (holding .entry)) ⌝ }
+// What a walk comes to.
+fn halted(stop: Answer, tally: Tally) -> Walked
+    ensures { λ r. ⌜ r ≡ walkedAt stop tally ⌝ }
 {
-    if !held {
+    Walked {
+        answer: answer_number(stop),
+        place: tally.place,
+        missing: answer_missing(stop),
+        messages: tally.messages,
+        rows: tally.rows,
+    }
+}
+
+// Whether a walk changed what is held, or may have: it accepted a message, or dropped it (document 02, Ask 2).
+fn changes(stop: Answer, messages: usize) -> bool
+    ensures { λ r. ⌜ r ≡ changing stop messages ⌝ }
+{
+    if messages > 0 {
+        return true;
+    }
+    answer_number(stop) == number(Refusal::Changed)
+}
+
+// What is held after a walk: where nothing changed, the bytes stay as they were, also such as were no holding.
+fn leave(
+    holding: &mut [u8],
+    changed: bool,
+    outline: Outline,
+    satellites: &[u64; Holding::SYSTEMS],
+    strips: &[u16; Holding::SATELLITES],
+)
+    requires { ⌜ (changed ≡ true → (size ≤ length (now holding)) × (sound (wholeOf outline (now satellites) (now strips)) ≡ true)) ⌝ }
+    ensures { λ _. ⌜ now (holding .exit) ≡ leftBytes changed (wholeOf outline (now (satellites .entry)) (now (strips .entry))) (now (holding .entry)) ⌝ }
+{
+    if !changed {
         return;
     }
-    passing::give::holding_over(holding, after);
+    holding_over(holding, outline, satellites, strips);
 }
 
 // Reads a whole stretch, from place 0 until idle or a refusal.
@@ -230,21 +258,19 @@ pub extern "C" fn hundurzek_walk(
     ensures { λ _. ⌜ now (holding .exit) ≡ walkBytes (hostWalk (now (holding .entry)) (now (bytes .entry)) end (now (rows .entry))) (now (holding .entry)) ⌝ }
     ensures { λ _. ⌜ now (rows .exit) ≡ hostWalk (now (holding .entry)) (now (bytes .entry)) end (now (rows .entry)) .rows ⌝ }
 {
-    let mut satellites = [0u64; Holding::SYSTEMS];
-    let mut strips = [0u16; Holding::SATELLITES];
-    let outline = opened(holding, &mut satellites, &mut strips);
+    if !take::passes(holding) {
+        let refusal = unheld(bytes, end, 0, rows.len());
+        return halted(Answer::Refused(refusal, 0), START);
+    }
+    let mut satellites = take::satellites(holding);
+    let mut strips = take::strips(holding);
+    let outline = take::outline(holding);
     let is = outline.is_sound(&satellites, &strips);
     let stopped = walk::walk_under(is, outline, &mut satellites, &mut strips, bytes, end, rows);
     let stop = stopped.stop;
     let tally = stopped.tally;
     let left = stopped.outline;
-    let after = left.with(satellites, strips);
-    leave(holding, is, after);
-    Walked {
-        answer: answer_number(stop),
-        place: tally.place,
-        missing: answer_missing(stop),
-        messages: tally.messages,
-        rows: tally.rows,
-    }
+    let changed = changes(stop, tally.messages);
+    leave(holding, changed, left, &satellites, &strips);
+    halted(stop, tally)
 }

@@ -5,17 +5,21 @@ ghost use Rattle.format.specs.Listing.{lineSays};
 ghost use Rattle.format.specs.Saved.{load, saving, doneSaving, bufferAfter};
 ghost use Rattle.holding.specs.Pictures.{maskOf, lentBy};
 ghost use Rattle.passing.specs.Passing.{holdingIn};
+ghost use Rattle.saved.specs.Saves.{savingBy};
 ghost use Rattle.host.specs.Texts.{doneHanded, answerLoaded, loadedTo, taking, doneTaking, stretchAfter};
 use format::Refusal;
 use format::number;
+use holding::Holding;
 use lines::Line;
 use lines::said_by;
 use lines::stretch::stretch_of;
 use passing::SIZE;
 use passing::give::holding_over;
-use passing::take::holding_in;
+use passing::take;
 use saved::LoadAnswer;
 use saved::Saving;
+use saved::load_parts;
+use saved::save_parts;
 
 // What is done with a line: the answer's number, the start, and how long the saved line is, or the stretch in bits.
 #[repr(C)]
@@ -60,14 +64,27 @@ fn refuse(refusal: Refusal) -> Done
     }
 }
 
+// Saves the holding that lent bytes say, in parts.
+fn saved_in(holding: &[u8], line: &mut [u8]) -> Saving
+    ensures { λ r. ⌜ r ≡ savingBy (saving (lentBy (holdingIn (now (holding .entry)))) (now (line .entry))) ⌝ }
+    ensures { λ _. ⌜ now (line .exit) ≡ bufferAfter (saving (lentBy (holdingIn (now (holding .entry)))) (now (line .entry))) (maskOf (holdingIn (now (holding .entry)))) (now (line .entry)) ⌝ }
+{
+    if !take::passes(holding) {
+        return Saving::Refused(Refusal::Value);
+    }
+    let satellites = take::satellites(holding);
+    let strips = take::strips(holding);
+    let outline = take::outline(holding);
+    save_parts(outline, &satellites, &strips, line)
+}
+
 // Saves a holding as a line, its line feed too.
 #[no_mangle]
 pub extern "C" fn hundurzek_save(holding: &[u8], line: &mut [u8]) -> Done
     ensures { λ r. ⌜ r ≡ doneHanded (doneSaving (saving (lentBy (holdingIn (now (holding .entry)))) (now (line .entry)))) ⌝ }
     ensures { λ _. ⌜ now (line .exit) ≡ bufferAfter (saving (lentBy (holdingIn (now (holding .entry)))) (now (line .entry))) (maskOf (holdingIn (now (holding .entry)))) (now (line .entry)) ⌝ }
 {
-    let held = holding_in(holding);
-    let saving = saved::save(held, line);
+    let saving = saved_in(holding, line);
     match saving {
         Saving::Saved(n) => finish(n),
         Saving::Refused(refusal) => refuse(refusal),
@@ -89,11 +106,13 @@ fn load_number(answer: LoadAnswer) -> u64
 pub extern "C" fn hundurzek_load(line: &[u8]) -> Loaded
     ensures { λ r. ⌜ r ≡ loadedTo (load (now (line .entry))) ⌝ }
 {
-    let loading = saved::load(line);
+    let mut satellites = [0u64; Holding::SYSTEMS];
+    let mut strips = [0u16; Holding::SATELLITES];
+    let loading = load_parts(line, &mut satellites, &mut strips);
     let answer = loading.answer;
-    let held = loading.holding;
+    let outline = loading.outline;
     let mut holding = [0u8; SIZE];
-    holding_over(&mut holding, held);
+    holding_over(&mut holding, outline, &satellites, &strips);
     Loaded {
         answer: load_number(answer),
         holding,

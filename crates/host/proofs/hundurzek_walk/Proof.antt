@@ -1,74 +1,110 @@
 -- `host::hundurzek_walk` meets its contract. Assumes nothing.
 use mathlib.Core.Path.{_≡_, sym, ap, _∙_}
+use mathlib.Core.Bool.{true, false}
 use mathlib.Core.List.{List}
 use Prim.Native.Nat.{ℕ}
+use native.Mathlib.Omega.{arith}
 use borrow.Author.Needs.{needs}
+use borrow.Author.Tests.{not-true, not-false}
+use Rattle.bits.proofs.Windows.{Bytes}
 use Rattle.format.specs.Walking.{Walk}
 use Rattle.holding.specs.declared.Holding.{Holding}
-use Rattle.holding.specs.Pictures.{sound}
+use Rattle.holding.specs.Outlines.{wholeOf}
 use Rattle.host.specs.Handing.{hostWalk, leftBytes}
-use Rattle.host.proofs.Walks.{leave-known, left, walked-to}
-use Rattle.passing.specs.Passing.{holdingIn}
+use Rattle.host.proofs.Opened.{opened, unsound, refused-so}
+use Rattle.host.proofs.Walks.{leave-known, left, stray-bytes, walked-to}
+use Rattle.passing.specs.Passing.{passes, holdingIn}
+use Rattle.passing.proofs.Returns.{passed}
 use Rattle.walk.specs.declared.Halt.{Halt}
 use Rattle.walk.specs.Standing.{haltOf}
 use Rattle.walk.specs.Walks.{walkAt, walkedOf}
+use Rattle.walk.proofs.Begins.{refused-walked}
 use Rattle.host.proofs.hundurzek_walk.Statement.{statement}
 use Rattle.host.proofs.hundurzek_walk.Tie as tie
 
--- what the walk answered, under the holding that the lent bytes say
-module _ (c : tie.After-walk-under) where
-  abbrev o : tie.After-opened
-  o = c .before .before .before .before .before .before .before
+-- bytes that say no holding
+returns : tie.Need-returns
+unfolding hostWalk
+returns c =
+    let u = c .before in
+    let t = u .before in
+    let p = t .before in
+    let x = p .before .before .before .before .args in
+    let hb = x .holding .now in
+    let fails = sym (p .passes .ensures) ∙ not-true _ (t .if1 .taken) in
+    let why = refused-so hb (x .bytes .now) (x .end) 0 (x .rows .now) fails (u .unheld .ensures) in
+    let it = refused-walked (holdingIn hb) (x .bytes .now) (x .end) (x .rows .now) _ why in (
+      c .halted .ensures ∙ walked-to hb (x .bytes .now) (x .end) (x .rows .now) _ (it .0),
+      (stray-bytes hb (x .bytes .now) (x .end) (x .rows .now) (unsound hb fails), it .1),
+    )
 
+-- those that pass
+module _ (c : tie.Else1) where
   abbrev s : tie.Start
-  s = o .before .before .before .before .before .before
+  s = c .before .before .before .before .before
 
   abbrev lent : List ℕ
   lent = s .args .holding .now
 
+  fine : passes lent ≡ true
+  fine = sym (c .before .passes .ensures) ∙ not-false _ (c .if1 .left)
+
+  small : Bytes lent
+  small k = omega (arith, c .before .before .before .before .slice-known .given k)
+
+-- opened in parts
+module _ (c : tie.After-outline) where
+  abbrev e : tie.Else1
+  e = c .before .before .before .before .before .before
+
+  said : wholeOf (c .outline .result) (c .before .before .before .before .satellites .result) (c .before .before .strips .result) ≡ holdingIn (lent e)
+  said = opened (lent e) (fine e) (c .outline .ensures) (c .before .before .before .before .satellites .ensures) (c .before .before .strips .ensures)
+
+-- what the walk answered under them
+module _ (c : tie.After-walk-under) where
+  abbrev o : tie.After-outline
+  o = c .before .before .before .before .before .before .before
+
   abbrev w : Walk
-  w = hostWalk lent (s .args .bytes .now) (s .args .end) (s .args .rows .now)
+  w = let x = s (e o) .args in hostWalk (lent (e o)) (x .bytes .now) (x .end) (x .rows .now)
 
   abbrev halt : Halt
   halt = haltOf (c .walk-under .result) (c .walk-under .last .1 .1 .0) (c .walk-under .last .1 .1 .1 .0)
 
-  -- whether that is one
-  is : c .before .before .before .before .is-sound .result ≡ sound (holdingIn lent)
-  is = c .before .before .before .before .is-sound .ensures ∙ ap sound (o .opened .ensures)
-
-  said : (halt ≡ walkedOf (holdingIn lent) w) × (c .walk-under .last .1 .1 .1 .1 .1 .1 .0 ≡ w .rows)
+  told : (halt ≡ walkedOf (holdingIn (lent (e o))) w) × (c .walk-under .last .1 .1 .1 .1 .1 .1 .0 ≡ w .rows)
   unfolding hostWalk
-  said =
-      let x = s .args in (
-        c .walk-under .ensures .0 ∙ ap (λ (h : Holding). walkedOf h (walkAt h (x .bytes .now) (x .end) (x .rows .now))) (o .opened .ensures),
-        c .walk-under .ensures .1 ∙ ap (λ (h : Holding). walkAt h (x .bytes .now) (x .end) (x .rows .now) .rows) (o .opened .ensures),
+  told =
+      let x = s (e o) .args in (
+        c .walk-under .ensures .0 ∙ ap (λ (h : Holding). walkedOf h (walkAt h (x .bytes .now) (x .end) (x .rows .now))) (said o),
+        c .walk-under .ensures .1 ∙ ap (λ (h : Holding). walkAt h (x .bytes .now) (x .end) (x .rows .now) .rows) (said o),
       )
 
 leave-requires : tie.Need-leave-requires
 unfolding hostWalk
-leave-requires c κs held =
-    let v = c .before .before .before .before .before in
-    let known = leave-known (lent v) (s v .args .bytes .now) (s v .args .end) (s v .args .rows .now) (halt v) (said v .0) (sym (is v) ∙ held) in
-    (known .0, ap sound (c .before .with .ensures) ∙ known .1)
+leave-requires c κs changed =
+    let g = c .before .before .before in
+    let v = g .before .before .before .before in
+    let x = s (e (o v)) .args in
+    leave-known (lent (e (o v))) (x .bytes .now) (x .end) (x .rows .now) (halt v) (told v .0) (sym (g .changes .ensures) ∙ changed)
 
-returns : tie.Need-returns
+returns-2 : tie.Need-returns-2
 unfolding hostWalk
-returns c =
-    let n = c .before in
-    let e = n .before .before .before in
-    let k = e .before .before in
-    let v = k .before .before .before .before in
-    let x = s v .args in
-    let t = v .walk-under .result .tally in
-    let told = walked-to (lent v) (x .bytes .now) (x .end) (x .rows .now) (halt v) (said v .0) in (
-      (λ i. record { answer = n .answer-number .ensures (t .place) i; place = t .place; missing = c .answer-missing .ensures (t .place) i; messages = t .messages; rows = t .rows }) ∙ told,
+returns-2 c =
+    let y = c .before .before .before in
+    let g = y .before .before .before .before in
+    let v = g .before .before .before .before in
+    let l = lent (e (o v)) in
+    let x = s (e (o v)) .args in (
+      c .halted2 .ensures ∙ walked-to l (x .bytes .now) (x .end) (x .rows .now) (halt v) (told v .0),
       (
-        e .leave .ensures ∙ (λ i. leftBytes (is v i) (k .with .ensures i) (lent v)) ∙ left (lent v) (x .bytes .now) (x .end) (x .rows .now) (halt v) (said v .0),
-        said v .1,
+        y .leave .ensures ∙ (λ i. leftBytes (g .changes .ensures i) (halt v .holding) l) ∙ left l (x .bytes .now) (x .end) (x .rows .now) (halt v) (told v .0) (small (e (o v))),
+        told v .1,
       ),
     )
 
 pub hundurzek-walk-spec : {M : Type 1} → statement M
 hundurzek-walk-spec =
     tie.close
-    (tie.spec (λ c κs. search needs) (λ c κs. search needs) (λ c κs. search needs) (λ c κs. search needs) leave-requires (λ c κs. search needs) (λ c κs. search needs) (λ c. search needs) (λ c. search needs) returns)
+    (tie.spec (λ c κs. search needs) (λ c κs. search needs) (λ c κs. search needs) (λ c. search needs) returns
+    (λ c κs. passed _ (fine (c .before)) .long) (λ c κs. passed _ (fine (c .before .before .before)) .long) (λ c κs. passed _ (fine (c .before .before .before .before .before)) .long)
+    (λ c κs. search needs) (λ c κs. search needs) (λ c κs. search needs) leave-requires (λ c κs. search needs) (λ c. search needs) (λ c. search needs) returns-2)

@@ -13,9 +13,9 @@ use Rattle.saved.specs.Saves.{savingBy, doneBy}
 use Rattle.saved.proofs.SavedLines.{saving-said}
 
 -- how saving ends, under the holding that the lent bytes say
-module _ (c : tie.After-save) where
+module _ (c : tie.After-saved-in) where
   abbrev s : tie.Start
-  s = c .before .before .before .before .before
+  s = c .before .before .before .before
 
   abbrev lent : List ℕ
   lent = s .args .holding .now
@@ -23,10 +23,10 @@ module _ (c : tie.After-save) where
   abbrev ended : Saved
   ended = saving (lentBy (holdingIn lent)) (s .args .line .now)
 
-  said : (c .save .result ≡ savingBy ended) × (c .save .last .1 .0 ≡ bufferAfter ended (maskOf (holdingIn lent)) (s .args .line .now))
-  said = rw (c .before .before .holding-in .ensures) at (c .save .ensures)
+  said : (c .saved-in .result ≡ savingBy ended) × (c .saved-in .last .1 .0 ≡ bufferAfter ended (maskOf (holdingIn lent)) (s .args .line .now))
+  said = c .saved-in .ensures
 
-  answered : doneBy (c .save .result) ≡ doneSaving ended
+  answered : doneBy (c .saved-in .result) ≡ doneSaving ended
   answered = ap doneBy (said .0) ∙ saving-said ended
 
 returns : tie.Need-returns
@@ -46,5 +46,5 @@ returns-2 c =
 pub hundurzek-save-spec : {M : Type 1} → statement M
 hundurzek-save-spec =
     tie.close
-    (tie.spec (λ c κs. search needs) (λ c κs. search needs) (λ c. search needs) (λ c κs. search needs) (λ c. search needs) (λ c κs. search needs)
+    (tie.spec (λ c κs. search needs) (λ c. search needs) (λ c κs. search needs) (λ c. search needs) (λ c κs. search needs)
     (λ c. search needs) returns (λ c. search needs) returns-2)
