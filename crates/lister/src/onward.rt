@@ -56,7 +56,7 @@ pub fn onward(
     ensures { λ _. ⌜ now (out .exit) ≡ sets (now (out .entry)) 0 (listedAt state bits tally (now (line .entry)) (now (rows .entry)) .text) ⌝ }
     ensures { λ r. ⌜ r .given ≤ messageRoom ⌝ }
 {
-    let reading = single::read(state.holding, line, bits, tally.place, rows);
+    let reading = single::read_seen(true, state.holding, line, bits, tally.place, rows);
     let answer = reading.answer;
     let holding = reading.holding;
     match answer {

@@ -21,7 +21,7 @@ use Rattle.lister.proofs.onward.onward.Tie as tie
 use Rattle.walk.specs.Standing.{standAt, Stands}
 
 -- what was read
-module _ (k : tie.After-read) where
+module _ (k : tie.After-read-seen) where
   abbrev s : tie.Start
   s = k .before .before .before .before
 
@@ -29,11 +29,11 @@ module _ (k : tie.After-read) where
   stands = s .pre .0
 
   abbrev after : List ℤ
-  after = k .read .last .1 .1 .1 .1 .0
+  after = k .read-seen .last .1 .1 .1 .1 .1 .0
 
 -- a message
 module _ (a : tie.After-answer) where
-  abbrev k : tie.After-read
+  abbrev k : tie.After-read-seen
   k = a .before .before .before .before
 
   abbrev head : Head
@@ -45,8 +45,8 @@ module _ (a : tie.After-answer) where
   abbrev n : ℕ
   n = a .answer .given .0 .1 .1 .0
 
-  listed : MessageListed (s k .args .state) (s k .args .bits) (s k .args .tally) (s k .args .line .now) (s k .args .rows .now) (stands k) (k .read .result) (k .read .ensures .0)
-      (after k) (k .read .ensures .1) head next n (a .answer .given .1)
+  listed : MessageListed (s k .args .state) (s k .args .bits) (s k .args .tally) (s k .args .line .now) (s k .args .rows .now) (stands k) (k .read-seen .result) (k .read-seen .ensures .0)
+      (after k) (k .read-seen .ensures .1) head next n (a .answer .given .1)
   listed = message-listed _ _ _ _ _ _ _ _ _ _ _ _ _ _
 
 message-requires : tie.Need-message-requires
@@ -71,19 +71,19 @@ returns c =
     let a = m .before .before .before .before in
     let it = listed a in
     let x = s (k a) .args in (
-      (λ i. record { state = record { number = x .state .number; work = Walking (x .bits) (record { place = next a; messages = x .tally .messages + 1; rows = x .tally .rows + n a }); holding = k a .read .result .holding }; taken = 0; given = m .message .ensures .0 i })
+      (λ i. record { state = record { number = x .state .number; work = Walking (x .bits) (record { place = next a; messages = x .tally .messages + 1; rows = x .tally .rows + n a }); holding = k a .read-seen .result .holding }; taken = 0; given = m .message .ensures .0 i })
           ∙ it .result,
       (it .numbers, (m .message .ensures .1 .0 ∙ ap (sets (x .out .now) 0) (it .text), m .message .ensures .1 .1)),
     )
 
 -- a stop
-module _ (k : tie.After-read) (number missing : ℕ) (e : saidAt (s k .args .tally .place) (k .read .result .answer) ≡ stop number (s k .args .tally .place) missing) where
-  stops : StopListed (s k .args .state) (s k .args .bits) (s k .args .tally) (s k .args .line .now) (s k .args .rows .now) (stands k) (k .read .result) (k .read .ensures .0)
-      (after k) (k .read .ensures .1) number missing e
+module _ (k : tie.After-read-seen) (number missing : ℕ) (e : saidAt (s k .args .tally .place) (k .read-seen .result .answer) ≡ stop number (s k .args .tally .place) missing) where
+  stops : StopListed (s k .args .state) (s k .args .bits) (s k .args .tally) (s k .args .line .now) (s k .args .rows .now) (stands k) (k .read-seen .result) (k .read-seen .ensures .0)
+      (after k) (k .read-seen .ensures .1) number missing e
   stops = stop-listed _ _ _ _ _ _ _ _ _ _ _ _ _
 
   -- as it is answered
-  module _ (next : State) (then : next ≡ nextLine (s k .args .state) (k .read .result .holding)) (result : Step) (out : List ℕ)
+  module _ (next : State) (then : next ≡ nextLine (s k .args .state) (k .read-seen .result .holding)) (result : Step) (out : List ℕ)
       (told : (result ≡ record { state = next; taken = 0; given = length (stopText number missing (s k .args .tally)) }) × ((out ≡ sets (s k .args .out .now) 0 (stopText number missing (s k .args .tally))) × (result .given ≤ messageRoom))) where
     abbrev d : Done
     d = listedAt (s k .args .state) (s k .args .bits) (s k .args .tally) (s k .args .line .now) (s k .args .rows .now)
@@ -93,7 +93,7 @@ module _ (k : tie.After-read) (number missing : ℕ) (e : saidAt (s k .args .tal
         (told .0 ∙ (λ i. record { state = then i; taken = 0; given = length (stopText number missing (s k .args .tally)) }) ∙ stops .result, (stops .numbers, (told .1 .0 ∙ ap (sets (s k .args .out .now) 0) (stops .text), told .1 .1)))
 
 -- the numbers of its line are short
-short : (k : tie.After-read) → (s k .args .tally .place < 2 ^ 31) × (s k .args .tally .messages < 2 ^ 31) × (s k .args .tally .rows < 2 ^ 31) × (messageRoom ≤ length (s k .args .out .now))
+short : (k : tie.After-read-seen) → (s k .args .tally .place < 2 ^ 31) × (s k .args .tally .messages < 2 ^ 31) × (s k .args .tally .rows < 2 ^ 31) × (messageRoom ≤ length (s k .args .out .now))
 short k =
     let f = stands k in
     (omega (arith, f .there, f .limit), omega (arith, f .few, f .there, f .limit), omega (arith, f .rows, f .few, f .there, f .limit), s k .pre .1)
@@ -131,6 +131,6 @@ returns-3 c =
 pub onward-spec : {M : Type 1} → statement M
 onward-spec =
     tie.close
-    (tie.spec (λ c κs. search needs) (λ c. search needs) message-requires add-t24 add-t25 (λ c. search needs) (λ c κs. search needs) stop-requires
+    (tie.spec (λ c κs. sym (c .before .before .before .pre .0 .held)) (λ c. search needs) message-requires add-t24 add-t25 (λ c. search needs) (λ c κs. search needs) stop-requires
     (λ c. search needs) (λ c κs. search needs) (λ c κs. search needs) stop-requires-2
     (λ c. search needs) (λ c. search needs) returns (λ c. search needs) (λ c. search needs) returns-2 (λ c. search needs) (λ c. search needs) returns-3)
