@@ -2,7 +2,8 @@
 # bench/read.sh: instructions of reading whole stretches, the holding kept, through the host interface ('host'), with a
 # decoder in C that is tuned ('tuned') and with one that gets its fields bit by bit ('bitwise'), by walks and message by
 # message; as the tables of docs/PERFORMANCE.md. Fails where they do not hand out the same, also for damaged stretches,
-# or a walk is not its readings one after another. The stack of the functions for lines is measured here, too.
+# or a walk is not its readings one after another. The stack of the functions for lines is measured here, too, and that of
+# all functions told by their machine code.
 set -eu
 cd "$(dirname "$0")/.."
 . bench/lib/measure.sh
@@ -84,3 +85,7 @@ echo '|---|---|'
 for function in empty read walk save load line; do
     stack_row $function
 done
+echo
+echo '| function | on any input, bytes | frames, up to the call of the next |'
+echo '|---|---|---|'
+frames

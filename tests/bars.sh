@@ -47,6 +47,10 @@ measures() {
         bytes=$(stack "$2")
         echo "$1 $2 bytes $bytes"
         ;;
+    frames)
+        bytes=$(frames "$2")
+        echo "$1 $2 bytes $bytes"
+        ;;
     listing)
         bytes=$(per_byte "$2")
         echo "$1 $2 per-byte ${bytes#* }"

@@ -11,6 +11,8 @@
 #   measure_row INPUT             with such lines: what ours takes, and the others for a message, as a table's row
 #   stack FUNCTION                the deepest stack of read, walk, empty, save, load, line or write over all inputs, in
 #                                 bytes; but for write over damaged ones, too
+#   frames [FUNCTION]             the same for every input, as the machine code shows it; without FUNCTION a table of all,
+#                                 with the chain of frames (bench/lib/frames.py)
 #   per_call KIND WIDTH           of a call (bench/fields.c) and its return: the mean over the eight alignments
 #   build_listing                 makes the listing program, and what prints an input as its lines
 #   per_byte INPUT                of listing it: how many bytes the listing has, and what each takes, reading included
@@ -120,6 +122,16 @@ stack() {
         write-*) $RUN target/bench/write host $input stack ;;
         esac
     done | sort -n | tail -n 1
+}
+
+frames() {
+    need python3 python3
+    case $(uname -m) in
+    x86_64) objdump=objdump ;;
+    *) objdump=x86_64-linux-gnu-objdump ;;
+    esac
+    need $objdump binutils-x86-64-linux-gnu
+    $objdump -dr --no-show-raw-insn $(archives host) | python3 bench/lib/frames.py ${1:+"hundurzek_$1"}
 }
 
 # against calling a function of one instruction, its return: that and the call are added again
