@@ -144,5 +144,5 @@ module _ (hb bs : List ℕ) (end : ℕ) (rows : List ℤ) where
     left small = ap (λ (x : Halt). leftBytes (changing (x .stop) (x .tally .messages)) (x .holding) hb) said ∙ left-so small
 
     pub walked-to : walkedAt (d .stop) (d .tally) ≡ walkedTo w
-    unfolding walkedOf walkedTo walkedAt
+    unfolding walkedOf walkedTo
     walked-to = ap (λ (x : Halt). walkedAt (x .stop) (x .tally)) said

@@ -13,7 +13,7 @@ use Rattle.format.specs.Answers.{Said, numberOf, stop, message, saidAt}
 use Rattle.format.specs.Masks.{nothing, Lent, stray, lent}
 use Rattle.format.specs.Reading.{Outcome, changed, lentAfter, answerOf, over}
 use Rattle.format.specs.Rows.{absent}
-use Rattle.format.specs.Walking.{Walk, messages, rowCount}
+use Rattle.format.specs.Walking.{Walk}
 use Rattle.holding.specs.declared.Holding.{Holding}
 use Rattle.holding.specs.Pictures.{pictureOf}
 use Rattle.host.specs.declared.Handed.{Handed}
@@ -21,7 +21,7 @@ use Rattle.host.specs.declared.Walked.{Walked}
 use Rattle.passing.specs.Passing.{size, bytesOf, holdingIn}
 use Rattle.reader.specs.Readings.{outcomeAt}
 use Rattle.walk.specs.declared.Tally.{Tally}
-use Rattle.walk.specs.Walks.{walkAt}
+use Rattle.walk.specs.Walks.{walkAt, tallyOf}
 
 unfoldable pub noHead : Head
 noHead = record { subtype = absent; epoch = absent; interval = absent; indicator = absent; iod = absent; a = absent; b = absent; c = absent }
@@ -71,16 +71,14 @@ hostOutcome holding bytes end start rows = outcomeAt (holdingIn holding) bytes e
 unfoldable pub hostWalk : List ℕ → List ℕ → ℕ → List ℤ → Walk
 hostWalk holding bytes end rows = walkAt (holdingIn holding) bytes end rows
 
-unfoldable pub walkedTo : Walk → Walked
-walkedTo w =
-    let said = saidAt (w .place) (answerOf (w .stop)) in
-    record { answer = numberSaid said; place = w .place; missing = missingSaid said; messages = messages w; rows = rowCount (w .handed) }
-
--- the same of the stop's answer with its place and what was handed out before it
-unfoldable pub walkedAt : Answer → Tally → Walked
+-- what is handed of the stop's answer, with its place and what was handed out before it
+abbrev pub walkedAt : Answer → Tally → Walked
 walkedAt a tally =
     let said = saidAt (tally .place) a in
     record { answer = numberSaid said; place = tally .place; missing = missingSaid said; messages = tally .messages; rows = tally .rows }
+
+unfoldable pub walkedTo : Walk → Walked
+walkedTo w = walkedAt (answerOf (w .stop)) (tallyOf w)
 
 -- whether a walk may have changed what is held: a message was accepted, or the stop is 13
 unfoldable pub changing : Answer → ℕ → Bool

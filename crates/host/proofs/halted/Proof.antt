@@ -1,11 +1,9 @@
 -- `host::halted` meets its contract. Assumes nothing.
 use borrow.Author.Needs.{needs}
-use Rattle.host.specs.Handing.{walkedAt}
 use Rattle.host.proofs.halted.Statement.{statement}
 use Rattle.host.proofs.halted.Tie as tie
 
 returns : tie.Need-returns
-unfolding walkedAt
 returns c =
     let n = c .before in
     let t = n .before .args .tally in
