@@ -7,7 +7,6 @@ cd "$(dirname "$0")/.."
 others='bench/as_host.c bench/bitwise_write.c bench/bitwise_hold.c bench/setbit.c bench/tuned_write.c
 bench/tuned_hold.c bench/tuned_test.c'
 for writer in bitwise_write tuned_as_host; do
-    ALSO="-Ibench -Dhundurzek_write=$writer $others"
     echo "== $writer"
-    agree write 'sweep write' 'write 1 300000' 'rounds 1 100000'
+    agree write -Ibench "-Dhundurzek_write=$writer" $others
 done

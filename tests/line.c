@@ -67,7 +67,7 @@ enum { FAMILIES = sizeof families / sizeof *families };
 static void compare_line(kind *k) {
   take_text(&stretch);
   hundurzek_done want = take_done(&stretch), *got = lend_result(sizeof *got);
-  const void *out = hundurzek_line(got, content(line.got), line.count, content(stretch.got), stretch.count);
+  const void *out = hundurzek_line(got, line.got, line.count, stretch.got, stretch.count);
   compare_done(got, out, &want);
   compare_lent();
   count_answer(k, families, FAMILIES, want.answer);

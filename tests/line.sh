@@ -4,4 +4,4 @@
 set -eu
 cd "$(dirname "$0")/.."
 . tests/lib/tools.sh
-agree line 'sweep line' 'line 1 150000'
+agree line

@@ -28,7 +28,7 @@ static void count_answer(kind *k, const hundurzek_reading *want) {
   k->counts[message ? MESSAGES : want->answer]++;
   if (message) k->counts[SUBTYPE + want->head.subtype]++;
   count_missing(&missing[k - kinds], want->answer, want->missing);
-  count_changed(&changed[k - kinds], want->answer, want->place, content(holding.got));
+  count_changed(&changed[k - kinds], want->answer, want->place, holding.got);
   count_refused(want->answer, want->place);
 }
 
@@ -57,10 +57,10 @@ static void compare_empty(void) {
     bool room = count >= HUNDURZEK_HOLDING;
     now.record = count;
     lend(&holding, count);
-    memset(content(holding.got), 0x5A, count);
-    memset(content(holding.want), 0x5A, count);
-    if (room) memset(content(holding.want), 0, HUNDURZEK_HOLDING);
-    compare("answer", hundurzek_empty(content(holding.got), count), room ? 0 : 1);
+    memset(holding.got, 0x5A, count);
+    memset(holding.want, 0x5A, count);
+    if (room) memset(holding.want, 0, HUNDURZEK_HOLDING);
+    compare("answer", hundurzek_empty(holding.got, count), room ? 0 : 1);
     compare_lent();
   }
 }
@@ -70,7 +70,7 @@ static void compare_empty(void) {
 /* How often it came in each stream; in the single readings so often at least. */
 static void judge(const char *what, unsigned long which, size_t count, unsigned long least) {
   print_counts(what, which, kinds, KINDS, count);
-  need(kinds[READ].counts[count] >= least, what, which);
+  need(kinds[READ].counts[count], least, what, which);
 }
 
 /* Every stop and every sub type often, messages over a third of the single readings; beside 3 few bits missing, and

@@ -4,4 +4,4 @@
 set -eu
 cd "$(dirname "$0")/.."
 . tests/lib/tools.sh
-agree read fixed 'read 1 300000' 'stretch 1 22000'
+agree read

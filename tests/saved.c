@@ -108,7 +108,7 @@ enum { SAVINGS = sizeof savings / sizeof *savings, LOADINGS = sizeof loadings / 
 static void compare_save(kind *k) {
   take_text(&line);
   hundurzek_done want = take_done(&line), *got = lend_result(sizeof *got);
-  const void *out = hundurzek_save(got, content(holding.got), holding.count, content(line.got), line.count);
+  const void *out = hundurzek_save(got, holding.got, holding.count, line.got, line.count);
   compare_done(got, out, &want);
   compare_lent();
   count_answer(k, savings, SAVINGS, want.answer);
@@ -126,7 +126,7 @@ static hundurzek_loaded take_loaded(void) {
 static void compare_load(kind *k) {
   take_text(&stretch);
   hundurzek_loaded want = take_loaded(), *got = lend_result(sizeof *got);
-  const void *out = hundurzek_load(got, content(line.got), line.count);
+  const void *out = hundurzek_load(got, line.got, line.count);
   if (out != got) differ("another pointer is returned");
   compare("answer", got->answer, want.answer);
   for (size_t i = 0; i < sizeof want.holding; i++)

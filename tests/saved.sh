@@ -4,4 +4,4 @@
 set -eu
 cd "$(dirname "$0")/.."
 . tests/lib/tools.sh
-agree saved 'sweep save' 'save 1 150000' 'sweep load' 'load 1 150000'
+agree saved

@@ -4,4 +4,4 @@
 set -eu
 cd "$(dirname "$0")/.."
 . tests/lib/tools.sh
-agree walk bench 'walk 1 50000'
+agree walk

@@ -126,8 +126,8 @@ static void compare_write(kind *k, const hundurzek_done *want) {
   hundurzek_done *got = lend_result(sizeof *got);
   now.end = 8 * target.count;
   const void *out =
-      hundurzek_write(got, content(holding.got), lent.holding, numbers(head.got), lent.head, numbers(rows.got),
-                      lent.rows, counted, content(target.got), target.count, now.place);
+      hundurzek_write(got, holding.got, lent.holding, numbers(head.got), lent.head, numbers(rows.got),
+                      lent.rows, counted, target.got, target.count, now.place);
   compare_done(got, out, want);
   compare_lent();
   if (want->answer == HUNDURZEK_DONE) k->counts[ANSWERS + head_number(0)]++;
@@ -154,13 +154,13 @@ static saved base_head, base_rows, base_target;
 static void save(saved *to, const buffer *from) {
   if (from->count > sizeof to->bytes) broken("too long for changes");
   to->count = from->count;
-  memcpy(to->bytes, content(from->got), from->count);
+  memcpy(to->bytes, from->got, from->count);
 }
 
 static void put_back(buffer *to, const saved *from) {
   lend(to, from->count);
-  memcpy(content(to->got), from->bytes, from->count);
-  memcpy(content(to->want), from->bytes, from->count);
+  memcpy(to->got, from->bytes, from->count);
+  memcpy(to->want, from->bytes, from->count);
 }
 
 /* How often each number of the head, and of a row, was changed by itself, by sub type. */
@@ -181,10 +181,10 @@ static void splice(size_t part) {
   size_t from = 4 * number(2), past = 4 * number(2), count = 4 * number(2);
   if (from > past || past > base->count) broken("a change of what isn't there");
   lend(to, base->count - (past - from) + count);
-  memcpy(content(to->got), base->bytes, from);
-  get(content(to->got) + from, count);
-  memcpy(content(to->got) + from + count, base->bytes + past, base->count - past);
-  memcpy(content(to->want), content(to->got), to->count);
+  memcpy(to->got, base->bytes, from);
+  get(to->got + from, count);
+  memcpy(to->got + from + count, base->bytes + past, base->count - past);
+  memcpy(to->want, to->got, to->count);
   if (count == 4 && past - from == 4) count_single(part, from / 4);
 }
 
@@ -222,7 +222,7 @@ static void judge_singles(void) {
       printf("numbers changed, %s %2u", part == HEAD ? "head" : "rows", subtypes[k]);
       for (size_t i = 0; i < HUNDURZEK_ROW; i++) {
         printf(" %6lu", single[part][subtypes[k]][i]);
-        need(single[part][subtypes[k]][i] >= 500, "numbers changed, sub type", subtypes[k]);
+        need(single[part][subtypes[k]][i], 500, "numbers changed, sub type", subtypes[k]);
       }
       printf("\n");
     }
@@ -244,7 +244,7 @@ static void write_back(kind *k, uint64_t start, const hundurzek_reading *message
   hundurzek_done want = {HUNDURZEK_DONE, place + count, count};
   fill_bytes(&target, room, seed);
   if (want.place > 8 * target.count) broken("no room for the message");
-  copy_bits(content(target.want), place, content(stretch.want), start, count);
+  copy_bits(target.want, place, stretch.want, start, count);
   now.place = place;
   now.call++;
   compare_write(k, &want);
@@ -264,7 +264,7 @@ static void read_again(const uint8_t *before, uint64_t start, const hundurzek_re
   want.place = now.place + (message->place - start);
   want.raw_offset = now.place / 8;
   want.raw_count = (want.place + 7) / 8 - want.raw_offset;
-  memcpy(content(holding.got), before, holding.count);
+  memcpy(holding.got, before, holding.count);
   forget_rows(message->rows);
   now.call++;
   compare_reading(&target, &want);
@@ -272,8 +272,8 @@ static void read_again(const uint8_t *before, uint64_t start, const hundurzek_re
 
 static void lend_head(const hundurzek_head *from) {
   lend(&head, sizeof *from);
-  memcpy(content(head.got), from, sizeof *from);
-  memcpy(content(head.want), from, sizeof *from);
+  memcpy(head.got, from, sizeof *from);
+  memcpy(head.want, from, sizeof *from);
 }
 
 static void compare_round(kind *k) {
@@ -314,7 +314,7 @@ static void judge_subtypes(void) {
   for (size_t i = 0; i < NINE; i++) {
     print_counts("sub type", subtypes[i], kinds, KINDS, ANSWERS + subtypes[i]);
     for (size_t k = 0; k < KINDS; k++)
-      need(kinds[k].counts[ANSWERS + subtypes[i]] >= least[k], kinds[k].name, subtypes[i]);
+      need(kinds[k].counts[ANSWERS + subtypes[i]], least[k], kinds[k].name, subtypes[i]);
   }
 }
 

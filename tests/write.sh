@@ -4,4 +4,4 @@
 set -eu
 cd "$(dirname "$0")/.."
 . tests/lib/tools.sh
-agree write 'sweep write' 'write 1 300000' 'rounds 1 100000'
+agree write

@@ -20,7 +20,7 @@ typedef struct {
 
 void compare_dropped(uint64_t answer) {
   static const uint8_t empty[HUNDURZEK_HOLDING];
-  if (answer == CHANGED_MASK && memcmp(content(holding.got), empty, sizeof empty) != 0)
+  if (answer == CHANGED_MASK && memcmp(holding.got, empty, sizeof empty) != 0)
     differ("a mask is held after answer 13");
 }
 
@@ -94,6 +94,6 @@ void judge_changed(const changed_counts *kinds, size_t count, size_t judged, uns
     printf("13 by: %-17s", names[change]);
     for (size_t k = 0; k < count; k++) printf(" %9lu", kinds[k].often[change]);
     printf("\n");
-    need(kinds[judged].often[change] >= least, names[change], kinds[judged].often[change]);
+    need(kinds[judged].often[change], least, names[change], kinds[judged].often[change]);
   }
 }

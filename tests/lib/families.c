@@ -62,6 +62,6 @@ void judge_families(const family *families, size_t count) {
   print_family(families, count, NULL);
   for (const family *f = families; f < families + count; f++) {
     print_family(families, count, f);
-    for (size_t i = 0; i < ANSWERS; i++) need(f->counts[i] >= f->least[i], f->name, f->counts[i]);
+    for (size_t i = 0; i < ANSWERS; i++) need(f->counts[i], f->least[i], f->name, f->counts[i]);
   }
 }

@@ -39,10 +39,10 @@ void judge_missing(const missing_counts *kinds, size_t count, size_t judged, uns
     printf("%-15s %3lu", "missing from", ranges[range]);
     for (size_t k = 0; k < count; k++) printf(" %9lu", times(&kinds[k], range));
     printf("\n");
-    need(times(&kinds[judged], range) >= least, "missing from", ranges[range]);
+    need(times(&kinds[judged], range), least, "missing from", ranges[range]);
   }
   printf("%-19s", "different numbers");
   for (size_t k = 0; k < count; k++) printf(" %9lu", numbers_of(&kinds[k]));
   printf("\n");
-  need(numbers_of(&kinds[judged]) >= different, "different numbers of missing bits", different);
+  need(numbers_of(&kinds[judged]), different, "different numbers of missing bits", different);
 }

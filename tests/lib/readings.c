@@ -17,8 +17,8 @@ hundurzek_reading take_reading(void) {
   want.raw_count = number(8);
   if (want.answer >= STOPS && want.answer != HUNDURZEK_MESSAGE) broken("no such answer");
   if (want.rows * ROW_BYTES > rows.count) broken("too many rows");
-  get(content(rows.want), want.rows * ROW_BYTES);
-  get(content(holding.want), holding.count);
+  get(rows.want, want.rows * ROW_BYTES);
+  get(holding.want, holding.count);
   return want;
 }
 
@@ -33,7 +33,7 @@ static void compare_head(const hundurzek_head *got, const hundurzek_head *want) 
 
 void compare_reading(const buffer *bytes, const hundurzek_reading *want) {
   hundurzek_reading *got = lend_result(sizeof *got);
-  const void *out = hundurzek_read(got, content(holding.got), holding.count, content(bytes->got), bytes->count, now.end,
+  const void *out = hundurzek_read(got, holding.got, holding.count, bytes->got, bytes->count, now.end,
                                    now.place, numbers(rows.got), rows.count / 4);
   if (out != got) differ("another pointer is returned");
   compare("answer", got->answer, want->answer);

@@ -25,7 +25,7 @@ static struct {
 enum { REFUSALS = sizeof refusals / sizeof *refusals };
 
 static uint64_t end_of(size_t field) {
-  return ends[field] + (field == SELECTION ? content(holding.want)[SATELLITES] : 0);
+  return ends[field] + (field == SELECTION ? holding.want[SATELLITES] : 0);
 }
 
 /* The first field that ends behind so many bits, all that are left from the place on; else the body. */
@@ -57,6 +57,6 @@ void judge_refused(unsigned long least) {
     for (size_t field = refusals[i].from; field <= refusals[i].to; field++) {
       unsigned long often = refusals[i].often[field];
       printf("%2u at %u: %-20s %6lu\n", refusals[i].answer, refusals[i].subtype, names[field], often);
-      need(often >= least, names[field], refusals[i].subtype);
+      need(often, least, names[field], refusals[i].subtype);
     }
 }

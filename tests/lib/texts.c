@@ -15,6 +15,6 @@ hundurzek_done take_done(buffer *written) {
   want.count = number(8);
   size_t count = number(4);
   if (count > written->count) broken("more is written than there is room for");
-  get(content(written->want), count);
+  get(written->want, count);
   return want;
 }

@@ -8,8 +8,11 @@
 # archives CRATE: what a program over it links.
 # compile NAME CRATE SOURCE..: makes target/tests/NAME of tests/NAME.c, further sources and the crate's static library.
 # second: makes the second program, target/tests/second.
-# agree NAME STREAM..: runs tests/NAME.c over crate host on these streams of the second program (second/README.md,
-# emit); ALSO is what else goes to the compiler, flags and sources.
+# comparing NAME: the sources of tests/NAME.c, which compares with the second program, all of them.
+# streams NAME: those of the second program that it compares (second/README.md, emit), one to a line.
+# emit PART: the streams that come as such lines; of random ones the PART-th part of their cases.
+# agree NAME [WORD ..]: runs it over crate host, on this machine, on all of its streams; the words, flags and further
+# sources, go to the compiler.
 need() {
     command -v "$1" >/dev/null 2>&1 && return 0
     shift
@@ -17,7 +20,7 @@ need() {
         apt-get update -qq >/dev/null 2>&1 || true
         tools_updated=yes
     fi
-    DEBIAN_FRONTEND=noninteractive apt-get install -y -qq "$@" >/dev/null 2>&1
+    DEBIAN_FRONTEND=noninteractive apt-get install -y -qq --no-install-recommends "$@" >/dev/null 2>&1
 }
 
 FLAGS='-O2 -std=c11 -Wall -Wextra -Werror'
@@ -65,13 +68,34 @@ second() {
     rustc -O --edition 2021 -D warnings second/main.rs -o target/tests/second
 }
 
+comparing() {
+    echo "tests/$1.c"
+    for file in offsets streams lending changed families missing readings refused texts writes; do
+        echo "tests/lib/$file.c"
+    done
+}
+
+streams() {
+    case $1 in
+    read) printf '%s\n' fixed 'read 1 300000' 'stretch 1 22000' ;;
+    walk) printf '%s\n' bench 'walk 1 60000' ;;
+    write) printf '%s\n' 'sweep write' 'write 1 300000' 'rounds 1 100000' ;;
+    saved) printf '%s\n' 'sweep save' 'save 1 150000' 'sweep load' 'load 1 150000' ;;
+    line) printf '%s\n' 'sweep line' 'line 1 150000' ;;
+    esac
+}
+
+emit() {
+    while read -r kind of cases; do
+        target/tests/second emit "$kind" $of ${cases:+$(((cases + $1 - 1) / $1))}
+    done
+}
+
 agree() {
     program=$1
     shift
     second
-    compile "$program" host tests/lib/streams.c tests/lib/changed.c tests/lib/families.c tests/lib/missing.c \
-        tests/lib/readings.c tests/lib/refused.c tests/lib/texts.c tests/lib/writes.c ${ALSO:-}
-    for stream; do
-        target/tests/second emit $stream
-    done 2>"target/tests/$program.log" | $RUN "target/tests/$program"
+    archive host
+    $CC $FLAGS -Iinclude -Itests/lib $(comparing "$program") "$@" $(archives host) -o "target/tests/$program"
+    streams "$program" | emit 1 2>"target/tests/$program.log" | $RUN "target/tests/$program"
 }

@@ -36,7 +36,7 @@ hundurzek_done take_written(void) {
   if (want.answer != HUNDURZEK_DONE) return want;
   uint64_t from = now.place / 8, to = (want.place + 7) / 8;
   if (from > to || to > target.count) broken("more is written than there is room for");
-  get(content(target.want) + from, to - from);
+  get(target.want + from, to - from);
   return want;
 }
 
@@ -81,10 +81,10 @@ static bool no_rows(const hundurzek_done *w, uint64_t n) {
 }
 
 static bool no_satellites(const hundurzek_done *w, uint64_t n) {
-  return no_rows(w, n) && content(holding.want)[SATELLITES] == 0;
+  return no_rows(w, n) && holding.want[SATELLITES] == 0;
 }
 
-static bool unheld(const hundurzek_done *w, uint64_t n) { return of_subtype(w, n) && content(holding.want)[0] == 0; }
+static bool unheld(const hundurzek_done *w, uint64_t n) { return of_subtype(w, n) && holding.want[0] == 0; }
 
 static bool full(const hundurzek_done *w, uint64_t n) { return w->answer == n && now.place == limit(); }
 
@@ -197,6 +197,6 @@ void count_facts(const hundurzek_done *want) {
 void judge_facts(void) {
   for (size_t i = 0; i < FACTS; i++) {
     printf("%-33s %20" PRIu64 " %7lu\n", facts[i].name, facts[i].n, facts[i].count);
-    need(facts[i].count >= facts[i].least, facts[i].name, facts[i].n);
+    need(facts[i].count, facts[i].least, facts[i].name, facts[i].n);
   }
 }
