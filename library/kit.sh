@@ -3,7 +3,7 @@
 #   machine    this machine's name; $kit/on/$machine is what the kit has for it
 #   clang      the kit's compiler
 #   tool NAME  the same program under another name that it answers to: llvm-ar, llvm-nm, llvm-size, wasm-ld
-kit=$(dirname "$(dirname "$(readlink -f "$(command -v rt)")")")
+kit=${RATTLE_HOME:-$(dirname "$(dirname "$(readlink -f "$(command -v rt)")")")}
 machine=$(uname -m)
 clang=$kit/on/$machine/toolchain/bin/clang
 

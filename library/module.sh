@@ -30,5 +30,9 @@ exec "$clang" "\$@"
 END_OF_CLANG
 chmod +x "$copy/$tools/bin/clang"
 RATTLE_HOME=$copy rt staticlib "$crate"
+[ -f "$kept" ] || {
+    echo "rt staticlib $crate compiled no module"
+    exit 1
+}
 "$clang" --target=x86_64-unknown-linux-gnu -x ir -S -emit-llvm -Xclang -disable-llvm-passes "$kept" \
     -o "target/module/$crate.ll"

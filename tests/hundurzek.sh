@@ -128,8 +128,13 @@ misused '--from needs a saved line' ./hundurzek list --from
 misused '--from needs a saved line' ./hundurzek save --from ''
 misused 'library needs a folder' ./hundurzek library
 misused 'library needs a folder' ./hundurzek library ''
-misused 'library needs a folder' ./hundurzek library "$work/one" "$work/two"
+misused "no such option: $work/two" ./hundurzek library "$work/one" "$work/two"
 misused 'no such option: -p' ./hundurzek library -p
+misused '--target needs a name: x86_64 ' ./hundurzek library "$work/one" --target
+misused 'no such target: armv7; there are x86_64 ' ./hundurzek library "$work/one" --target aarch64 armv7
+misused 'no such target: all; there are x86_64 ' ./hundurzek library "$work/one" --target aarch64 all
+misused 'no such target: aarch.*; there are x86_64 ' ./hundurzek library "$work/one" --target 'aarch.*'
+misused 'no such target: ; there are x86_64 ' ./hundurzek library "$work/one" --target ''
 misused 'test takes nothing' ./hundurzek test tests/hundurzek.sh
 
 for line in S "$work/saved" "$saved " "$(printf 'S\t-\t')" "$(printf 'S\t3\t0\tA000000000\t8100\t1\tb')" \
@@ -150,16 +155,18 @@ refuses 1 'hundurzek: listing' sh -c './hundurzek list >/dev/full'
 refuses 1 'hundurzek: listing' sh -c './hundurzek save >/dev/full'
 refuses 1 'clock' ./hundurzek library "$work/clock"
 
-# ---- building, in a folder that has the script alone, with a kit that notes its calls and does what $work/does says
+# ---- building, in a folder that has the scripts alone, with a kit that notes its calls and does what $work/does says;
+# its compiler is the real one
 
-mkdir -p "$work/clone/crates" "$work/clone/include" "$work/kit"
-cp hundurzek "$work/clone/"
-cp include/hundurzek.h "$work/clone/include/"
+./hundurzek library "$work/real" >/dev/null 2>&1
+mkdir -p "$work/clone/crates" "$work/kit/bin"
+cp -R hundurzek include library "$work/clone/"
 : >"$work/clone/crates.txt"
 : >"$work/calls"
-printf '#!/bin/sh\necho "$*" >>"%s/calls"\n. "%s/does"\n' "$work" "$work" >"$work/kit/rt"
-chmod +x "$work/kit/rt"
-clone() { PATH=$work/kit:$PATH "$work/clone/hundurzek" "$@"; }
+ln -s "$(dirname "$(dirname "$(readlink -f "$(command -v rt)")")")/on" "$work/kit/on"
+printf '#!/bin/sh\necho "$*" >>"%s/calls"\n. "%s/does"\n' "$work" "$work" >"$work/kit/bin/rt"
+chmod +x "$work/kit/bin/rt"
+clone() { PATH=$work/kit/bin:$PATH "$work/clone/hundurzek" "$@"; }
 
 # called TIMES: the kit, so far
 called() {
@@ -167,11 +174,10 @@ called() {
     if [ "$times" -eq "$1" ]; then judge built yes; else judge "built $times times, not $1" no; fi
 }
 
-# puts DIR: the library is put there
+# puts DIR: this machine's library is put there, the very one
 puts() {
     ran clone library "$1"
-    if [ $status -eq 0 ] && [ ! -s "$work/out" ] && [ "$(ar t "$1/libhundurzek.a" | tr '\n' ' ')" = 'host.o host_write.o ' ] &&
-        cmp -s include/hundurzek.h "$1/hundurzek.h" && [ -s "$1/hundurzek.pc" ]; then
+    if [ $status -eq 0 ] && [ "$(wc -l <"$work/out")" -eq 1 ] && diff -r "$work/real" "$1"; then
         judge "library" yes
     else
         judge "status $status: library $1" no
@@ -187,29 +193,31 @@ echo 'echo bad news; exit 1' >"$work/does"
 refuses 1 'hundurzek: it failed' clone library "$work/library"
 if grep -q '^bad news$' "$work/err"; then judge 'what failed' yes; else judge 'what failed is not told' no; fi
 echo 'exit 0' >"$work/does"
-refuses 1 'hundurzek: there is no ' clone library "$work/library"
+refuses 1 'rt staticlib host compiled no module' clone library "$work/library"
+refuses 1 'hundurzek: there is no ' clone list
 called 2
-cat >"$work/does" <<'END'
-mkdir -p target/staticlib
-for part in host host_write; do
-    echo object >$part.o
-    ar rc target/staticlib/lib$part.a $part.o
-done
+# as rattle compiles what it has proved
+cat >"$work/does" <<END
+cd "$work"
+cp "$home/target/module/\$2.bc" module.bc
+"\$RATTLE_HOME/on/$(uname -m)/toolchain/bin/clang" -x ir -c module.bc -o module.o
 END
 puts "$work/library"
 called 3
 puts "$work/deep/er library"
 called 3
-# a change that does not concern the library: the kit says that nothing is to be done, and is not asked again
-touch -d '1 minute ago' "$work/clone/target/staticlib/libhost.a"
-echo 'exit 0' >"$work/does"
-puts "$work/library"
-called 4
-puts "$work/library"
-called 4
 touch -d '1 minute' "$work/clone/crates.txt"
 puts "$work/library"
-called 5
+called 4
+
+# a build for two, into a folder each
+ran clone library "$work/two" --target aarch64 riscv64
+if [ $status -eq 0 ] && [ "$(ls "$work/two" | tr '\n' ' ')" = 'aarch64 riscv64 ' ] &&
+    [ "$(sed 's/: .*//' "$work/out" | tr '\n' ' ')" = 'aarch64 riscv64 ' ]; then
+    judge 'two targets' yes
+else
+    judge "status $status: two targets" no
+fi
 
 echo "$passed passed, $failed failed"
 [ "$failed" -eq 0 ]
