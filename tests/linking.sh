@@ -6,36 +6,26 @@ set -eu
 cd "$(dirname "$0")/.."
 . tests/lib/tools.sh
 . tests/lib/judge.sh
+need cc gcc libc6-dev
 need pkg-config pkg-config
 home=$PWD
 work=$(mktemp -d)
 trap 'rm -rf "$work"' EXIT
-# On another processor README.md's cc is one that compiles for x86-64, and runs what it made under the emulator.
-if [ -n "$RUN" ]; then
-    mkdir "$work/shims"
-    cat >"$work/shims/cc" <<END
-#!/bin/sh
-set -eu
-$CC "\$@"
-for made; do :; done
-mv "\$made" "\$made.x86-64"
-printf '#!/bin/sh\nexec $RUN "\$0.x86-64"\n' >"\$made"
-chmod +x "\$made"
-END
-    chmod +x "$work/shims/cc"
-    PATH=$work/shims:$PATH
-fi
-
 # The section's text, and the lines of it to be pasted.
 section() { sed -n '/^## Linking it into a C program$/,/^## /p' README.md; }
 section | sed -n 's/^    //p' >"$work/lines"
 
-# lists WHAT LINES: whether a shell in a fresh folder, with these lines pasted, prints the worked listing and no more
+# lists WHAT LINES: whether a shell in a fresh folder, with these lines pasted, prints what it says of the library, the
+# worked listing and no more
 lists() {
     rm -rf "$work/own folder"
     mkdir "$work/own folder"
     (cd "$work/own folder" && HUNDURZEK=$home sh -eu "$2") >"$work/got" || echo "status $?" >>"$work/got"
-    if diff crates/listing/stdout "$work/got"; then judge "$1" yes; else judge "$1" no; fi
+    if sed 1d "$work/got" | diff crates/listing/stdout - && sed -n 1p "$work/got" | grep -q ' bytes of text, needs '; then
+        judge "$1" yes
+    else
+        judge "$1" no
+    fi
 }
 
 lists 'the lines of README.md' "$work/lines"
@@ -55,7 +45,7 @@ says() {
     if [ "$got" = "$want" ]; then judge "$what" yes; else judge "$what: $got" no; fi
 }
 
-./hundurzek library "$work/a folder"
+./hundurzek library "$work/a folder" >/dev/null
 for folder in "$work/a folder" "$work/moved folder"; do
     [ -d "$folder" ] || mv "$work/a folder" "$folder"
     escaped=$(printf '%s' "$folder" | sed 's/ /\\ /g')
