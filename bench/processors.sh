@@ -9,13 +9,8 @@ set -eu
 cd "$(dirname "$0")/.."
 . bench/lib/measure.sh
 . library/kit.sh
+. tests/lib/processors.sh
 need python3 python3
-need aarch64-linux-gnu-gcc gcc-aarch64-linux-gnu libc6-dev-arm64-cross
-need arm-linux-gnueabihf-gcc gcc-arm-linux-gnueabihf libc6-dev-armhf-cross
-need riscv64-linux-gnu-gcc gcc-riscv64-linux-gnu libc6-dev-riscv64-cross
-need arm-none-eabi-gcc gcc-arm-none-eabi picolibc-arm-none-eabi
-need riscv64-unknown-elf-gcc gcc-riscv64-unknown-elf picolibc-riscv64-unknown-elf
-need qemu-system-arm qemu-system-arm
 
 FUNCTIONS='empty read walk write save load line'
 LINUX='x86_64 aarch64 armv7a riscv64'
@@ -24,45 +19,22 @@ work=target/bench/processors
 
 # ---- programs for a processor
 
-# program NAME PROGRAM WORD..: makes it of C sources (flags too) and the processor's library. For the bare ones it has
-# picolibc, prints and stops by semihosting. A Cortex-M4's memory is that of the emulated board. That for riscv32 is
-# loaded as Linux's programs are, with a stack and with its data in place: so it lies where the linker puts one that is
-# told nothing, and begins with main. Nothing has set the global pointer then, so it is linked without relaxation.
+# program NAME PROGRAM WORD..: makes it of C sources (flags too) and the processor's library
 program() {
-    processor=$1
-    made=$work/$1/$2
+    processor "$1"
+    own=$work/$1
+    made=$own/$2
     shift 2
-    case $processor in
-    x86_64) set -- $CC -static "$@" ;;
-    aarch64) set -- aarch64-linux-gnu-gcc -static "$@" ;;
-    armv7a) set -- arm-linux-gnueabihf-gcc -static "$@" ;;
-    riscv64) set -- riscv64-linux-gnu-gcc -static "$@" ;;
-    thumbv7em*)
-        set -- arm-none-eabi-gcc -mcpu=cortex-m4 --specs=picolibc.specs --oslib=semihost -Wl,--no-warn-execstack \
-            -Wl,--defsym=__flash=0,--defsym=__flash_size=0x400000 \
-            -Wl,--defsym=__ram=0x21000000,--defsym=__ram_size=0x1000000 "$@"
-        ;;
-    riscv32)
-        riscv64-unknown-elf-ld -m elf32lriscv --verbose | sed '1,/^====/d; /^====/,$d' >$work/riscv32/script
-        set -- riscv64-unknown-elf-gcc -march=rv32imac -mabi=ilp32 --specs=picolibc.specs --oslib=semihost \
-            -nostartfiles -T $work/riscv32/script -Wl,--entry=main,--no-relax "$@"
-        ;;
-    esac
-    "$@" $FLAGS -Iinclude "$work/$processor/libhundurzek.a" -o "$made"
+    $CC $FLAGS -Iinclude "$@" "$own/libhundurzek.a" -o "$made"
 }
 
-# emulate NAME PROGRAM WORD..: runs it, with these words for the emulator. A Cortex-M4 is emulated with a board: what
-# emulates Linux's programs does not take it (Debian 12's qemu-arm -cpu cortex-m4 stops: "page_set_flags: Assertion
-# `end - 1 <= GUEST_ADDR_MAX' failed").
+# emulate NAME PROGRAM WORD..: runs it, with these words for the emulator
 emulate() {
-    processor=$1
-    run=$work/$1/$2
+    processor "$1"
+    made=$work/$1/$2
+    emulator=${RUN%% *}
     shift 2
-    case $processor in
-    thumbv7em*) qemu-system-arm -M mps2-an386 -nographic -semihosting "$@" -kernel "$run" </dev/null ;;
-    armv7a) qemu-arm "$@" "$run" ;;
-    *) "qemu-$processor" "$@" "$run" ;;
-    esac
+    $emulator "$@" ${RUN#"$emulator"} "$made" </dev/null
 }
 
 # ---- instructions
@@ -117,10 +89,8 @@ code() {
 # are: its modules are compiled again as library/make.sh does it, so that they do, and must be the same code.
 tell() {
     own=$work/$1
-    words=$(awk -v name="$1" '$1 == name { sub(/^[^ ]+ +/, ""); print }' library/targets)
     for part in host host_write; do
-        "$clang" $words -ffunction-sections -fdata-sections -mllvm -trap-unreachable -mllvm -no-trap-after-noreturn \
-            --no-default-config -fstack-size-section -c -x ir "target/library/$1/$part.ll" -o "$own/$part.o" -O3
+        "$clang" $(words "$1") $AS_RATTLE -fstack-size-section "target/library/$1/$part.ll" -o "$own/$part.o"
     done
     code "$own/libhundurzek.a" >"$own/listing"
     code "$own/host.o" "$own/host_write.o" | cmp - "$own/listing" >&2
@@ -175,6 +145,7 @@ outside_rows() {
 
 # ---- the tables
 
+for name in $ALL; do tools_for "$name"; done
 rm -rf $work
 mkdir -p $work
 ./hundurzek library $work --target all >$work/said

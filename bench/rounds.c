@@ -6,7 +6,7 @@
    many bits there are with the padding; fails where walks are not the readings, or the bytes written are not the bytes
    read.
 
-   WAY is a macro, and main ends with exit: a bare processor hands main nothing, and may have nothing to return to. */
+   WAY is a macro: a machine without a system hands main nothing. */
 #include <stdbool.h>
 #include <stdint.h>
 #include <stdio.h>
@@ -161,5 +161,5 @@ int main(void) {
   ways[way]();
   printf("%lu %lu %lu %lu\n", (unsigned long)message_count, (unsigned long)row_count, (unsigned long)message_bits,
          (unsigned long)all_bits);
-  exit(0);
+  return 0;
 }

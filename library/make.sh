@@ -7,7 +7,7 @@ folder=$(readlink -f "$1")
 name=$2
 cd "$(dirname "$0")/.."
 . library/kit.sh
-words=$(awk -v name="$name" '$1 == name { sub(/^[^ ]+ +/, ""); print }' library/targets)
+words=$(words "$name")
 work=target/library/$name
 rm -rf "$work"
 mkdir -p "$work"
@@ -28,10 +28,7 @@ esac
 for part in host host_write; do
     awk -v crate=$part -v layout="$layout" -v triple="$triple" -v also="$also" \
         -f library/retarget.awk "target/module/$part.ll" >"$work/$part.ll"
-    # as rattle does it for x86-64
-    "$clang" $words -ffunction-sections -fdata-sections -mllvm -trap-unreachable -mllvm -no-trap-after-noreturn \
-        --no-default-config -no-canonical-prefixes -fintegrated-cc1 -fno-crash-diagnostics -Werror -c -x ir \
-        "$work/$part.ll" -o "$work/$part.o" -O3
+    "$clang" $words $AS_RATTLE "$work/$part.ll" -o "$work/$part.o"
 done
 
 cp include/hundurzek.h "$folder/"

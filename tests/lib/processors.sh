@@ -1,14 +1,19 @@
-# Sourced after tools.sh: what compiles and runs C for each processor of library/targets but x86-64 and wasm32.
+# Sourced after tools.sh: what compiles and emulates C for each processor of library/targets but wasm32.
 #   processor NAME   sets CC, which compiles and links a C program for it, and RUN, which goes in front of that program
 #   tools_for NAME   installs what that needs, from Debian's packages; for wasm32 node
 # The machines without a system have their standard input, output and files from the emulator (semihosting); what they
 # print comes on the emulator's standard error.
 BARE='--specs=picolibc.specs --oslib=semihost --crt0=hosted -Wl,--no-warn-execstack,--defsym=__stack_size=0x10000'
 BARE="$BARE,--defsym=__flash_size=0x400000,--defsym=__ram_size=0x1000000"
+X86_CC=$CC
 EMULATED='-display none -monitor none -serial none -semihosting-config enable=on,target=native -kernel'
 
 processor() {
     case $1 in
+    x86_64)
+        CC="$X86_CC -static"
+        RUN=qemu-x86_64
+        ;;
     aarch64)
         CC='aarch64-linux-gnu-gcc -static'
         RUN=qemu-aarch64
@@ -51,6 +56,6 @@ tools_for() {
     wasm32-*) need node nodejs ;;
     esac
     case $1 in
-    aarch64 | armv7a | riscv64) need qemu-riscv64 qemu-user ;;
+    x86_64 | aarch64 | armv7a | riscv64) need qemu-riscv64 qemu-user ;;
     esac
 }
