@@ -39,7 +39,8 @@ counted() {
     [ "$status" -eq 0 ] || [ "$bad" -gt 0 ] || bad=1
     [ "$bad" -eq 0 ] || {
         echo "status $status"
-        tail -n 40 "$log"
+        head -n 30 "$log"
+        grep '^too few' "$log" || true
     }
     echo "$name, $what: ${line%% *} passed, $bad failed"
     passed=$((passed + ${line%% *}))
