@@ -214,6 +214,7 @@ function fieldParts(stretch, piece, bit) {
   if (field && field.value !== null) told.push(["value", field.value]);
   if (field?.missing > 0) told.push(["bits missing", field.missing]);
   if (field?.whose) told.push(["whose", `${name} ${field.whose}`]);
+  if (field?.note) told.push(["note", field.note]);
   const at = place + bit;
   if (bit !== undefined) told.push(["bit", `${stretch.bit(at)} at place ${at}, bit ${bit + 1} of ${width}`]);
   const list = document.createElement("dl");

@@ -131,6 +131,7 @@ class Laying {
   correction(subType) {
     this.refuse(SUB_TYPE, ![2, 3, 4, 5, 6, 7, 11].includes(subType));
     const iod = this.common("hourly epoch", 12);
+    this.fields.at(-1).note = this.mask === null ? "nothing is held" : `the mask held has ${this.mask.iod}`;
     this.refuse(NO_MASK, this.mask === null);
     this.refuse(OTHER_ISSUE, iod !== this.mask.iod);
     const all = this.mask.satellites.map((_, k) => k);
