@@ -1,0 +1,146 @@
+/* The bench page: lines in, one of them drawn. What is answered comes from the module (reading.js); the fields are the
+   page's own (layout.js), and are drawn only where they fit (agreement.js). */
+import { open } from "../library/hundurzek.js";
+import { Receiver, savedLine, loadedHolding } from "./reading.js";
+import { maskOf } from "./mask.js";
+import { layOut } from "./layout.js";
+import { difference } from "./agreement.js";
+import { listingOf } from "./listing.js";
+import { answerName } from "./words.js";
+import { Drawing } from "./drawing.js";
+
+const by = (id) => document.getElementById(id);
+const embedded = (id) => by(id).textContent.trim();
+const bytesOf = (base64) => Uint8Array.from(atob(base64), (letter) => letter.charCodeAt(0));
+const module = await open(bytesOf(embedded("module")));
+const drawing = new Drawing(by);
+
+/* How long lines are read before the page answers its user again, in milliseconds. */
+const TURN = 40;
+const state = (word) => (document.documentElement.dataset.state = word);
+const nextTurn = () => new Promise((done) => setTimeout(done));
+
+// ---- reading all lines
+
+/* Of each line: its number and text; what the receivers hold before it, nothing for one that has not joined; and what an
+   option says of it. */
+let entries = [];
+let turn = 0; // of the reading that is under way: a later one ends it
+
+function startHolding() {
+  const line = by("start").value;
+  const holding = by("without").checked || line.trim() === "" ? null : loadedHolding(module, line);
+  const bad = !by("without").checked && line.trim() !== "" && holding === null;
+  by("unsaid").textContent = bad ? "12, value: no saved mask; it starts without one." : "";
+  return holding;
+}
+
+function readEntry(receiver, second, line, number) {
+  const before = receiver.holding.slice(), secondBefore = second && second.holding.slice();
+  const stretch = receiver.stretchOf(line);
+  if (stretch === null) return { number, line, before, secondBefore, said: `${number}  B, bad line` };
+  const { answer, place, messages } = receiver.walk(stretch);
+  if (second) second.walk(stretch);
+  return { number, line, before, secondBefore, said: `${number}  ${answerName(answer)} at ${place}, messages: ${messages}` };
+}
+
+function addOptions(some) {
+  const options = some.map(({ number, said }) => new Option(said, number));
+  by("lines").append(...options);
+}
+
+async function readLines(text) {
+  const mine = ++turn, join = Number(by("join").value) || Infinity;
+  const lines = text.split(/(?<=\n)/), receiver = new Receiver(module, startHolding());
+  let second = null, shown = 0, since = performance.now();
+  state("reading");
+  entries = [];
+  by("lines").replaceChildren();
+  by("progress").hidden = false;
+  for (const [k, line] of lines.entries()) {
+    if (k + 1 === join) second = new Receiver(module, null);
+    entries.push(readEntry(receiver, second, line, k + 1));
+    if (performance.now() - since < TURN) continue;
+    addOptions(entries.slice(shown));
+    shown = entries.length;
+    by("progress").value = shown / lines.length;
+    await nextTurn();
+    if (mine !== turn) return;
+    since = performance.now();
+  }
+  addOptions(entries.slice(shown));
+  by("progress").hidden = true;
+  by("lines").value = entries.length;
+  draw(entries.at(-1));
+}
+
+const readInput = () => readLines(by("input").value);
+
+// ---- one line drawn
+
+function laidOut({ stretch, messages, stop }) {
+  const laid = (one) => layOut(stretch, one.place, maskOf(one.before));
+  return { messages: messages.map(laid), stop: stop.answer === 0 ? null : laid(stop) };
+}
+
+/* A reading of a line by a receiver that holds this before it; nothing for a bad line. */
+function readingOf(line, before) {
+  const receiver = new Receiver(module, before), stretch = receiver.stretchOf(line);
+  const reading = stretch && receiver.read(stretch);
+  return { reading, held: savedLine(module, receiver.holding) };
+}
+
+function draw({ number, line, before, secondBefore }) {
+  state("reading");
+  const { reading, held } = readingOf(line, before);
+  const second = secondBefore && readingOf(line, secondBefore).reading;
+  by("held").textContent = held;
+  drawing.texts = { listing: () => listingOf(reading, number), fields: () => "" };
+  if (reading === null) {
+    drawing.clear(`Line ${number} is no line of the listing: B`);
+  } else {
+    const laid = laidOut(reading), wrong = difference(reading, laid.messages, laid.stop);
+    if (wrong) drawing.refuse(`The page's layout does not fit what the module read, so nothing is drawn. ${wrong}.`);
+    else drawing.show(reading, laid, second);
+  }
+  drawing.fillTexts();
+  state("ready");
+}
+
+// ---- what people do
+
+function cases() {
+  const all = JSON.parse(embedded("cases"));
+  by("case").append(...Object.keys(all).map((name) => new Option(name)));
+  by("case").addEventListener("change", ({ target }) => {
+    by("input").value = target.value === "" ? "" : atob(all[target.value]);
+    readInput();
+  });
+}
+
+const readFile = async (file) => readLines(await file.text());
+
+function dropped(event) {
+  event.preventDefault();
+  const [file] = event.dataTransfer.files;
+  if (file) return readFile(file);
+  by("input").value = event.dataTransfer.getData("text");
+  return readInput();
+}
+
+function listen() {
+  by("read").addEventListener("click", readInput);
+  by("input").addEventListener("paste", () => setTimeout(readInput));
+  by("file").addEventListener("change", ({ target }) => target.files.length > 0 && readFile(target.files[0]));
+  for (const id of ["start", "without", "join"]) by(id).addEventListener("change", () => readLines(entries.map(({ line }) => line).join("")));
+  by("lines").addEventListener("change", ({ target }) => draw(entries[target.value - 1]));
+  document.addEventListener("dragover", (event) => event.preventDefault());
+  document.addEventListener("drop", dropped);
+  for (const button of document.querySelectorAll("[data-copies]"))
+    button.addEventListener("click", () => navigator.clipboard.writeText(by(button.dataset.copies).textContent));
+}
+
+cases();
+listen();
+by("input").value = "181\tFE91000645188500000000040806FFA4C1908600160000\n"; // document 01's worked stretch
+readInput();
