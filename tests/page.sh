@@ -41,7 +41,7 @@ broken() {
 }
 
 ./hundurzek page "$work/page.html"
-broken clock '/"clock C0"/s/15/14/'
-broken orbit '/"radial"/s/15/13/; /"along-track"/s/13/15/'
-broken network '/"network ID"/s/5/4/'
+broken clock 's/"clock C0", 15/"clock C0", 14/'
+broken orbit 's/"radial", 15/"radial", 13/; s/"along-track", 13/"along-track", 15/'
+broken network 's/"network ID", 5/"network ID", 4/'
 exec $python -B tests/lib/page.py "$work"

@@ -15,10 +15,10 @@ from selenium.webdriver.common.by import By
 from selenium.webdriver.common.keys import Keys
 
 from checks import check, files, finish
-from fields import SHORT, field_line, listed, lines_of, parse
-from messages import celled
-from page_cases import (ANSWER_NAMES, Piece, colours, expected_pieces, listings, longest_lines, page_name, random_lines,
-                        saved)
+from fields import SIGNED, listed, lines_of
+from messages import Mask, System, correction, mask_message, service, spell, text
+from page_cases import (ANSWER_NAMES, by_line, check_line, colours, listings, longest_lines, page_name, random_lines, saved,
+                        says)
 
 FOLDER = Path(sys.argv[1])
 WORKED = "03-short-body/accepted"
@@ -66,7 +66,7 @@ const pieces = () => {
 const shown = () => ({
   line: number(at("lines").value), option: at("lines").selectedOptions[0].textContent.trim(), pieces: pieces(),
   listing: at("listing-text").textContent, held: at("held").textContent.trim(), stop: at("stop").textContent,
-  second: at("second").textContent, wrong: seen("wrong") ? at("wrong").textContent : "", band: at("band").textContent,
+  second: seen("second") ? at("second").textContent : "", wrong: seen("wrong") ? at("wrong").textContent : "", band: at("band").textContent,
   messages: Array.from(document.querySelectorAll("#messages [data-message]"), (one) => one.textContent),
   grid: ["table", "tr[data-satellite]", "td.cell"].map((what) => at("mask").querySelectorAll(what).length),
 });
@@ -275,3 +275,251 @@ def check_receivers(page):
     page.ask("await change('join', 'value', '');")
     check(not page.show(120)["second"].strip(), "a second receiver that never joined")
     page.check_console("receivers")
+
+
+# ---- pointing and keys
+
+# What is marked: pieces and rows by their numbers, and what is told of the field.
+MARKED = """
+const numbers = (what, key) => [...new Set(Array.from(document.querySelectorAll(what), (one) => Number(one.dataset[key])))];
+return { pieces: numbers("#band .piece.marked", "piece"), rows: numbers("#rows tr.marked", "row"),
+  field: at("field").textContent, shown: numbers("#rows tr[data-row]", "row"), focused: document.activeElement.dataset.piece };
+"""
+
+
+def value_of(field):
+    negative = field.name in SIGNED and field.value >> (field.width - 1)
+    return field.value - (1 << field.width) if negative else field.value
+
+
+def check_marked(page, index, pieces, where):
+    """This piece is marked with all that are in its row, and the row itself."""
+    marked = page.ask(MARKED)
+    message, row = pieces[index]["said"][:2]
+    alike = [k for k, piece in enumerate(pieces) if piece["said"][:2] == [message, row]]
+    in_row = message is not None and row is not None
+    check(marked["pieces"] == (alike if in_row else [index]), f"{where}: pieces {marked['pieces']} are marked for {index}")
+    check(marked["rows"] == ([row] if in_row else []), f"{where}: rows {marked['rows']} are marked for piece {index}")
+    return marked
+
+
+def check_told(marked, bits, message, field, where):
+    parts = [field.place, field.width, bits[field.place:field.place + field.width], page_name(field.name, message.sub_type)]
+    parts += [value_of(field)] if field.width <= 40 else []
+    check(says(marked["field"], *parts), f"{where}: {parts} is told as {marked['field']!r}")
+
+
+def fields_in(case):
+    """The last line's stretch, and the fields of its messages, each with its message."""
+    answer = listed(lines_of(BytesIO(Path("training", f"{case}.txt").read_bytes())))[-1]
+    messages = answer.messages + [answer.stopped]
+    return answer.stopped.bits, [(message, field) for message in messages for field in message.taken if field.width]
+
+
+def check_pointing(page, case):
+    """With the pointer, over each piece, and over each row of the last message."""
+    take_case(page, case)
+    pieces, (bits, fields) = page.ask("return pieces()"), fields_in(case)
+    for index, (message, field) in enumerate(fields):
+        ActionChains(page.driver).move_to_element(page.find(f'#band [data-piece="{index}"]')).perform()
+        check_told(check_marked(page, index, pieces, case), bits, message, field, f"{case}, pointed at")
+    rows = page.find_all("#rows tr[data-row]")
+    last = max(piece["said"][0] for piece in pieces if piece["said"][0] is not None)
+    for row, element in enumerate(rows):
+        ActionChains(page.driver).move_to_element(element).perform()
+        check_row(page, pieces, last, row, f"{case}, pointed at a row")
+    check(rows, f"{case}: no rows")
+
+
+def check_row(page, pieces, message, row, where):
+    marked = page.ask(MARKED)
+    want = [k for k, piece in enumerate(pieces) if piece["said"][:2] == [message, row]]
+    check((marked["pieces"], marked["rows"]) == (want, [row]), f"{where} {row}: {marked['pieces']}, {marked['rows']}")
+
+
+def tab_to(page, selector, *keys):
+    """Tab, or the keys given, until the focus is there; whether it came there."""
+    for _ in range(40):
+        page.press(*(keys or (Keys.TAB,)))
+        if page.ask("return document.activeElement.closest(a) !== null", selector):
+            return True
+    return False
+
+
+def check_keys(page, case):
+    """Tab into the band, arrows through all of its fields and back, Tab out of it and back."""
+    take_case(page, case)
+    pieces, (bits, fields) = page.ask("return pieces()"), fields_in(case)
+    page.ask("at('read').focus();")
+    check(tab_to(page, "#band"), f"{case}: Tab does not come into the band")
+    for index, (message, field) in enumerate(fields):
+        marked = check_marked(page, index, pieces, f"{case}, by keys")
+        check(marked["focused"] == str(index), f"{case}: {marked['focused']} has the focus, not {index}")
+        check_told(marked, bits, message, field, f"{case}, by keys")
+        page.press(Keys.ARROW_RIGHT)
+    for index in reversed(range(len(pieces) - 1)):
+        page.press(Keys.ARROW_LEFT)
+        check_marked(page, index, pieces, f"{case}, back")
+    page.press(Keys.TAB)
+    check(page.ask("return document.activeElement.closest('#band') === null"), f"{case}: Tab does not leave the band")
+    ActionChains(page.driver).key_down(Keys.SHIFT).send_keys(Keys.TAB).key_up(Keys.SHIFT).perform()
+    check(page.ask("return document.activeElement.dataset.piece") == "0", f"{case}: Tab does not come back")
+
+
+def check_message_keys(page, counts, pieces, where):
+    """Tab to the messages, arrows from one to the next, each with its rows; Tab to the rows of each, arrows there."""
+    page.ask("document.querySelector('#band .piece').focus();")
+    check(tab_to(page, "#messages [data-message]"), f"{where}: Tab does not come to the messages")
+    for message, count in enumerate(counts):
+        got = page.ask("return document.activeElement.dataset.message")
+        check(got == str(message), f"{where}: by keys message {got}, not {message}")
+        check(page.ask(MARKED)["shown"] == list(range(count)), f"{where}: message {message} has not its {count} rows")
+        page.press(Keys.ARROW_DOWN)
+    if counts[-1] > 0:
+        check(tab_to(page, "#rows tr[data-row]"), f"{where}: Tab does not come to the rows")
+    for row in range(counts[-1]):
+        check_row(page, pieces, len(counts) - 1, row, f"{where}, by keys row")
+        page.press(Keys.ARROW_DOWN)
+
+
+def check_messages_chosen(page, case):
+    """Each by a click, and by keys."""
+    take_case(page, case)
+    listing = Path("training", f"{case}.listing").read_text(encoding="ascii")
+    counts = [int(line.split("\t")[-1]) for line in by_line(listing)[-1].splitlines() if line[0] == "M"]
+    for message, count in enumerate(counts):
+        page.find(f'#messages [data-message="{message}"]').click()
+        check(page.ask(MARKED)["shown"] == list(range(count)), f"{case}: message {message}, clicked, has not its rows")
+    check_message_keys(page, counts, page.ask("return pieces()"), case)
+
+
+def check_hands(page):
+    for case in (WORKED, "habit-codes-first/accepted", "habit-galileo-iode/accepted"):
+        check_pointing(page, case)
+        check_keys(page, case)
+        check_messages_chosen(page, case)
+    # the second receiver's stop stands between the first and the second message
+    mask = Mask(3, (System(0, (0, 2), (0, 7), "1011"),))
+    both = spell(service(range(5))) + spell(correction(3, mask, (5, -16384)))
+    page.read(text(spell(mask_message(mask))) + "\n" + text(both) + "\n", join="2")
+    check_message_keys(page, [1, 2], page.ask("return pieces()"), "with a second receiver")
+    page.read("", join="")
+    page.check_console("pointing and keys")
+
+
+# ---- long input
+
+
+def check_longest(page):
+    """30 data parts: how long until they are drawn."""
+    worked = Path("training", f"{WORKED}.txt").read_text(encoding="ascii")
+    for what, line in longest_lines().items():
+        page.read(worked + line.decode("ascii"))
+        drawn, laid = page.ask("""await choose(1); const start = performance.now(); await choose(2);
+            const drawn = performance.now() - start; root.getBoundingClientRect(); at("band").offsetHeight;
+            return [drawn, performance.now() - start];""")
+        print(f"50,850 bits, {what}: drawn in {drawn:.0f} ms, {laid:.0f} ms with the browser's layout")
+        check(laid < 3000, f"{what}: drawn in {laid:.0f} ms")
+        lines = [worked, line.decode("ascii")]
+        check_line(page.ask("return shown()"), 2, listings("".join(lines).encode())[1], lines[1], listed(lines)[1], what)
+    page.check_console("long lines")
+
+
+# The longest time in which the page did nothing else, and how far its progress was seen.
+WATCH = """
+window.watched = { gap: 0, progress: [], reading: false };
+let last = performance.now();
+const tick = () => {
+  const now = performance.now(), reading = root.dataset.state === "reading";
+  watched.gap = Math.max(watched.gap, now - last);
+  last = now;
+  if (reading && seen("progress")) watched.progress.push(at("progress").position);
+  if (!watched.reading || reading) setTimeout(tick, 5);
+  watched.reading ||= reading;
+};
+tick();
+"""
+
+
+def check_long_file(page):
+    """10,000 lines by #file: the page answers all the while, and shows how far it is."""
+    path, given = FOLDER / "long.txt", random_lines(4, 10000)
+    path.write_bytes(given)
+    page.ask(WATCH)
+    started, slowest, answered = time.monotonic(), 0, 0
+    page.find("#file").send_keys(str(path.resolve()))
+    while time.monotonic() < started + 120:
+        asked = time.monotonic()
+        state = page.driver.execute_script("return [document.documentElement.dataset.state, watched.reading]")
+        slowest = max(slowest, time.monotonic() - asked)
+        answered += state[0] == "reading"
+        if state == ["ready", True]:
+            break
+    took, watched = time.monotonic() - started, page.ask("return watched")
+    print(f"10,000 lines, {len(given)} bytes: {took:.1f} s, answered {answered} calls meanwhile, longest gap "
+          f"{watched['gap']:.0f} ms, slowest call {1000 * slowest:.0f} ms")
+    check(page.ask("return root.dataset.state") == "ready", "10,000 lines: the page is not ready")
+    check(answered > 0 and slowest < 1 and watched["gap"] < 1000, "10,000 lines: the page does not answer")
+    moved = watched["progress"]
+    check(len(set(moved)) > 1 and moved == sorted(moved), f"10,000 lines: progress {moved[:5]}")
+    check(not page.ask("return seen('progress')"), "10,000 lines: the progress stays")
+    last, lines = listings(given)[-1], lines_of(BytesIO(given))
+    check(page.ask("return at('lines').options.length") == len(lines), "10,000 lines: not as many options")
+    check(page.ask("return shown()")["listing"] == last, "10,000 lines: the last one's listing")
+    page.check_console("10,000 lines")
+
+
+def check_meanwhile(page):
+    """What people do while lines are read: a line is chosen, and reading goes on; another join, and all is read again."""
+    page.find("#file").send_keys(str((FOLDER / "long.txt").resolve()))
+    state = page.ask("""while (root.dataset.state !== "reading" || at("lines").options.length === 0)
+        await new Promise((done) => setTimeout(done, 1));
+        at("lines").value = "1"; at("lines").dispatchEvent(new Event("change", { bubbles: true }));
+        return root.dataset.state;""")
+    check(state == "reading", "a line chosen while lines are read: the page says that it is ready")
+    page.ask("await change('join', 'value', '5');")
+    count = page.ask("return at('lines').options.length")
+    check(count == 10000, f"another join while lines are read: {count} of 10000 lines are left")
+    page.ask("await change('join', 'value', '');")
+    page.check_console("meanwhile")
+
+
+# ---- layouts that are broken
+
+
+def check_broken(page, name, case, sound):
+    """Where the layout does not fit, the notice and no band; where it does, the band again."""
+    page.load(f"{name}.html")
+    take_case(page, case)
+    shown = page.ask("return shown()")
+    colour = page.ask("return getComputedStyle(at('wrong')).color")
+    red, green, blue = map(int, re.findall(r"\d+", colour)[:3])
+    check(shown["wrong"].strip(), f"{name} broken, {case}: no notice")
+    check(red > 2 * max(green, blue) or "rgb" not in colour, f"{name} broken: the notice has the colour {colour}")
+    check(not shown["pieces"] and not shown["band"].strip(), f"{name} broken, {case}: the band is drawn")
+    take_case(page, sound)
+    shown = page.ask("return shown()")
+    check(shown["wrong"] == "" and shown["pieces"], f"{name} broken, {sound}: not drawn")
+    page.check_console(f"{name} broken")
+
+
+def main():
+    page = Page()
+    try:
+        page.load("page.html")
+        page.check_console("the page")
+        check_alone(page)
+        for part in (check_screenshot, check_training, check_texts, check_start, check_receivers, check_hands, check_random,
+                     check_longest, check_long_file, check_meanwhile):
+            started = time.monotonic()
+            part(page)
+            print(f"{part.__name__}: {time.monotonic() - started:.1f} s")
+        check_broken(page, "clock", WORKED, "00-idle/accepted")
+        check_broken(page, "orbit", "habit-galileo-iode/accepted", WORKED)
+        check_broken(page, "network", "11-network/accepted", WORKED)
+    finally:
+        page.driver.quit()
+    finish()
+
+
+main()
