@@ -1,20 +1,21 @@
-/* Whether the page's own layout is what the module read: the fields of a message are its length together, each number of
-   a row is the bits that are shown for it, and a refusal is the module's, at the page's field. Where it is not, nothing
-   is drawn, and the page says what differs. */
+/* Whether the page's own layout is what the module read: the fields of a message are its length together, each number
+   of a row is the bits that are shown for it, and a refusal is the module's, at the page's field. Where it is not,
+   nothing is drawn, and the page says what differs. */
 import { ABSENT, MESSAGE } from "../library/hundurzek.js";
-import { SYSTEM_NAMES } from "./mask.js";
 
-const KEYS = 3; // of a row's numbers those before v1: system, satellite, signal place
+const VALUES = 5; // of a row's numbers those behind its keys, v1 to v5
 
-/* A row as its fields say it, beside v1 to v5 as the module handed them out. */
-function rowDifference(row, fields, k) {
-  const values = Array.from({ length: row.length - KEYS }, () => ABSENT);
-  for (const field of fields) values[field.column] = field.value;
-  const at = values.findIndex((value, column) => value !== row[KEYS + column]);
-  if (at >= 0) return `row ${k + 1}: v${at + 1} is ${row[KEYS + at]}, the bits shown say ${values[at]}`;
-  const [system, satellite] = row;
-  const named = system === ABSENT || fields.every(({ whose }) => whose.includes(`${SYSTEM_NAMES[system]} ${satellite}`));
-  return named ? null : `row ${k + 1} is ${SYSTEM_NAMES[system]} ${satellite}'s, its fields are not`;
+/* The rows as the fields say them, number by number. */
+function rowsOf({ rows, fields }) {
+  const values = rows.map(() => Array.from({ length: VALUES }, () => ABSENT));
+  for (const { row, column, value } of fields) if (row !== undefined) values[row][column] = value;
+  return rows.map((keys, k) => [...keys, ...values[k]]);
+}
+
+function rowDifference(handed, shown) {
+  if (handed.length !== shown.length) return `it has ${handed.length} rows, its fields ${shown.length}`;
+  const row = handed.findIndex((numbers, k) => numbers.some((number, column) => number !== shown[k][column]));
+  return row < 0 ? null : `row ${row + 1} is ${handed[row].join(" ")}, the bits shown say ${shown[row].join(" ")}`;
 }
 
 /* What differs in an accepted message, or nothing. */
@@ -22,17 +23,7 @@ function messageDifference(message, laid) {
   if (laid.answer !== MESSAGE) return `the layout refuses it with ${laid.answer}`;
   const sum = laid.fields.reduce((bits, field) => bits + field.width, 0);
   if (sum !== message.length) return `its fields have ${sum} bits, it has ${message.length}`;
-  const fields = message.rows.map(() => []);
-  for (const field of laid.fields) {
-    if (field.row === undefined) continue;
-    if (field.row >= fields.length) return `it has ${fields.length} rows, its fields more`;
-    fields[field.row].push(field);
-  }
-  for (let k = 0; k < fields.length; k++) {
-    const difference = rowDifference(message.rows[k], fields[k], k);
-    if (difference) return difference;
-  }
-  return null;
+  return rowDifference(message.rows, rowsOf(laid));
 }
 
 /* What differs in a reading of a stretch, whose messages are laid out, and the refused one's where there is one. */

@@ -2,8 +2,8 @@
 
 export const ROW_BITS = 64;
 
-/* One after another they are the stretch. A piece has its place and how many bits of it are there, a name and a kind (its
-   colour); a field's has the field, and one of an accepted message the message's index. */
+/* One after another they are the stretch. A piece has its place and how many bits of it are there, a name and a kind
+   (its colour); a field's has the field, and one of an accepted message the message's index. */
 export function piecesOf({ stretch, stop }, laidMessages, laidStop) {
   const pieces = laidMessages.flatMap((laid, message) => laid.fields.map((field) => fieldPiece(field, message)));
   if (laidStop !== null) {

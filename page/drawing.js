@@ -1,6 +1,6 @@
-/* One stretch as it is seen: the band of bits, what is pointed at, the mask, messages and rows, and all of it as text. */
+/* One stretch as it is seen: the band of bits, what is pointed at, the mask, messages and rows, and all as text. */
 import { maskOf } from "./mask.js";
-import { ANSWERS, SUB_TYPES, answerName } from "./words.js";
+import { ANSWERS, KINDS, SUB_TYPES, answerName } from "./words.js";
 import { messageLine, rowLine } from "./listing.js";
 import { piecesOf, drawBand, pieceLabel, pieceFrom } from "./band.js";
 import { drawGrid, markInGrid } from "./grid.js";
@@ -25,7 +25,7 @@ export class Drawing {
   clear(said) {
     const { by } = this;
     Object.assign(this, { pieces: [], reading: null, shown: -1 });
-    for (const id of ["band", "field", "messages", "rows", "mask"]) by(id).replaceChildren();
+    for (const id of ["band", "legend", "field", "messages", "rows", "mask"]) by(id).replaceChildren();
     by("wrong").hidden = by("second").hidden = true;
     by("stop").textContent = said;
   }
@@ -42,6 +42,8 @@ export class Drawing {
     this.pieces = piecesOf(reading, laid.messages, laid.stop);
     this.texts.fields = () => this.pieces.map((piece) => fieldLine(reading.stretch, piece)).join("");
     drawBand(this.by("band"), reading.stretch, this.pieces);
+    const kinds = new Set(this.pieces.map(({ kind }) => kind));
+    this.by("legend").append(...Array.from(kinds, (kind) => element("span", KINDS[kind], { class: `key ${kind}` })));
     this.showMessages(second);
     this.showSecond(second);
     this.showMessage(reading.messages.length - 1);
@@ -142,13 +144,13 @@ export class Drawing {
   overBand(part, event) {
     if (!part) return;
     const { left, width } = part.getBoundingClientRect();
-    const at = Math.min(Math.floor(((event.clientX - left) / width) * part.textContent.length), part.textContent.length - 1);
+    const bits = part.textContent.length, at = Math.floor(((event.clientX - left) / width) * bits);
     let before = 0;
     for (const other of this.by("band").querySelectorAll(`[data-piece="${part.dataset.piece}"]`)) {
       if (other === part) break;
       before += other.textContent.length;
     }
-    this.pointAtPiece(Number(part.dataset.piece), before + at);
+    this.pointAtPiece(Number(part.dataset.piece), before + Math.max(0, Math.min(at, bits - 1)));
   }
 
   keyInBand(event) {
@@ -187,11 +189,12 @@ function keyInList(event) {
 
 function stopText({ stretch, stop }, laid) {
   const [name, sentence] = ANSWERS[stop.answer];
-  if (stop.answer === 0) return `Stop ${stop.answer}, ${name}, at place ${stop.place} of ${stretch.end}: “${sentence}”.`;
-  const field = laid.refused ? `at the field “${laid.refused.name}”, place ${laid.refused.place}` : "the message as a whole";
+  const said = `Stop ${stop.answer}, ${name}, at place ${stop.place} of ${stretch.end}`;
+  if (stop.answer === 0) return `${said}: “${sentence}”. Idle padding: ${stretch.end - stop.place} bits.`;
+  const { refused } = laid;
+  const field = refused ? `at the field “${refused.name}”, place ${refused.place}` : "the message as a whole";
   const missing = stop.missing > 0 ? ` Bits missing: ${stop.missing}.` : "";
-  return `Stop ${stop.answer}, ${name}, at place ${stop.place} of ${stretch.end}, ${field}: “${sentence}”.${missing} ` +
-    "What is behind it was not read.";
+  return `${said}, ${field}: “${sentence}”.${missing} What is behind it was not read.`;
 }
 
 function secondText({ messages, stop }) {
@@ -206,11 +209,14 @@ function fieldLine(stretch, piece) {
 /* What is told of a piece, and of the bit of it that is pointed at. */
 function fieldParts(stretch, piece, bit) {
   const { place, width, name, field } = piece;
-  const told = [["name", name], ["place", place], ["width", field?.width ?? width], ["bits", stretch.text(place, width)]];
+  const told = [["name", name], ["place", place], ["width", field?.width ?? width]];
+  told.push(["bits", stretch.text(place, width)]);
   if (field && field.value !== null) told.push(["value", field.value]);
   if (field?.missing > 0) told.push(["bits missing", field.missing]);
   if (field?.whose) told.push(["whose", `${name} ${field.whose}`]);
-  if (bit !== undefined) told.push(["bit", `${stretch.bit(place + bit)} at place ${place + bit}, bit ${bit + 1} of ${width}`]);
+  if (field?.note) told.push(["note", field.note]);
+  const at = place + bit;
+  if (bit !== undefined) told.push(["bit", `${stretch.bit(at)} at place ${at}, bit ${bit + 1} of ${width}`]);
   const list = document.createElement("dl");
   for (const [what, value] of told) list.append(element("dt", what), element("dd", value, { class: what }));
   return [list];

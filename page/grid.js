@@ -1,4 +1,4 @@
-/* The mask as a grid: a table for each system, satellites by signal places, the cells marked with the k of "the k-th". */
+/* The mask as a grid: a table for each system, satellites by signal places, cells marked with the k of "the k-th". */
 import { SYSTEM_NAMES, satelliteName } from "./mask.js";
 
 function cellOf(tag, text, attributes = {}) {
@@ -11,7 +11,8 @@ function cellOf(tag, text, attributes = {}) {
 function headRow(signals) {
   const row = document.createElement("tr");
   row.append(cellOf("th", "satellite", { scope: "col" }));
-  for (const signal of signals) row.append(cellOf("th", signal, { scope: "col", "aria-label": `signal place ${signal}` }));
+  for (const signal of signals)
+    row.append(cellOf("th", signal, { scope: "col", "aria-label": `signal place ${signal}` }));
   return row;
 }
 
@@ -30,7 +31,8 @@ function satelliteRow(mask, index, signals) {
 
 function systemTable(mask, { id, flag, satellites, signals }, first) {
   const table = document.createElement("table"), caption = document.createElement("caption");
-  caption.textContent = `${SYSTEM_NAMES[id]}: ${satellites.length} satellites, ${signals.length} signals, cell flag ${flag}`;
+  const size = `${satellites.length} satellites, ${signals.length} signals`;
+  caption.textContent = `${SYSTEM_NAMES[id]}: ${size}, cell flag ${flag}`;
   table.append(caption, headRow(signals));
   satellites.forEach((_, k) => table.append(satelliteRow(mask, first + k, signals)));
   return table;
@@ -45,8 +47,8 @@ export function drawGrid(place, mask) {
     first += system.satellites.length;
   }
   const head = document.createElement("p");
-  head.textContent = `IOD SSR ${mask.iod}: ${mask.satellites.length} satellites, ${mask.cells.length} cells. The number ` +
-    "before a satellite, and in a cell, is the k of “the k-th”.";
+  head.textContent = `IOD SSR ${mask.iod}: ${mask.satellites.length} satellites, ${mask.cells.length} cells. ` +
+    "The number before a satellite, and in a cell, is the k of “the k-th”.";
   place.replaceChildren(head, ...tables);
 }
 

@@ -2,7 +2,7 @@
    layouts" and "Reader's order"; document 02, Asks 1 and 2), for drawing alone: what was answered comes from the
    module, and agreement.js holds the two against each other. */
 import { SYSTEM_NAMES, GALILEO, placesOf, ordinal, satelliteName } from "./mask.js";
-import { MESSAGE } from "../library/hundurzek.js";
+import { ABSENT, MESSAGE } from "../library/hundurzek.js";
 
 const NUMBER = 4073;
 const SATELLITES_ASSIGNED = [40, 24, 37, 40, 10], SIGNALS_ASSIGNED = [14, 13, 15, 9, 10];
@@ -38,7 +38,7 @@ class Refusal extends Error {
 
 class Laying {
   constructor(stretch, place, mask) {
-    Object.assign(this, { stretch, place, mask, fields: [] });
+    Object.assign(this, { stretch, place, mask, fields: [], rows: [] });
   }
 
   /* A field of so many bits; where they are not all there it is short. A value is a number up to 40 bits. */
@@ -122,7 +122,8 @@ class Laying {
     this.take("multiple message indicator", 1, "head");
     this.take("message counter", 3, "head");
     const size = this.take("data size", 2, "head").value;
-    this.body(Array.from({ length: size + 1 }, (_, k) => [`of the ${ordinal(k + 1)} 40 bits`, COLUMNS.service]));
+    const bytes = (_, k) => ({ keys: [ABSENT, ABSENT, k + 1], whose: `of the ${ordinal(k + 1)} 40 bits` });
+    this.body(Array.from({ length: size + 1 }, bytes), () => COLUMNS.service);
   }
 
   // ---- sub types under the mask
@@ -130,28 +131,35 @@ class Laying {
   correction(subType) {
     this.refuse(SUB_TYPE, ![2, 3, 4, 5, 6, 7, 11].includes(subType));
     const iod = this.common("hourly epoch", 12);
+    this.fields.at(-1).note = this.mask === null ? "nothing is held" : `the mask held has ${this.mask.iod}`;
     this.refuse(NO_MASK, this.mask === null);
     this.refuse(OTHER_ISSUE, iod !== this.mask.iod);
     const all = this.mask.satellites.map((_, k) => k);
-    if (subType === 2) this.body(all.map((k) => [this.satellite(k), orbit(this.mask.satellites[k].system)]));
-    else if (subType === 3) this.body(all.map((k) => [this.satellite(k), COLUMNS.clock]));
-    else if (subType === 7) this.body(all.map((k) => [this.satellite(k), COLUMNS.accuracy]));
-    else if (subType === 4) this.body(this.cells(all, COLUMNS.code));
-    else if (subType === 5) this.body(this.cells(all, COLUMNS.phase));
+    if (subType === 2) this.body(this.satellites(all), orbit);
+    else if (subType === 3) this.body(this.satellites(all), () => COLUMNS.clock);
+    else if (subType === 7) this.body(this.satellites(all), () => COLUMNS.accuracy);
+    else if (subType === 4) this.body(this.cells(all), () => COLUMNS.code);
+    else if (subType === 5) this.body(this.cells(all), () => COLUMNS.phase);
     else if (subType === 6) this.biases();
     else this.combined();
   }
 
-  satellite(k) {
-    const { system, satellite } = this.mask.satellites[k];
-    return `of the ${ordinal(k + 1)} satellite that the mask names: ${satelliteName(system, satellite)}`;
+  /* A row for each of these satellites of the mask. */
+  satellites(chosen) {
+    return chosen.map((k) => {
+      const { system, satellite } = this.mask.satellites[k];
+      const whose = `of the ${ordinal(k + 1)} satellite that the mask names: ${satelliteName(system, satellite)}`;
+      return { keys: [system, satellite, ABSENT], whose };
+    });
   }
 
-  /* The rows of each cell of these satellites. */
-  cells(chosen, columns) {
-    const whose = ({ system, satellite, signal }, k) =>
-      `of the ${ordinal(k + 1)} cell that the mask has: ${satelliteName(system, satellite)}, signal place ${signal}`;
-    return this.mask.cells.flatMap((cell, k) => (chosen.includes(cell.index) ? [[whose(cell, k), columns]] : []));
+  /* A row for each cell of these satellites. */
+  cells(chosen) {
+    const row = ({ system, satellite, signal }, k) => {
+      const cell = `${satelliteName(system, satellite)}, signal place ${signal}`;
+      return { keys: [system, satellite, signal], whose: `of the ${ordinal(k + 1)} cell that the mask has: ${cell}` };
+    };
+    return this.mask.cells.flatMap((cell, k) => (chosen.includes(cell.index) ? [row(cell, k)] : []));
   }
 
   /* The network's satellites, or all: their indexes in the mask. */
@@ -161,31 +169,34 @@ class Laying {
     this.refuse(NETWORK, this.take("network ID", 5, "flag").value === 0);
     const field = this.take("satellite selection", all.length, "flag");
     const chosen = all.filter((k) => this.stretch.bit(field.place + k) === 1);
-    const names = chosen.map((k) => this.mask.satellites[k]).map(({ system, satellite }) => satelliteName(system, satellite));
-    field.whose = `one bit for each satellite that the mask names; selected: ${names.join(", ") || "none"}`;
-    this.refuse(NETWORK, withoutCells && chosen.some((k) => this.mask.satellites[k].signals.length === 0));
+    const satellites = chosen.map((k) => this.mask.satellites[k]);
+    const names = satellites.map(({ system, satellite }) => satelliteName(system, satellite)).join(", ");
+    field.whose = `one bit for each satellite that the mask names; selected: ${names || "none"}`;
+    this.refuse(NETWORK, withoutCells && satellites.some(({ signals }) => signals.length === 0));
     return chosen;
   }
 
   biases() {
     const codes = this.take("code bias flag", 1, "flag").value, phases = this.take("phase bias flag", 1, "flag").value;
     const columns = [...(codes ? COLUMNS.code : []), ...(phases ? moved(COLUMNS.phase, 1) : [])];
-    this.body(this.cells(this.selected(true), columns));
+    this.body(this.cells(this.selected(true)), () => columns);
   }
 
   combined() {
     const orbits = this.take("orbit flag", 1, "flag").value, clocks = this.take("clock flag", 1, "flag").value;
-    this.body(this.selected(false).map((k) => [this.satellite(k),
-      [...(orbits ? orbit(this.mask.satellites[k].system) : []), ...(clocks ? moved(COLUMNS.clock, 4) : [])]]));
+    const columns = (system) => [...(orbits ? orbit(system) : []), ...(clocks ? moved(COLUMNS.clock, 4) : [])];
+    this.body(this.satellites(this.selected(false)), columns);
   }
 
-  /* Rows, each with whose it is and its columns. Where they are not all there the body is short as one. */
-  body(rows) {
-    const width = rows.reduce((sum, [, columns]) => sum + columns.reduce((all, [, bits]) => all + bits, 0), 0);
+  /* Rows, each with its keys and whose it is; their columns by system. Where they are not all there the body is short
+     as one. */
+  body(rows, columnsOf) {
+    const fields = rows.flatMap(({ keys, whose }, row) => columnsOf(keys[0]).map(([name, width, column, kind]) =>
+      ({ name, width, kind, more: { whose, row, column } })));
+    const width = fields.reduce((sum, field) => sum + field.width, 0);
     if (this.place + width > this.stretch.end) this.take("body", width, "body");
-    rows.forEach(([whose, columns], row) => {
-      for (const [name, bits, column, kind] of columns) this.take(name, bits, kind, { whose, row, column });
-    });
+    for (const field of fields) this.take(field.name, field.width, field.kind, field.more);
+    this.rows = rows.map(({ keys }) => keys);
   }
 }
 
@@ -205,8 +216,8 @@ function signed({ name, width, value }) {
 }
 
 /* The message at a place of a stretch under a mask: its fields, each with the row and the number of it that it becomes;
-   the answer, and how many bits are missing. A refused one ends with the field at which it is refused, but for 13,
-   which is the whole message's. */
+   the keys of its rows; the answer, and how many bits are missing. A refused one ends with the field at which it is
+   refused, but for 13, which is the whole message's. */
 export function layOut(stretch, place, mask) {
   const laying = new Laying(stretch, place, mask);
   let answer = MESSAGE, missing = 0;
@@ -218,5 +229,5 @@ export function layOut(stretch, place, mask) {
   }
   for (const field of laying.fields) if (field.row !== undefined && field.value !== null) field.value = signed(field);
   const refused = answer === MESSAGE || answer === CHANGED_MASK ? null : laying.fields.at(-1);
-  return { fields: laying.fields, answer, missing, refused };
+  return { fields: laying.fields, rows: laying.rows, answer, missing, refused };
 }

@@ -13,7 +13,8 @@ export const rowLine = (row) => ["R", ...Array.from(row, shown)].join("\t");
 
 export function endLine({ messages, stop }) {
   const rows = messages.reduce((sum, message) => sum + message.rows.length, 0);
-  return ["E", stop.answer, stop.place, messages.length, rows, stop.answer === SHORT_STOP ? stop.missing : "-"].join("\t");
+  const missing = stop.answer === SHORT_STOP ? stop.missing : "-";
+  return ["E", stop.answer, stop.place, messages.length, rows, missing].join("\t");
 }
 
 /* All of them, each ended by a line feed. */

@@ -16,6 +16,10 @@ script() {
         { sub(/^export /, ""); print }' $MODULES
 }
 
+module() {
+    base64 -w 0 "$folder/hundurzek.wasm"
+}
+
 # Each file of training/*/ that is lines of the listing, in base 64: bad lines may have any byte.
 cases() {
     comma='{'
@@ -30,7 +34,7 @@ cases() {
 while IFS= read -r line; do
     case $line in
     '<!-- style -->') printf '<style>\n%s\n</style>\n' "$(cat page/style.css)" ;;
-    '<!-- module -->') printf '<script type="text/plain" id="module">%s</script>\n' "$(base64 -w 0 "$folder/hundurzek.wasm")" ;;
+    '<!-- module -->') printf '<script type="text/plain" id="module">%s</script>\n' "$(module)" ;;
     '<!-- cases -->') printf '<script type="application/json" id="cases">%s</script>\n' "$(cases)" ;;
     '<!-- script -->') printf '<script type="module">\n%s\n</script>\n' "$(script)" ;;
     *) printf '%s\n' "$line" ;;

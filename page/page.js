@@ -22,9 +22,9 @@ const nextTurn = () => new Promise((done) => setTimeout(done));
 
 // ---- reading all lines
 
-/* Of each line: its number and text; what the receivers hold before it, nothing for one that has not joined; and what an
-   option says of it. */
-let entries = [];
+/* Of each line: its number and text; what the receivers hold before it, nothing for one that has not joined; and what
+   an option says of it. */
+let lines = [], entries = [];
 let turn = 0; // of the reading that is under way: a later one ends it
 
 function startHolding() {
@@ -41,7 +41,8 @@ function readEntry(receiver, second, line, number) {
   if (stretch === null) return { number, line, before, secondBefore, said: `${number}  B, bad line` };
   const { answer, place, messages } = receiver.walk(stretch);
   if (second) second.walk(stretch);
-  return { number, line, before, secondBefore, said: `${number}  ${answerName(answer)} at ${place}, messages: ${messages}` };
+  const said = `${number}  ${answerName(answer)} at ${place}, messages: ${messages}`;
+  return { number, line, before, secondBefore, said };
 }
 
 function addOptions(some) {
@@ -51,8 +52,9 @@ function addOptions(some) {
 
 async function readLines(text) {
   const mine = ++turn, join = Number(by("join").value) || Infinity;
-  const lines = text.split(/(?<=\n)/), receiver = new Receiver(module, startHolding());
+  const receiver = new Receiver(module, startHolding());
   let second = null, shown = 0, since = performance.now();
+  lines = text === "" ? [] : text.split(/(?<=\n)/);
   state("reading");
   entries = [];
   by("lines").replaceChildren();
@@ -90,8 +92,16 @@ function readingOf(line, before) {
   return { reading, held: savedLine(module, receiver.holding) };
 }
 
-function draw({ number, line, before, secondBefore }) {
+/* One entry, or nothing where there are no lines. */
+function draw(entry) {
   state("reading");
+  if (entry) drawEntry(entry);
+  else drawing.clear("No lines.");
+  drawing.fillTexts();
+  state("ready");
+}
+
+function drawEntry({ number, line, before, secondBefore }) {
   const { reading, held } = readingOf(line, before);
   const second = secondBefore && readingOf(line, secondBefore).reading;
   by("held").textContent = held;
@@ -103,8 +113,6 @@ function draw({ number, line, before, secondBefore }) {
     if (wrong) drawing.refuse(`The page's layout does not fit what the module read, so nothing is drawn. ${wrong}.`);
     else drawing.show(reading, laid, second);
   }
-  drawing.fillTexts();
-  state("ready");
 }
 
 // ---- what people do
@@ -132,7 +140,8 @@ function listen() {
   by("read").addEventListener("click", readInput);
   by("input").addEventListener("paste", () => setTimeout(readInput));
   by("file").addEventListener("change", ({ target }) => target.files.length > 0 && readFile(target.files[0]));
-  for (const id of ["start", "without", "join"]) by(id).addEventListener("change", () => readLines(entries.map(({ line }) => line).join("")));
+  const again = () => readLines(lines.join(""));
+  for (const id of ["start", "without", "join"]) by(id).addEventListener("change", again);
   by("lines").addEventListener("change", ({ target }) => draw(entries[target.value - 1]));
   document.addEventListener("dragover", (event) => event.preventDefault());
   document.addEventListener("drop", dropped);

@@ -1,5 +1,5 @@
-/* A receiver: what the module answers, message by message, for the lines that it is given, the holding kept from line to
-   line. Nothing is decoded here. */
+/* A receiver: what the module answers, message by message, for the lines that it is given, the holding kept from line
+   to line. Nothing is decoded here. */
 import { HOLDING, ROW, ROOM, STRETCH, MESSAGE, DONE, LINE } from "../library/hundurzek.js";
 import { Stretch } from "./stretch.js";
 
@@ -52,8 +52,8 @@ export class Receiver {
   }
 }
 
-/* The saved line of a holding, and the holding that such a line says, with or without its line feed; nothing for another
-   line. */
+/* The saved line of a holding, and the holding that such a line says, with or without its line feed; nothing for
+   another line. */
 export function savedLine(module, holding) {
   const line = new Uint8Array(LINE);
   const { count } = module.save(holding, line);

@@ -26,4 +26,12 @@ export const ANSWERS = {
     "02, Ask 2)"],
 };
 
+/* What each colour of the band stands for. */
+export const KINDS = {
+  number: "message number, sub type", head: "head", issue: "IOD SSR", system: "GNSS ID", satellites: "satellite mask",
+  signals: "signal mask", cells: "cell flag, cell mask", flag: "flags, network, selection", orbit: "orbit",
+  clock: "clock", code: "code bias", phase: "phase bias", accuracy: "accuracy", service: "service data",
+  body: "body that is short", idle: "idle padding", unread: "not read",
+};
+
 export const answerName = (answer) => `${answer}, ${ANSWERS[answer][0]}`;

@@ -97,7 +97,7 @@ prints "$work/saved" ./hundurzek save --from "$other" "$work/mask file" "$work/m
 
 ./hundurzek --help >"$work/help"
 prints "$work/help" ./hundurzek -h
-for word in list save library test --from; do
+for word in list save library page test --from; do
     if grep -q -- "$word" "$work/help"; then judge "help: $word" yes; else judge "help lacks $word" no; fi
 done
 
@@ -135,6 +135,9 @@ misused 'no such target: armv7; there are x86_64 ' ./hundurzek library "$work/on
 misused 'no such target: all; there are x86_64 ' ./hundurzek library "$work/one" --target aarch64 all
 misused 'no such target: aarch.*; there are x86_64 ' ./hundurzek library "$work/one" --target 'aarch.*'
 misused 'no such target: ; there are x86_64 ' ./hundurzek library "$work/one" --target ''
+misused 'page takes one file' ./hundurzek page "$work/one.html" "$work/two.html"
+misused 'no such file: ' ./hundurzek page ''
+misused 'no such file: -o' ./hundurzek page -o
 misused 'test takes nothing' ./hundurzek test tests/hundurzek.sh
 
 for line in S "$work/saved" "$saved " "$(printf 'S\t-\t')" "$(printf 'S\t3\t0\tA000000000\t8100\t1\tb')" \
