@@ -136,6 +136,15 @@ function dropped(event) {
   return readInput();
 }
 
+/* Where a browser lets no page write to its clipboard, the text is selected, to be copied by hand. */
+async function copied(text) {
+  try {
+    await navigator.clipboard.writeText(text.textContent);
+  } catch {
+    getSelection().selectAllChildren(text);
+  }
+}
+
 function listen() {
   by("read").addEventListener("click", readInput);
   by("input").addEventListener("paste", () => setTimeout(readInput));
@@ -146,7 +155,7 @@ function listen() {
   document.addEventListener("dragover", (event) => event.preventDefault());
   document.addEventListener("drop", dropped);
   for (const button of document.querySelectorAll("[data-copies]"))
-    button.addEventListener("click", () => navigator.clipboard.writeText(by(button.dataset.copies).textContent));
+    button.addEventListener("click", () => copied(by(button.dataset.copies)));
 }
 
 cases();
