@@ -11,6 +11,7 @@ from fields import CHANGED, IDLE, SHORT, STRETCH_BITS, parse
 from messages import Mask, System, celled, combined, correction, mask_message, spell, text
 
 SECOND = "target/tests/second"
+WORKED = "03-short-body/accepted"  # document 01's stretch
 
 # The page's names of fields, where they are not those of fields.py.
 NAMES = {
@@ -191,7 +192,7 @@ def filled(mask, message):
 def longest_lines():
     """By what they are made of: few fields a message and many messages, many satellites, and the smallest fields."""
     worked = Mask(3, (System(0, (0, 2), (0, 7), "1011"),))
-    full = Mask(3, (System(0, tuple(range(40)), ()), System(3, tuple(range(24)), ())))
+    full = Mask(4, (System(0, tuple(range(40)), ()), System(3, tuple(range(24)), ())))
     return {
         "clocks of 2 satellites": filled(worked, correction(3, worked, (5, -16384))),
         "accuracies of 64 satellites": filled(full, correction(7, full, range(64))),
