@@ -136,7 +136,7 @@ def check_copy(page):
     """The listing's lines, copied by a click."""
     page.driver.execute_cdp_cmd("Browser.grantPermissions", {"permissions": ["clipboardReadWrite", "clipboardSanitizedWrite"]})
     page.take_case(WORKED)
-    page.find('[data-copies="listing-text"]').click()
+    page.click('[data-copies="listing-text"]')
     copied = page.ask("await new Promise((done) => setTimeout(done, 100)); return navigator.clipboard.readText();")
     check(copied == page.ask("return shown().listing"), f"copied is {copied!r}")
     page.check_console("copying")

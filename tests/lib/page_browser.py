@@ -130,19 +130,28 @@ class Page:
 
     def rest(self):
         """Moves the pointer to the edge, where nothing comes under it however the page is scrolled."""
-        actions = ActionChains(self.driver)
+        actions = ActionChains(self.driver, duration=0)
         actions.w3c_actions.pointer_action.move_to_location(1, 1)
         actions.perform()
 
     def point(self, element):
-        """Moves the pointer there, and over nothing before it."""
+        """Moves the pointer there, and over nothing before it, with the page scrolled as far down as it can be; how far
+        what is pointed at moved away by that."""
         self.rest()
-        self.ask("""document.querySelector(a).scrollIntoView({ block: "center" });
-            for (let k = 0; k < 2; k++) await new Promise(requestAnimationFrame);""", element)
-        ActionChains(self.driver).move_to_element(self.find(element)).perform()
+        place = f"""for (let k = 0; k < 2; k++) await new Promise(requestAnimationFrame);
+            return document.querySelector({json.dumps(element)}).getBoundingClientRect().top;"""
+        before = self.ask("scrollTo(0, root.scrollHeight); document.querySelector(a).scrollIntoView({ block: 'nearest' });" +
+                          place, element)
+        ActionChains(self.driver, duration=0).move_to_element(self.find(element)).perform()
+        return self.ask(place) - before
+
+    def click(self, element):
+        """In the middle of the window, where no edge of a scrolled part lies over it."""
+        self.ask("document.querySelector(a).scrollIntoView({ block: 'center' });", element)
+        self.find(element).click()
 
     def press(self, key, shift=False):
-        keys = ActionChains(self.driver)
+        keys = ActionChains(self.driver, duration=0)
         if shift:
             keys.key_down(Keys.SHIFT).send_keys(key).key_up(Keys.SHIFT).perform()
         else:

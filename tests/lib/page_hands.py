@@ -99,10 +99,11 @@ def owner(row):
 def check_pointing(page, line):
     """Over each piece, and over each row of the last message."""
     for index in range(len(line.pieces)):
-        page.point(f'#band [data-piece="{index}"]')
+        moved = page.point(f'#band [data-piece="{index}"]')
+        check(moved == 0, f"{line.name}, pointed at piece {index}: it moves away by {moved} pixels")
         check_piece(page, line, index, "pointed at")
     last = len(line.rows) - 1
-    page.find(f'#messages [data-message="{last}"]').click()
+    page.click(f'#messages [data-message="{last}"]')
     for row in range(len(line.rows[-1])):
         page.point(f'#rows [data-row="{row}"]')
         check_row(page, line, last, row, "pointed at")
@@ -116,7 +117,7 @@ def check_table(page, line, message, where):
 
 def check_clicks(page, line):
     for message in range(len(line.rows)):
-        page.find(f'#messages [data-message="{message}"]').click()
+        page.click(f'#messages [data-message="{message}"]')
         check_table(page, line, message, "clicked")
 
 
@@ -167,14 +168,16 @@ def check_lists(page, line):
     page.ask("document.querySelector('#band .piece').focus();")
     check(tab_to(page, "#messages [data-message]"), f"{line.name}: Tab does not come to the messages")
     for message in range(len(line.rows)):
+        if message > 0:
+            page.press(Keys.ARROW_DOWN)
         check_focused(page, "message", message, line.name)
         check_table(page, line, message, "by keys")
-        page.press(Keys.ARROW_DOWN)
-    if line.rows[-1]:
-        check(tab_to(page, "#rows tr[data-row]"), f"{line.name}: Tab does not come to the rows")
     for row in range(len(line.rows[-1])):
+        if row > 0:
+            page.press(Keys.ARROW_DOWN)
+        else:
+            check(tab_to(page, "#rows tr[data-row]"), f"{line.name}: Tab does not come to the rows")
         check_row(page, line, len(line.rows) - 1, row, "by keys")
-        page.press(Keys.ARROW_DOWN)
 
 
 def check_lists_of_two(page):
