@@ -61,7 +61,8 @@ const pieces = () => {
 const shown = () => ({
   line: number(at("lines").value), option: at("lines").selectedOptions[0].textContent.trim(), pieces: pieces(),
   listing: at("listing-text").textContent, held: at("held").textContent.trim(), stop: at("stop").textContent,
-  second: seen("second") ? at("second").textContent : "", wrong: seen("wrong") ? at("wrong").textContent : "", band: at("band").textContent,
+  second: seen("second") ? at("second").textContent : "", wrong: seen("wrong") ? at("wrong").textContent : "",
+  band: at("band").textContent,
   messages: Array.from(document.querySelectorAll("#messages [data-message]"), (one) => one.textContent),
   grid: ["table", "tr[data-satellite]", "td.cell"].map((what) => at("mask").querySelectorAll(what).length),
 });
@@ -87,8 +88,10 @@ class Page:
 
     def ask(self, body, *given):
         """What a script in the page returns, to which a and b are given; it may wait."""
-        script = HELPERS + "const [a, b] = arguments, done = arguments[arguments.length - 1];\n(async () => {" + body + """
-            })().then((value) => done(JSON.stringify({ value })), (error) => done(JSON.stringify({ error: String(error) })));"""
+        script = HELPERS + """const [a, b] = arguments, done = arguments[arguments.length - 1];
+            const tell = (answer) => done(JSON.stringify(answer));
+            const run = async () => {""" + body + """};
+            run().then((value) => tell({ value }), (error) => tell({ error: String(error) }));"""
         answer = json.loads(self.driver.execute_async_script(script, *given))
         if "error" in answer:
             raise RuntimeError(f"{answer['error']} in {body}")
@@ -118,15 +121,19 @@ class Page:
         """The same with a file of these bytes, selected or dropped on the page; the state right after that."""
         return self.ask("""const given = new DataTransfer(), began = begins();
             given.items.add(new File([Uint8Array.from(a)], "lines.txt"));
-            if (b) at("band").dispatchEvent(new DragEvent("drop", { dataTransfer: given, bubbles: true, cancelable: true }));
-            else { at("file").files = given.files; at("file").dispatchEvent(new Event("change", { bubbles: true })); }
+            at("file").files = given.files;
+            const drop = new DragEvent("drop", { dataTransfer: given, bubbles: true, cancelable: true });
+            if (b) at("band").dispatchEvent(drop);
+            else at("file").dispatchEvent(new Event("change", { bubbles: true }));
             const state = root.dataset.state;
             await began; await ready();
             return state;""", list(content), drop)
 
     def show(self, lines):
         """What is shown of each of these lines, by their numbers."""
-        return self.ask("const all = []; for (const line of a) { await choose(line); all.push(shown()); } return all;", lines)
+        return self.ask("""const all = [];
+            for (const line of a) { await choose(line); all.push(shown()); }
+            return all;""", lines)
 
     def rest(self):
         """Moves the pointer to the edge, where nothing comes under it however the page is scrolled."""
@@ -140,8 +147,8 @@ class Page:
         self.rest()
         place = f"""for (let k = 0; k < 2; k++) await new Promise(requestAnimationFrame);
             return document.querySelector({json.dumps(element)}).getBoundingClientRect().top;"""
-        before = self.ask("scrollTo(0, root.scrollHeight); document.querySelector(a).scrollIntoView({ block: 'nearest' });" +
-                          place, element)
+        scroll = "scrollTo(0, root.scrollHeight); document.querySelector(a).scrollIntoView({ block: 'nearest' });"
+        before = self.ask(scroll + place, element)
         ActionChains(self.driver, duration=0).move_to_element(self.find(element)).perform()
         return self.ask(place) - before
 

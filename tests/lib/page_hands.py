@@ -16,11 +16,12 @@ ABSENT = "-"
 
 # What is marked: pieces and rows by their numbers; what is told of the field, what has the focus, and all rows.
 MARKED = """
-const numbers = (what, key) => [...new Set(Array.from(document.querySelectorAll(what), (one) => Number(one.dataset[key])))];
+const all = (what, of) => Array.from(document.querySelectorAll(what), of);
+const numbers = (what, key) => [...new Set(all(what, ({ dataset }) => Number(dataset[key])))];
 const texts = ({ cells }) => Array.from(cells, (cell) => cell.textContent);
 return { pieces: numbers("#band .piece.marked", "piece"), rows: numbers("#rows tr.marked", "row"),
   field: words(at("field")), focused: { ...document.activeElement.dataset },
-  table: Array.from(document.querySelectorAll("#rows tr[data-row]"), texts) };
+  table: all("#rows tr[data-row]", texts) };
 """
 
 
@@ -40,7 +41,8 @@ def last_line(page, given, name):
             rows.append([])
         elif line[0] == "R":
             rows[-1].append(line.split("\t")[1:])
-    fields = [(message, field) for message in answer.messages + [answer.stopped] for field in message.taken if field.width]
+    messages = answer.messages + [answer.stopped]
+    fields = [(message, field) for message in messages for field in message.taken if field.width]
     return Line(answer.stopped.bits, fields, rows, page.ask("return pieces()"), name)
 
 
@@ -164,7 +166,7 @@ def check_keys(page, line):
 
 
 def check_lists(page, line):
-    """Tab to the messages, arrows from one to the next, each with its rows; Tab to the last one's rows, arrows there."""
+    """Tab to the messages, arrows from one to the next, each with its rows; the same with the last one's rows."""
     page.ask("document.querySelector('#band .piece').focus();")
     check(tab_to(page, "#messages [data-message]"), f"{line.name}: Tab does not come to the messages")
     for message in range(len(line.rows)):
