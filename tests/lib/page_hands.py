@@ -124,11 +124,12 @@ def check_clicks(page, line):
 
 
 def check_width(page):
-    """The bits of a long field stay within what tells it."""
+    """The bits of a long field are all to be seen: nothing is wider than where it stands."""
     take_case(page, "10-size-cell-mask/accepted")
     page.ask("document.querySelector('[data-name=\"cell mask\"]').focus();")
-    inside, outside = page.ask("const { clientWidth, scrollWidth } = at('field'); return [clientWidth, scrollWidth];")
-    check(outside <= inside, f"a cell mask of 264 bits: #field is {inside} wide, what it tells {outside}")
+    cut = page.ask("""const wide = ({ clientWidth, scrollWidth }) => clientWidth > 0 && scrollWidth > clientWidth;
+        return [at("field"), ...at("field").querySelectorAll("*")].filter(wide).map(({ outerHTML }) => outerHTML);""")
+    check(not cut, f"a cell mask of 264 bits is cut: {cut[:1]}")
 
 
 # ---- by keys
