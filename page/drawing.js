@@ -16,16 +16,18 @@ function element(tag, text, attributes = {}) {
 
 export class Drawing {
   constructor(by) {
-    Object.assign(this, { by, pieces: [], reading: null, shown: -1, texts: null });
+    this.by = by;
     this.listen();
+    this.clear("");
   }
 
   // ---- what is drawn
 
   clear(said) {
     const { by } = this;
-    Object.assign(this, { pieces: [], reading: null, shown: -1 });
-    for (const id of ["band", "legend", "field", "messages", "rows", "mask"]) by(id).replaceChildren();
+    Object.assign(this, { pieces: [], reading: null, shown: -1, mask: null });
+    this.texts = { listing: () => "", fields: () => "" };
+    for (const id of ["band", "legend", "field", "messages", "rows", "mask", "held"]) by(id).replaceChildren();
     by("wrong").hidden = by("second").hidden = true;
     by("stop").textContent = said;
   }
@@ -47,6 +49,12 @@ export class Drawing {
     this.showMessages(second);
     this.showSecond(second);
     this.showMessage(reading.messages.length - 1);
+    this.showMask(reading.stop.after);
+  }
+
+  showMask(holding) {
+    this.mask = maskOf(holding);
+    drawGrid(this.by("mask"), this.mask);
   }
 
   showMessages(second) {
@@ -68,13 +76,12 @@ export class Drawing {
     if (at >= 0) by(`piece-${at}`).classList.add("second-stops");
   }
 
-  /* Its rows, and the mask under which it was read, or which it made; without messages what is held at the stop. */
+  /* Its rows, and the mask under which it was read, or which it made. */
   showMessage(k) {
-    if (k === this.shown && k >= 0) return;
     const { by, reading } = this, message = reading.messages[k];
+    if (message) this.showMask(message.after);
+    if (k === this.shown) return;
     this.shown = k;
-    this.mask = maskOf(message ? message.after : reading.stop.before);
-    drawGrid(by("mask"), this.mask);
     const head = element("tr", "");
     head.append(...ROW_NAMES.map((name) => element("th", name, { scope: "col" })));
     const rows = message ? message.rows.map((row, r) => this.rowOf(row, r)) : [];
@@ -107,6 +114,7 @@ export class Drawing {
     const { by, reading } = this, piece = this.pieces[index];
     this.unmark();
     if (piece.message !== undefined) this.showMessage(piece.message);
+    else this.showMask(reading.stop.before);
     for (const part of by("band").querySelectorAll(`[data-piece="${index}"]`)) part.classList.add("marked");
     if (piece.message !== undefined && piece.field.row !== undefined) this.markRow(piece.message, piece.field.row);
     by("field").replaceChildren(...fieldParts(reading.stretch, piece, bit));
@@ -165,8 +173,7 @@ export class Drawing {
 
   /* Long texts are made when they are looked at. */
   fillTexts() {
-    for (const id of ["listing", "fields"])
-      this.by(`${id}-text`).textContent = this.by(id).open && this.texts ? this.texts[id]() : "";
+    for (const id of ["listing", "fields"]) this.by(`${id}-text`).textContent = this.by(id).open ? this.texts[id]() : "";
   }
 }
 

@@ -25,7 +25,8 @@ const nextTurn = () => new Promise((done) => setTimeout(done));
 /* Of each line: its number and text; what the receivers hold before it, nothing for one that has not joined; and what
    an option says of it. */
 let lines = [], entries = [];
-let turn = 0; // of the reading that is under way: a later one ends it
+let turn = 0; // the number of the last reading that was begun: a later one ends it
+let underWay = false;
 
 function startHolding() {
   const line = by("start").value;
@@ -55,7 +56,7 @@ async function readLines(text) {
   const receiver = new Receiver(module, startHolding());
   let second = null, shown = 0, since = performance.now();
   lines = text === "" ? [] : text.split(/(?<=\n)/);
-  state("reading");
+  begin();
   entries = [];
   by("lines").replaceChildren();
   by("progress").hidden = false;
@@ -72,8 +73,14 @@ async function readLines(text) {
   }
   addOptions(entries.slice(shown));
   by("progress").hidden = true;
-  by("lines").value = entries.length;
-  draw(entries.at(-1));
+  underWay = false;
+  if (by("lines").selectedIndex < 0) by("lines").value = entries.length;
+  drawChosen();
+}
+
+function begin() {
+  underWay = true;
+  state("reading");
 }
 
 const readInput = () => readLines(by("input").value);
@@ -92,20 +99,18 @@ function readingOf(line, before) {
   return { reading, held: savedLine(module, receiver.holding) };
 }
 
-/* One entry, or nothing where there are no lines. */
-function draw(entry) {
+function drawChosen() {
+  const entry = entries[by("lines").value - 1];
   state("reading");
   if (entry) drawEntry(entry);
   else drawing.clear("No lines.");
   drawing.fillTexts();
-  state("ready");
+  if (!underWay) state("ready");
 }
 
 function drawEntry({ number, line, before, secondBefore }) {
   const { reading, held } = readingOf(line, before);
   const second = secondBefore && readingOf(line, secondBefore).reading;
-  by("held").textContent = held;
-  drawing.texts = { listing: () => listingOf(reading, number), fields: () => "" };
   if (reading === null) {
     drawing.clear(`Line ${number} is no line of the listing: B`);
   } else {
@@ -113,6 +118,8 @@ function drawEntry({ number, line, before, secondBefore }) {
     if (wrong) drawing.refuse(`The page's layout does not fit what the module read, so nothing is drawn. ${wrong}.`);
     else drawing.show(reading, laid, second);
   }
+  by("held").textContent = held;
+  drawing.texts.listing = () => listingOf(reading, number);
 }
 
 // ---- what people do
@@ -126,7 +133,11 @@ function cases() {
   });
 }
 
-const readFile = async (file) => readLines(await file.text());
+/* A file's bytes as they are: what is no text makes bad lines. */
+async function readFile(file) {
+  begin();
+  await readLines(new TextDecoder("latin1").decode(await file.arrayBuffer()));
+}
 
 function dropped(event) {
   event.preventDefault();
@@ -151,7 +162,7 @@ function listen() {
   by("file").addEventListener("change", ({ target }) => target.files.length > 0 && readFile(target.files[0]));
   const again = () => readLines(lines.join(""));
   for (const id of ["start", "without", "join"]) by(id).addEventListener("change", again);
-  by("lines").addEventListener("change", ({ target }) => draw(entries[target.value - 1]));
+  by("lines").addEventListener("change", drawChosen);
   document.addEventListener("dragover", (event) => event.preventDefault());
   document.addEventListener("drop", dropped);
   for (const button of document.querySelectorAll("[data-copies]"))
