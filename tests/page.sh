@@ -4,24 +4,11 @@
 set -eu
 cd "$(dirname "$0")/.."
 . tests/lib/tools.sh
+. tests/lib/browser.sh
 work=target/tests/page
 rm -rf "$work"
 mkdir -p "$work"
 
-# tool COMMAND PACKAGE..: as need; without it nothing can be said of the page, which is a failure
-tool() {
-    need "$@" || {
-        echo "FAILED: cannot be installed: $*"
-        echo '0 passed, 1 failed'
-        exit 1
-    }
-}
-
-tool chromium chromium
-tool chromedriver chromium-driver
-# Debian's selenium is for Debian's python3, which need not be the first one on the path.
-python=/usr/bin/python3
-$python -c 'import selenium' 2>/dev/null || tool 'selenium of python3' python3 python3-selenium
 second
 
 # broken NAME EDIT: the page of a copy of the repository in which sed changed page/layout.js, $work/NAME.html
@@ -44,4 +31,4 @@ broken() {
 broken clock 's/"clock C0", 15/"clock C0", 14/'
 broken orbit 's/"radial", 15/"radial", 13/; s/"along-track", 13/"along-track", 15/'
 broken network 's/"network ID", 5/"network ID", 4/'
-exec $python -B tests/lib/page.py "$work"
+exec $PYTHON -B tests/lib/page.py "$work"
