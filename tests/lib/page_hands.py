@@ -132,6 +132,20 @@ def check_width(page):
     check(not cut, f"a cell mask of 264 bits is cut: {cut[:1]}")
 
 
+def check_rows(page, case):
+    """64 bits stand beside one another, and the next ones below them."""
+    take_case(page, case)
+    spans = page.ask("""let place = 0;
+        return Array.from(document.querySelectorAll("#band .piece"), (element) => {
+          const { top, bottom } = element.getBoundingClientRect(), from = place;
+          place += element.textContent.length;
+          return [Math.floor(from / 64), (top + bottom) / 2];
+        });""")
+    for (row, middle), (next_row, next_middle) in zip(spans, spans[1:]):
+        good = next_middle - middle > 10 if next_row > row else abs(next_middle - middle) < 5
+        check(good, f"{case}: row {next_row} of the band stands {next_middle - middle} pixels below row {row}")
+
+
 # ---- by keys
 
 
@@ -204,4 +218,6 @@ def check_hands(page):
         check_lists(page, line)
     check_lists_of_two(page)
     check_width(page)
+    for case in (WORKED, "03-part-lost/accepted"):
+        check_rows(page, case)
     page.check_console("pointing and keys")
