@@ -61,7 +61,8 @@ export class Drawing {
     const { by, reading } = this;
     const items = reading.messages.map((message, k) => {
       const name = SUB_TYPES[message.head[0]];
-      return element("li", `${messageLine(message)}  ${name}`, { "data-message": k, tabindex: k === 0 ? 0 : -1 });
+      const reached = { "data-message": k, value: k + 1, tabindex: k === 0 ? 0 : -1 };
+      return element("li", `${messageLine(message)}  ${name}`, reached);
     });
     if (second) items.splice(second.messages.length, 0, element("li", secondText(second), { class: "second" }));
     by("messages").replaceChildren(...items);
@@ -185,11 +186,11 @@ function moveFocus(from, to) {
 }
 
 function keyInList(event) {
-  const item = event.target.closest("[tabindex]");
-  const to = { ArrowDown: item?.nextElementSibling, ArrowUp: item?.previousElementSibling }[event.key];
-  if (!to?.hasAttribute("tabindex")) return;
+  const step = { ArrowDown: 1, ArrowUp: -1 }[event.key], from = event.target.closest("[tabindex]");
+  if (!step || !from) return;
   event.preventDefault();
-  moveFocus(item, to);
+  const all = [...event.currentTarget.querySelectorAll("[tabindex]")], to = all[all.indexOf(from) + step];
+  if (to) moveFocus(from, to);
 }
 
 // ---- words

@@ -113,6 +113,7 @@ function drawEntry({ number, line, before, secondBefore }) {
   const second = secondBefore && readingOf(line, secondBefore).reading;
   if (reading === null) {
     drawing.clear(`Line ${number} is no line of the listing: B`);
+    drawing.showMask(before);
   } else {
     const laid = laidOut(reading), wrong = difference(reading, laid.messages, laid.stop);
     if (wrong) drawing.refuse(`The page's layout does not fit what the module read, so nothing is drawn. ${wrong}.`);
