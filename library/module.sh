@@ -25,7 +25,9 @@ links "$tools" bin
 links "$tools/bin" clang
 cat >"$copy/$tools/bin/clang" <<END_OF_CLANG
 #!/bin/sh
-cp module.bc "$kept"
+for word; do
+    case \$word in *.bc) cp "\$word" "$kept" ;; esac
+done
 exec "$clang" "\$@"
 END_OF_CLANG
 chmod +x "$copy/$tools/bin/clang"

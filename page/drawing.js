@@ -174,7 +174,10 @@ export class Drawing {
 
   /* Long texts are made when they are looked at. */
   fillTexts() {
-    for (const id of ["listing", "fields"]) this.by(`${id}-text`).textContent = this.by(id).open ? this.texts[id]() : "";
+    for (const id of ["listing", "fields"]) {
+      const text = this.by(id).open ? this.texts[id]() : "";
+      this.by(`${id}-text`).textContent = text;
+    }
   }
 }
 
@@ -206,8 +209,8 @@ function stopText({ stretch, stop }, laid) {
 }
 
 function secondText({ messages, stop }) {
-  return `The second receiver stops here with ${answerName(stop.answer)}, at place ${stop.place}, ` +
-    `after ${messages.length} messages.`;
+  const why = answerName(stop.answer);
+  return `The second receiver stops with ${why}, at place ${stop.place}; messages: ${messages.length}.`;
 }
 
 function fieldLine(stretch, piece) {
