@@ -171,8 +171,10 @@ function kinds() {
       if (!ArrayBuffer.isView(value)) return;
       const turned = value instanceof Uint8Array ? Int32Array : Uint8Array;
       const wrong = [turned, ...others].map((Kind) => new Kind(4096));
-      for (const array of [...wrong, new DataView(new ArrayBuffer(4096)), undefined, null])
-        throws(`${name}, ${i}: ${array?.constructor.name}`, TypeError, () => library[name](...right.with(i, array)));
+      for (const array of [...wrong, new DataView(new ArrayBuffer(4096)), undefined, null]) {
+        const given = Object.assign([...right], { [i]: array });
+        throws(`${name}, ${i}: ${array?.constructor.name}`, TypeError, () => library[name](...given));
+      }
     });
   same("nothing is changed by what throws", [holding, rows, line],
     [new Uint8Array(HOLDING), new Int32Array(ROOM), new Uint8Array(LINE)]);
