@@ -1,7 +1,7 @@
 #!/bin/sh
 # library/make.sh FOLDER NAME: puts the library for a processor of library/targets into a folder, with the header and what
 # pkg-config reads, from the modules that library/module.sh kept; prints its text size and what it needs from outside. Of
-# wasm32 also the linked module, which a browser loads, and hundurzek.js, which offers its functions there.
+# wasm32 also the linked module, which a browser loads, and hundurzek.js, which offers its functions there and in node.
 set -eu
 folder=$(readlink -f "$1")
 name=$2
@@ -50,7 +50,8 @@ if [ "$name" = wasm32 ]; then
     # the stack lies first in memory, so that one that is too deep stops and overwrites nothing
     "$(tool wasm-ld)" --no-entry --stack-first --strip-all $functions --export=__heap_base \
         "$work/host.o" "$work/host_write.o" -o "$made"
-    cp library/hundurzek.js "$folder/"
+    # package.json: without it node takes a .js file for no module
+    cp library/hundurzek.js library/package.json "$folder/"
 fi
 text=$("$(tool llvm-size)" "$made" | awk 'NR > 1 { text += $1 } END { print text }')
 needs=$("$(tool llvm-nm)" --undefined-only --just-symbol-name "$made" | sed -n '/^[A-Za-z_][A-Za-z0-9_]*$/p' | sort -u)

@@ -53,7 +53,7 @@ needs thumbv7em "$plain" $arm
 needs thumbv7em-strict "$plain" $arm
 needs riscv64 "$plain" memcpy memset
 needs riscv32 "$plain" memcpy memset
-needs wasm32 'hundurzek.h hundurzek.js hundurzek.pc hundurzek.wasm libhundurzek.a' nothing
+needs wasm32 'hundurzek.h hundurzek.js hundurzek.pc hundurzek.wasm libhundurzek.a package.json' nothing
 
 # ---- Arm's, in firmware that passes numbers with a point in each way
 
