@@ -3,11 +3,14 @@
 export const ROW_BITS = 64;
 
 /* One after another they are the stretch. A piece has its place and how many bits of it are there, a name and a kind
-   (its colour); a field's has the field, and one of an accepted message the message's index. */
+   (its colour); a field's has the field, and one of an accepted message the message's index. Of a refused message the
+   field at which it is refused is marked, or the whole. */
 export function piecesOf({ stretch, stop }, laidMessages, laidStop) {
   const pieces = laidMessages.flatMap((laid, message) => laid.fields.map((field) => fieldPiece(field, message)));
   if (laidStop !== null) {
-    for (const field of laidStop.fields) pieces.push({ ...fieldPiece(field), refused: field === laidStop.refused });
+    const { fields, refused } = laidStop;
+    const whole = refused === null;
+    for (const field of fields) pieces.push({ ...fieldPiece(field), refused: field === refused, whole });
     rest("not read", "unread");
   }
   if (stop.answer === 0) rest("idle padding", "idle");
@@ -35,10 +38,9 @@ export function pieceLabel({ place, width, name, field }) {
 /* The part of a piece that lies in one row of the band. */
 function segment(stretch, piece, index, from, to) {
   const span = document.createElement("span");
-  const { field, message, refused, kind, place, width } = piece;
-  const row = field?.row;
-  span.className = `piece ${kind}` + (refused ? " refused" : "") + (message === undefined ? "" : ` m${message % 2}`) +
-    (from === place ? " first" : "");
+  const { field, message, refused, whole, kind, place, width } = piece;
+  const row = field?.row, is = { refused, whole, first: from === place, m0: message % 2 === 0, m1: message % 2 === 1 };
+  span.className = ["piece", kind, ...Object.keys(is).filter((name) => is[name])].join(" ");
   Object.assign(span.dataset, { piece: index, place, width: field?.width ?? width, name: piece.name });
   if (message !== undefined) span.dataset.message = message;
   if (message !== undefined && row !== undefined) span.dataset.row = row;
