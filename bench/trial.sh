@@ -6,6 +6,7 @@
 set -eu
 cd "$(dirname "$0")/.."
 . bench/lib/measure.sh
+. library/kit.sh
 need python3 python3
 tried=$1
 shift
@@ -14,21 +15,10 @@ host) other=host_write ;;
 host_write) other=host ;;
 *) exit 2 ;;
 esac
-kit=$(dirname "$(dirname "$(readlink -f "$(command -v rt)")")")
-own=$kit/on/$(uname -m)
 trial=$PWD/target/trial
 rm -rf "$trial"
-mkdir -p "$trial/bin" "$trial/src"
-clang=$own/toolchain/bin/clang
-for file in "$own"/toolchain/bin/*; do ln -s "$file" "$trial/bin/"; done
-ln -s "$own/toolchain/lib" "$trial/lib"
-rm "$trial/bin/clang"
-cat >"$trial/bin/clang" <<END
-#!/bin/sh
-case " \$* " in *' -O3 '*) cp module.bc "$trial/module.bc" ;; esac
-exec "$clang" "\$@"
-END
-chmod +x "$trial/bin/clang"
+keeping "$trial" "$trial/module.bc"
+mkdir "$trial/src"
 echo 'fn main() {}' >"$trial/src/main.rt"
 : >"$trial/stdout"
 inputs=${*:-$INPUTS}
@@ -37,15 +27,13 @@ set -- "$@" --lib "std=$kit/libs/std/src/lib.rt"
 for crate in "$tried" $(sed -n "s/^$tried: //p" crates.txt); do
     set -- "$@" --lib "$crate=crates/$crate/src/lib.rt"
 done
-"$own/bin/rattle-cases" "$@" >"$trial/said" 2>&1 || {
+"$kit_own/bin/rattle-cases" "$@" >"$trial/said" 2>&1 || {
     cat "$trial/said"
     exit 1
 }
-target='--target=x86_64-unknown-linux-gnu -march=x86-64'
-"$clang" $target -x ir -S -emit-llvm -Xclang -disable-llvm-passes "$trial/module.bc" -o "$trial/module.ll"
+as_text "$trial/module.bc" "$trial/module.ll"
 python3 bench/lib/module.py "$tried" "$trial/module.ll" >"$trial/archive.ll"
-"$clang" $target -ffunction-sections -fdata-sections -mllvm -trap-unreachable -mllvm -no-trap-after-noreturn -c \
-    -x ir "$trial/archive.ll" -o "$trial/archive.o" -fPIC -O3
+"$clang" $(words x86_64) $AS_RATTLE "$trial/archive.ll" -o "$trial/archive.o"
 
 # the other archive as it was last made
 [ -f "target/staticlib/lib$other.a" ] || rt staticlib "$other" >/dev/null

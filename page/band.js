@@ -1,5 +1,7 @@
 /* The stretch as a band of bits, 64 to a row: pieces, each a field, idle padding or what was not read. */
 
+import { element } from "./elements.js";
+
 export const ROW_BITS = 64;
 
 /* One after another they are the stretch. A piece has its place and how many bits of it are there, a name and a kind
@@ -57,11 +59,8 @@ function segment(stretch, piece, index, from, to) {
 }
 
 function newRow(place) {
-  const row = document.createElement("div"), at = document.createElement("span");
-  row.className = "bits";
-  at.className = "at";
-  at.textContent = place;
-  row.append(at);
+  const row = element("div", "", { class: "bits" });
+  row.append(element("span", place, { class: "at" }));
   return row;
 }
 

@@ -1,4 +1,5 @@
 /* One stretch as it is seen: the band of bits, what is pointed at, the mask, messages and rows, and all as text. */
+import { element } from "./elements.js";
 import { maskOf } from "./mask.js";
 import { ANSWERS, KINDS, SUB_TYPES, answerName } from "./words.js";
 import { messageLine, rowLine } from "./listing.js";
@@ -6,13 +7,6 @@ import { piecesOf, drawBand, pieceLabel, pieceFrom } from "./band.js";
 import { drawGrid, markInGrid } from "./grid.js";
 
 const ROW_NAMES = ["system", "satellite", "signal place", "v1", "v2", "v3", "v4", "v5"];
-
-function element(tag, text, attributes = {}) {
-  const made = document.createElement(tag);
-  made.textContent = text;
-  for (const [name, value] of Object.entries(attributes)) made.setAttribute(name, value);
-  return made;
-}
 
 export class Drawing {
   constructor(by) {
@@ -25,7 +19,7 @@ export class Drawing {
 
   clear(said) {
     const { by } = this;
-    Object.assign(this, { pieces: [], reading: null, shown: -1, mask: null });
+    Object.assign(this, { pieces: [], reading: null, shown: -1, holding: null, mask: null });
     this.texts = { listing: () => "", fields: () => "" };
     for (const id of ["band", "legend", "field", "messages", "rows", "mask", "held"]) by(id).replaceChildren();
     by("wrong").hidden = by("second").hidden = true;
@@ -53,6 +47,8 @@ export class Drawing {
   }
 
   showMask(holding) {
+    if (holding === this.holding) return;
+    this.holding = holding;
     this.mask = maskOf(holding);
     drawGrid(this.by("mask"), this.mask);
   }
@@ -60,9 +56,9 @@ export class Drawing {
   showMessages(second) {
     const { by, reading } = this;
     const items = reading.messages.map((message, k) => {
-      const name = SUB_TYPES[message.head[0]];
-      const reached = { "data-message": k, value: k + 1, tabindex: k === 0 ? 0 : -1 };
-      return element("li", `${messageLine(message)}  ${name}`, reached);
+      const text = `${messageLine(message)}  ${SUB_TYPES[message.head[0]]}`;
+      const reached = { "data-message": k, value: k + 1, tabindex: k === 0 ? 0 : -1, "aria-label": text };
+      return element("li", text, reached);
     });
     if (second) items.splice(second.messages.length, 0, element("li", secondText(second), { class: "second" }));
     by("messages").replaceChildren(...items);
@@ -123,6 +119,7 @@ export class Drawing {
 
   pointAtRow(r) {
     this.unmark();
+    this.showMessage(this.shown);
     this.markRow(this.shown, r);
   }
 
@@ -228,7 +225,7 @@ function fieldParts(stretch, piece, bit) {
   if (field?.note) told.push(["note", field.note]);
   const at = place + bit;
   if (bit !== undefined) told.push(["bit", `${stretch.bit(at)} at place ${at}, bit ${bit + 1} of ${width}`]);
-  const list = document.createElement("dl");
+  const list = element("dl", "");
   for (const [what, value] of told) list.append(element("dt", what), element("dd", value, { class: what }));
   return [list];
 }

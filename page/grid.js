@@ -1,39 +1,30 @@
 /* The mask as a grid: a table for each system, satellites by signal places, cells marked with the k of "the k-th". */
+import { element } from "./elements.js";
 import { SYSTEM_NAMES, satelliteName } from "./mask.js";
 
-function cellOf(tag, text, attributes = {}) {
-  const cell = document.createElement(tag);
-  cell.textContent = text;
-  for (const [name, value] of Object.entries(attributes)) cell.setAttribute(name, value);
-  return cell;
-}
-
 function headRow(signals) {
-  const row = document.createElement("tr");
-  row.append(cellOf("th", "satellite", { scope: "col" }));
+  const row = element("tr", "");
+  row.append(element("th", "satellite", { scope: "col" }));
   for (const signal of signals)
-    row.append(cellOf("th", signal, { scope: "col", "aria-label": `signal place ${signal}` }));
+    row.append(element("th", signal, { scope: "col", "aria-label": `signal place ${signal}` }));
   return row;
 }
 
 /* A satellite's row: which one it is, and at each signal place which cell. */
 function satelliteRow(mask, index, signals) {
-  const row = document.createElement("tr"), { system, satellite } = mask.satellites[index];
-  row.dataset.satellite = index;
-  row.append(cellOf("th", `${index + 1}. ${satelliteName(system, satellite)}`, { scope: "row" }));
+  const row = element("tr", "", { "data-satellite": index }), { system, satellite } = mask.satellites[index];
+  row.append(element("th", `${index + 1}. ${satelliteName(system, satellite)}`, { scope: "row" }));
   for (const signal of signals) {
     const k = mask.cells.findIndex((cell) => cell.index === index && cell.signal === signal);
     const name = k < 0 ? "no cell" : `cell ${k + 1}`;
-    row.append(cellOf("td", k < 0 ? "·" : k + 1, { class: k < 0 ? "" : "cell", "aria-label": name, "data-cell": k }));
+    row.append(element("td", k < 0 ? "·" : k + 1, { class: k < 0 ? "" : "cell", "aria-label": name, "data-cell": k }));
   }
   return row;
 }
 
 function systemTable(mask, { id, flag, satellites, signals }, first) {
-  const table = document.createElement("table"), caption = document.createElement("caption");
-  const size = `${satellites.length} satellites, ${signals.length} signals`;
-  caption.textContent = `${SYSTEM_NAMES[id]}: ${size}, cell flag ${flag}`;
-  table.append(caption, headRow(signals));
+  const table = element("table", ""), size = `${satellites.length} satellites, ${signals.length} signals`;
+  table.append(element("caption", `${SYSTEM_NAMES[id]}: ${size}, cell flag ${flag}`), headRow(signals));
   satellites.forEach((_, k) => table.append(satelliteRow(mask, first + k, signals)));
   return table;
 }
@@ -46,9 +37,8 @@ export function drawGrid(place, mask) {
     tables.push(systemTable(mask, system, first));
     first += system.satellites.length;
   }
-  const head = document.createElement("p");
-  head.textContent = `IOD SSR ${mask.iod}: ${mask.satellites.length} satellites, ${mask.cells.length} cells. ` +
-    "The number before a satellite, and in a cell, is the k of “the k-th”.";
+  const size = `IOD SSR ${mask.iod}: ${mask.satellites.length} satellites, ${mask.cells.length} cells. `;
+  const head = element("p", `${size}The number before a satellite, and in a cell, is the k of “the k-th”.`);
   place.replaceChildren(head, ...tables);
 }
 

@@ -7,8 +7,8 @@ folder=$(readlink -f "$2")
 cd "$(dirname "$0")/.."
 
 # Modules in an order in which each comes after what it imports; in one script they need neither imports nor exports.
-MODULES='library/hundurzek.js page/stretch.js page/mask.js page/words.js page/layout.js page/reading.js page/listing.js
-page/agreement.js page/band.js page/grid.js page/drawing.js page/page.js'
+MODULES='library/hundurzek.js page/elements.js page/stretch.js page/mask.js page/words.js page/layout.js
+page/reading.js page/listing.js page/agreement.js page/band.js page/grid.js page/drawing.js page/page.js'
 
 script() {
     awk '/^import / { inside = 1 }

@@ -203,7 +203,7 @@ called 2
 cat >"$work/does" <<END
 cd "$work"
 cp "$home/target/module/\$2.bc" module.bc
-"\$RATTLE_HOME/on/$(uname -m)/toolchain/bin/clang" -x ir -c module.bc -o module.o
+"\$RATTLE_HOME/on/$(uname -m)/toolchain/bin/clang" -O3 -x ir -c module.bc -o module.o
 END
 puts "$work/library"
 called 3

@@ -15,6 +15,7 @@ from page_browser import Page
 from page_cases import (ANSWER_NAMES, WORKED, by_line, check_line, colours, listings, longest_lines, random_lines,
                         saved, says)
 from page_hands import check_hands
+from page_people import check_people
 
 FOLDER = Path(sys.argv[1])
 STRETCHES, SEED, LINES = 2000, 2, 2750
@@ -321,7 +322,8 @@ def check_layouts(page):
 
 
 PARTS = (check_alone, check_screenshot, check_training, check_texts, check_files, check_fields_and_copy, check_start,
-         check_receivers, check_hands, check_random, check_longest, check_long_file, check_meanwhile, check_layouts)
+         check_receivers, check_hands, check_people, check_random, check_longest, check_long_file, check_meanwhile,
+         check_layouts)
 
 
 def run(page, part):
