@@ -14,7 +14,7 @@ use holding::{Holding, set_places};
 const FLAG: usize = 1;
 
 // A system's ID and its two masks.
-#[derive(Drop)]
+#[derive(Clone, Copy)]
 pub struct Masks {
     pub id: u8,
     pub satellites: u64,
@@ -23,7 +23,7 @@ pub struct Masks {
 
 // A system up to its cells: its masks, its flag and the place behind that, where the cell mask stands; or the refusal
 // and how many bits were missing.
-#[derive(Drop)]
+#[derive(Clone, Copy)]
 pub enum System {
     Fine(Masks, bool, usize),
     Refused(Refusal, usize),

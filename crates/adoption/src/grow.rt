@@ -14,7 +14,7 @@ use bits::read::{cut, window_at};
 use holding::{Holding, set_places};
 
 // Eight bytes of the string, and the place where they begin.
-#[derive(Drop)]
+#[derive(Clone, Copy)]
 struct Window {
     bits: u64,
     from: usize,

@@ -1,5 +1,7 @@
 // A mask message, read into a holding that it makes (document 01, "Message layouts"), and adopted where it may follow what
 // is held (document 02, Ask 2).
+#![tactic(auto)]
+
 pub mod cells;
 pub mod grow;
 pub mod settle;
@@ -24,7 +26,7 @@ use heads::{CommonHead, CommonTaken, Front, front_at, heading, parted, taken};
 use holding::{Holding, Outline};
 
 // Where a mask message ends: at the place behind it, or refused, and how many bits were missing.
-#[derive(Drop)]
+#[derive(Clone, Copy)]
 pub enum Ending {
     Behind(usize),
     Refused(Refusal, usize),
@@ -33,7 +35,7 @@ pub enum Ending {
 // A mask message: where it ends, and what is held after it: what was, or what has this outline, whose masks and strips
 // are left in what is lent for them. Its head is read where the message is answered (head_at): handed on from here it
 // would lie in each frame on the way.
-#[derive(Drop)]
+#[derive(Clone, Copy)]
 pub struct Adoption {
     pub ending: Ending,
     pub kept: bool,

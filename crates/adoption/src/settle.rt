@@ -9,7 +9,7 @@ use holding::same::same;
 use holding::{Holding, Outline};
 
 // What the message says: the place after it, and the outline of the holding that it makes.
-#[derive(Drop)]
+#[derive(Clone, Copy)]
 pub struct Offer {
     pub next: usize,
     pub outline: Outline,

@@ -19,7 +19,7 @@ fn without_last(mask: u16) -> u16
 
 // The strips that four bits make at a mask's last four places, by the number that the bits are; the mask without those
 // places.
-#[derive(Drop)]
+#[derive(Clone, Copy)]
 pub struct Four {
     pub strips: [u16; 16],
     pub rest: u16,

@@ -16,7 +16,7 @@ use holding::{Holding, assigned, named, set_places};
 const ID: usize = 4;
 
 // An ID that is known and new; or the refusal and how many bits were missing.
-#[derive(Drop)]
+#[derive(Clone, Copy)]
 pub enum Named {
     Fine(u8),
     Refused(Refusal, usize),
@@ -45,7 +45,7 @@ pub fn read_id(ids: &[u8], count: usize, f: Front) -> Named
 
 // The satellite and the signal mask, and the front that begins with the latter; or the refusal and how many bits were
 // missing.
-#[derive(Drop)]
+#[derive(Clone, Copy)]
 pub enum Masked {
     Fine(u64, u16, Front),
     Refused(Refusal, usize),

@@ -46,7 +46,7 @@ fn read_system(
 }
 
 // What a mask message says before its systems: the issue, how many there are, and the place of the first.
-#[derive(Drop)]
+#[derive(Clone, Copy)]
 pub struct Before {
     pub iod: u8,
     pub systems: usize,

@@ -40,14 +40,14 @@ pub fn bits_left(end: usize, place: usize) -> usize
 }
 
 // A field that is there, or how many of its bits are missing.
-#[derive(Drop)]
+#[derive(Clone, Copy)]
 pub enum Taken {
     Whole(u64),
     Short(usize),
 }
 
 // The widths of fields that stand one after the other: four at most, the later ones being 0 where there are fewer.
-#[derive(Drop)]
+#[derive(Clone, Copy)]
 pub struct Widths {
     pub first: usize,
     pub second: usize,

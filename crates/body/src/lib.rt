@@ -1,4 +1,6 @@
 // The body of a message: one reader of rows over their shapes, for all sub types.
+#![tactic(auto)]
+
 pub mod cells;
 pub mod near;
 pub mod packet;
@@ -24,14 +26,14 @@ use rows::shapes;
 use table::{ALL, Body, Keys};
 
 // How long a body is, in bits and in rows.
-#[derive(Drop)]
+#[derive(Clone, Copy)]
 pub struct Extent {
     pub bits: usize,
     pub rows: usize,
 }
 
 // A body, how many bits and rows it has, and the place where it begins.
-#[derive(Drop)]
+#[derive(Clone, Copy)]
 pub struct Placed {
     pub body: Body,
     pub bits: usize,
@@ -40,14 +42,14 @@ pub struct Placed {
 }
 
 // A satellite: its system, and its number there.
-#[derive(Drop)]
+#[derive(Clone, Copy)]
 pub struct Satellite {
     pub system: u8,
     pub number: usize,
 }
 
 // Which rows are wanted: their shape, the satellites that are chosen, and the place where their bits begin.
-#[derive(Drop)]
+#[derive(Clone, Copy)]
 pub struct Wanted {
     pub shape: Shape,
     pub chosen: u64,
@@ -55,14 +57,14 @@ pub struct Wanted {
 }
 
 // Where writing rows ended: how many numbers they are, and the place behind their bits.
-#[derive(Drop)]
+#[derive(Clone, Copy)]
 pub struct End {
     pub filled: usize,
     pub at: usize,
 }
 
 // And the selection of the satellites behind, whose first one's bit is the highest again.
-#[derive(Drop)]
+#[derive(Clone, Copy)]
 pub struct Passed {
     pub end: End,
     pub marks: u64,

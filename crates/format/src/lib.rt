@@ -1,11 +1,13 @@
 // What a reader or a writer answers. The numbers of document 01, "Answer numbers", are those of
 // specs/Answers.antt.
+#![tactic(auto)]
+
 ghost use Rattle.std.specs.Prelude.{◌≡◌};
 ghost use Rattle.format.specs.Answers.{number_of};
 
 // A head of eight numbers; -32768 is absent. It passes to C as it is.
 #[repr(C)]
-#[derive(Drop)]
+#[derive(Clone, Copy)]
 pub struct Head {
     pub subtype: i32,
     pub epoch: i32,
@@ -18,7 +20,7 @@ pub struct Head {
 }
 
 // Why there is no message, by the names of document 01.
-#[derive(Drop)]
+#[derive(Clone, Copy)]
 pub enum Refusal {
     Room,
     Place,
@@ -67,7 +69,7 @@ pub const ROOM: usize = 2048;
 
 // What reading answers: a message with its head, the place after it and its row count; idle; or a refusal, with how
 // many bits were missing where it is short and else 0.
-#[derive(Drop)]
+#[derive(Clone, Copy)]
 pub enum Answer {
     Message(Head, usize, usize),
     Idle,

@@ -24,7 +24,7 @@ use rows::shapes;
 use table::{ALL, Body, Keys, Kind, Layout};
 
 // Head, body and the body's place; or the refusal and how many bits were missing.
-#[derive(Drop)]
+#[derive(Clone, Copy)]
 pub enum Heading {
     Rows(Head, Body, usize),
     Refused(Refusal, usize),
@@ -32,7 +32,7 @@ pub enum Heading {
 
 // A sub type that is read under the mask, where a mask of n satellites is held under an issue, or nothing. Their strips
 // are lent beside it.
-#[derive(Drop)]
+#[derive(Clone, Copy)]
 pub struct Under {
     pub held: bool,
     pub iod: u8,
@@ -274,7 +274,7 @@ pub fn packet(f: Front) -> Heading
 
 // What is held, for a message of a sub type: a mask of n satellites under an issue, or nothing. Their strips are lent
 // beside it.
-#[derive(Drop)]
+#[derive(Clone, Copy)]
 pub struct Seen {
     pub held: bool,
     pub iod: u8,

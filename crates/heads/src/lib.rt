@@ -1,5 +1,7 @@
 // What opens a message: its number and sub type, and the head that all but a packet's part share (document 01,
 // "Message layouts").
+#![tactic(auto)]
+
 pub mod heading;
 
 ghost use Rattle.std.specs.Prelude.{◌≡◌, List, ℕ, ◌+◌, ◌≤◌, ◌<◌};
@@ -41,7 +43,7 @@ pub const AFTER_EPOCH: usize = INTERVAL + INDICATOR + ISSUE;
 
 // The first bits of a message, where its stretch ends and where it starts. All fields before a selection lie in these
 // bits: they are read once, and each field is cut from them.
-#[derive(Drop)]
+#[derive(Clone, Copy)]
 pub struct Front {
     pub bits: u64,
     pub end: usize,
@@ -85,7 +87,7 @@ pub fn taken(f: Front, first: usize, w: usize) -> Taken
 }
 
 // The sub type, or the refusal and how many bits were missing.
-#[derive(Drop)]
+#[derive(Clone, Copy)]
 pub enum Opening {
     SubType(usize),
     Refused(Refusal, usize),
@@ -111,7 +113,7 @@ pub fn open(f: Front) -> Opening
 }
 
 // Epoch, interval, indicator and IOD SSR.
-#[derive(Drop)]
+#[derive(Clone, Copy)]
 pub struct CommonHead {
     pub epoch: u64,
     pub interval: u64,
@@ -120,7 +122,7 @@ pub struct CommonHead {
 }
 
 // The common head, or how many bits of its first short field were missing.
-#[derive(Drop)]
+#[derive(Clone, Copy)]
 pub enum CommonTaken {
     Whole(CommonHead),
     Short(usize),

@@ -8,7 +8,7 @@ use crate::Holding;
 
 // The highest assigned place of each system. Numbers of their own, which the compiler sees in each test: an array would be
 // laid out anew for each.
-#[derive(Drop)]
+#[derive(Clone, Copy)]
 struct Places {
     gps: usize,
     glonass: usize,

@@ -1,4 +1,6 @@
 // The held mask, by value.
+#![tactic(auto)]
+
 pub mod assigned;
 pub mod cells_in;
 pub mod joined;
@@ -20,7 +22,7 @@ ghost use Rattle.holding.specs.Pictures.{picture_of, sound};
 // satellite over all systems its strip of the cell mask, the signals that count for it at their own places; how
 // many satellites and cells there are. What is not used is zero. The order leaves no gap, which makes each copy shorter
 // and an outline 32 bytes.
-#[derive(Drop)]
+#[derive(Clone, Copy)]
 pub struct Holding {
     pub held: bool,
     pub iod: u8,
@@ -36,7 +38,7 @@ pub struct Holding {
 
 // What is held but for its masks and strips, which are lent beside it: a struct cannot be lent, and by value the whole of
 // it would be a copy for each function that it goes to.
-#[derive(Drop)]
+#[derive(Clone, Copy)]
 pub struct Outline {
     pub held: bool,
     pub iod: u8,

@@ -35,7 +35,7 @@ fn gathered(any: u64, strips: &[u16], i: usize) -> u64
 }
 
 // What is gathered in rounds, in four numbers that do not wait for each other.
-#[derive(Drop)]
+#[derive(Clone, Copy)]
 struct Lanes {
     a: u64,
     b: u64,

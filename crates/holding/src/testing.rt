@@ -57,7 +57,7 @@ fn slots_empty(ids: &[u8], satellites: &[u64], signals: &[u16], flags: &[bool], 
 }
 
 // What a slot says of its system beside the ID.
-#[derive(Drop)]
+#[derive(Clone, Copy)]
 struct Slot {
     satellites: u64,
     signals: u16,

@@ -1,4 +1,6 @@
 // For a host written in C (docs/HOST.md, include/hundurzek.h): numbers and lent slices, and nothing of its own.
+#![tactic(auto)]
+
 pub mod texts;
 
 ghost use Rattle.std.specs.Prelude.{◌≡◌, true, ℕ, ◌≤◌, length};
@@ -28,7 +30,7 @@ use walk::{START, Tally};
 // What a reading hands out: the answer's number, the place after the message or the start asked for, how many bits were
 // missing, the row count, where the raw part begins and how many bytes it has, the head.
 #[repr(C)]
-#[derive(Drop)]
+#[derive(Clone, Copy)]
 pub struct Handed {
     pub answer: u64,
     pub place: usize,
@@ -42,7 +44,7 @@ pub struct Handed {
 // What a walk comes to: the stop's number and place, how many bits were missing, and how many messages and rows were
 // handed out before it.
 #[repr(C)]
-#[derive(Drop)]
+#[derive(Clone, Copy)]
 pub struct Walked {
     pub answer: u64,
     pub place: usize,

@@ -18,7 +18,7 @@ use saved::{LoadAnswer, Saving, load_parts, save_parts};
 
 // What is done with a line: the answer's number, the start, and how long the saved line is, or the stretch in bits.
 #[repr(C)]
-#[derive(Drop)]
+#[derive(Clone, Copy)]
 pub struct Done {
     pub answer: u64,
     pub place: usize,
@@ -27,7 +27,7 @@ pub struct Done {
 
 // A loaded holding: the answer's number, and the holding's bytes.
 #[repr(C)]
-#[derive(Drop)]
+#[derive(Clone, Copy)]
 pub struct Loaded {
     pub answer: u64,
     pub holding: [u8; SIZE],

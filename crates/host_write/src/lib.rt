@@ -1,5 +1,7 @@
 // A message written for a host in C (docs/HOST.md): head and rows as numbers, the bits into lent bytes. Not in crate
 // `host`: what reader and writer both call would then be one function, and reading take more (docs/DECISIONS.md 68).
+#![tactic(auto)]
+
 ghost use Rattle.std.specs.Prelude.{◌≡◌, ◌≤◌, length, get_or};
 ghost use Rattle.format.specs.Answers.{done, undone_at};
 ghost use Rattle.format.specs.Rows.{absent};
@@ -15,7 +17,7 @@ use writer::room::limit;
 
 // What is written: the answer's number, the place after the message or the start asked for, the message's length in bits.
 #[repr(C)]
-#[derive(Drop)]
+#[derive(Clone, Copy)]
 pub struct Done {
     pub answer: u64,
     pub place: usize,

@@ -1,4 +1,6 @@
 // The listing's lines (document 01, "Saved mask and listing"): what a line of input says, and the lines of output.
+#![tactic(auto)]
+
 pub mod count;
 pub mod digits;
 pub mod records;
@@ -12,7 +14,7 @@ use format::STRETCH;
 use text::{LINE_FEED, TAB};
 
 // A line that says so many bits, whose digits begin at a place; or a bad one.
-#[derive(Drop)]
+#[derive(Clone, Copy)]
 pub enum Line {
     Says(usize, usize),
     Bad,

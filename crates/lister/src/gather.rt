@@ -43,7 +43,7 @@ fn keep(line: &mut [u8], filled: usize, new: &[u8]) -> usize
 }
 
 // What is then under way, and how many bytes of the piece were taken.
-#[derive(Drop)]
+#[derive(Clone, Copy)]
 pub struct Gathered {
     pub work: Work,
     pub taken: usize,

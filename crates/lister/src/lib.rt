@@ -1,5 +1,7 @@
 // The listing step by step (document 01, "Saved mask and listing"): input comes in pieces of any size, text goes out
 // message by message.
+#![tactic(auto)]
+
 pub mod gather;
 pub mod onward;
 pub mod open;
@@ -20,7 +22,7 @@ pub const LINE_ROOM: usize = 12721;
 
 // What is under way: a line of which so many bytes have come; one that has come whole; or the stretch that one said,
 // of so many bits, listed up to a place.
-#[derive(Drop)]
+#[derive(Clone, Copy)]
 pub enum Work {
     Gathering(usize),
     Whole(usize),
@@ -28,7 +30,7 @@ pub enum Work {
 }
 
 // The number of the line under way, and what is held.
-#[derive(Drop)]
+#[derive(Clone, Copy)]
 pub struct State {
     pub number: u64,
     pub work: Work,
@@ -36,7 +38,7 @@ pub struct State {
 }
 
 // The state after a step, how many bytes of the piece it took, how many bytes of text it gave.
-#[derive(Drop)]
+#[derive(Clone, Copy)]
 pub struct Step {
     pub state: State,
     pub taken: usize,

@@ -7,7 +7,7 @@ use saved::LoadAnswer;
 use text::LINE_FEED;
 
 // Whether the listing is shown, whether the arguments are good, and the holding to start from.
-#[derive(Drop)]
+#[derive(Clone, Copy)]
 pub struct Asked {
     pub shown: bool,
     pub fine: bool,

@@ -9,7 +9,7 @@ use libc::STDIN_FILENO;
 use lister::State;
 
 // The state after a piece, where text waits, and whether there may be more input.
-#[derive(Drop)]
+#[derive(Clone, Copy)]
 pub struct Progress {
     pub state: State,
     pub sink: Sink,

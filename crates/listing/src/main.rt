@@ -1,6 +1,8 @@
 // The listing program (document 01, "Saved mask and listing"). It moves bytes: pieces of standard input go into the
 // listing's steps, their text to standard output. Where its first argument is `save` it prints no listing but the mask
 // after it, as a saved line; where there is a second, that is a saved line, without its line feed, to start from.
+#![tactic(auto)]
+
 mod asked;
 mod input;
 mod output;

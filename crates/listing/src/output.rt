@@ -10,7 +10,7 @@ use lines::records::MESSAGE_ROOM;
 use saved::Saving;
 
 // How many bytes of the buffer wait to be written, whether text is shown at all, and whether all went well so far.
-#[derive(Drop)]
+#[derive(Clone, Copy)]
 pub struct Sink {
     pub waiting: usize,
     pub shown: bool,

@@ -7,7 +7,7 @@ use crate::output::{Sink, make_room};
 use lister::{State, Work, advance};
 
 // The state after a step, how many bytes of the piece it took, where its text waits.
-#[derive(Drop)]
+#[derive(Clone, Copy)]
 pub struct Turn {
     pub state: State,
     pub taken: usize,

@@ -16,14 +16,14 @@ use rows::shape::Shape;
 use table::{Body, Keys};
 
 // How far rows fit lines: not all of them do, or they do up to that number of those lent.
-#[derive(Drop)]
+#[derive(Clone, Copy)]
 pub enum Matched {
     Not,
     To(usize),
 }
 
 // A body with the shape of its rows, which its caller looked up once for all that it does with them.
-#[derive(Drop)]
+#[derive(Clone, Copy)]
 pub struct Shaped {
     pub body: Body,
     pub shape: Shape,

@@ -1,4 +1,6 @@
 // How a holding passes as bytes (docs/HOST.md): out of a lent slice, and into one.
+#![tactic(auto)]
+
 pub mod give;
 pub mod take;
 

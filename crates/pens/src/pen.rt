@@ -8,7 +8,7 @@ use bits::window::store_eight;
 use bits::write::write_field;
 
 // A number in so many bits.
-#[derive(Drop)]
+#[derive(Clone, Copy)]
 pub struct Field {
     pub width: usize,
     pub value: u64,
@@ -16,7 +16,7 @@ pub struct Field {
 
 // What is gathered, as the low bits of a word, how many these are, and the place where they belong. What stands above
 // them is shifted out before they are set.
-#[derive(Drop)]
+#[derive(Clone, Copy)]
 pub struct Pen {
     pub place: usize,
     pub width: usize,

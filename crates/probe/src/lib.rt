@@ -1,5 +1,7 @@
 // Crate bits for C: each function takes every number there is, and refuses what crate bits asks its
 // callers to have tested. tests/fields.c compares these with a bit-by-bit program, bench/ counts them.
+#![tactic(auto)]
+
 ghost use Rattle.std.specs.Prelude.{◌≡◌, ◌-◌, eqb, length};
 ghost use Rattle.bits.specs.Places.{field};
 ghost use Rattle.probe.specs.Probes.{read_or, writable, written_or, bits_or};

@@ -14,7 +14,7 @@ use pens::pen::{Field, Pen, push};
 
 // How far a selection is told: where the next row stands, the bit of the next satellite, and the bits of those before it
 // that have rows.
-#[derive(Drop)]
+#[derive(Clone, Copy)]
 pub struct Told {
     pub at: usize,
     pub next: u64,
@@ -22,7 +22,7 @@ pub struct Told {
 }
 
 // A selection, and how many numbers the rows have by which it was told.
-#[derive(Drop)]
+#[derive(Clone, Copy)]
 pub struct Selected {
     pub word: u64,
     pub told: usize,

@@ -1,5 +1,7 @@
 // What one message comes to (document 01, "Reader's order"): the tests of what is lent, 1, 2, 12; then what stands at the
 // place (message.rt), and the message's bytes (raw.rt).
+#![tactic(auto)]
+
 pub mod message;
 pub mod raw;
 
@@ -11,7 +13,7 @@ use format::{Answer, ROOM, Refusal, STRETCH};
 use holding::Holding;
 
 // The answer, and what is held after it.
-#[derive(Drop)]
+#[derive(Clone, Copy)]
 pub struct Reading {
     pub answer: Answer,
     pub holding: Holding,
@@ -31,7 +33,7 @@ pub fn is_placed(bytes: &[u8], end: usize, start: usize) -> bool
 }
 
 // What is lent for a reading is good, or refused.
-#[derive(Drop)]
+#[derive(Clone, Copy)]
 pub enum Verdict {
     Good,
     Refused(Refusal),

@@ -23,7 +23,7 @@ use holding::{Holding, Outline};
 use table::{Kind, kind_of};
 
 // What is found at a place: a mask message, still to be read; or the answer.
-#[derive(Drop)]
+#[derive(Clone, Copy)]
 pub enum Found {
     Mask,
     Answered(Answer),

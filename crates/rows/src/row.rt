@@ -16,7 +16,7 @@ use bits::window;
 use format::ABSENT;
 
 // The three keys of a row (document 01, "What is handed out").
-#[derive(Drop)]
+#[derive(Clone, Copy)]
 pub struct Key {
     pub system: i32,
     pub satellite: i32,
@@ -24,7 +24,7 @@ pub struct Key {
 }
 
 // And its five values.
-#[derive(Drop)]
+#[derive(Clone, Copy)]
 pub struct Values {
     pub v1: i32,
     pub v2: i32,

@@ -7,7 +7,7 @@ use format::ABSENT;
 
 // A column of v1 to v5, as the numbers that turn bits into its value: nothing, a number, or two's complement. Of 32
 // bits each, since what they make has 32: a loop's machine code then adds and masks with them where they lie.
-#[derive(Drop)]
+#[derive(Clone, Copy)]
 pub struct Column {
     pub width: usize,
     pub half: u32,
@@ -16,7 +16,7 @@ pub struct Column {
 
 // Five columns. Where `iode` is set the first is an IODE, whose width goes by the row's system (8 bits, 10 for
 // Galileo): the rest of the shape holds for all of them.
-#[derive(Drop)]
+#[derive(Clone, Copy)]
 pub struct Shape {
     pub iode: bool,
     pub v1: Column,

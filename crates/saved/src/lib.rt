@@ -1,4 +1,6 @@
 // The saved holding (document 01, "Saved mask and listing"): one line of text, and the way back.
+#![tactic(auto)]
+
 mod candidate;
 pub mod cells;
 mod characters;
@@ -16,28 +18,28 @@ use format::Refusal;
 use holding::{Holding, Outline};
 
 // How saving ends: how long the line is, or the refusal.
-#[derive(Drop)]
+#[derive(Clone, Copy)]
 pub enum Saving {
     Saved(usize),
     Refused(Refusal),
 }
 
 // How loading ends: a holding is loaded, or the line is refused.
-#[derive(Drop)]
+#[derive(Clone, Copy)]
 pub enum LoadAnswer {
     Loaded,
     Refused(Refusal),
 }
 
 // The answer, and the holding: the empty one beside a refusal.
-#[derive(Drop)]
+#[derive(Clone, Copy)]
 pub struct Loading {
     pub answer: LoadAnswer,
     pub holding: Holding,
 }
 
 // The same with the holding in parts: its masks and strips stand in arrays that are lent, as `load_parts` leaves them.
-#[derive(Drop)]
+#[derive(Clone, Copy)]
 pub struct LoadingParts {
     pub answer: LoadAnswer,
     pub outline: Outline,

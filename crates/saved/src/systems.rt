@@ -12,7 +12,7 @@ use holding::{Holding, Outline, set_places};
 use text::{DASH, TAB, number, put};
 
 // A slot of a holding.
-#[derive(Drop)]
+#[derive(Clone, Copy)]
 pub struct Slot {
     pub id: u8,
     pub satellites: u64,

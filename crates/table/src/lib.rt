@@ -1,5 +1,7 @@
 // The table of sub types (document 01, "Message layouts"): what each is to the holding, over which keys its rows go and
 // in which shape. Small numbers all of it, so that it costs nothing to hand on: a shape is its row in the table of shapes.
+#![tactic(auto)]
+
 ghost use Rattle.std.specs.Prelude.{◌≡◌, true, false};
 ghost use Rattle.table.specs.declared.Kind.TheVariants.{Masked};
 ghost use Rattle.table.specs.Kinds.{kind_for, keys_for};
@@ -8,7 +10,7 @@ use rows::shapes;
 
 // Over which keys the rows of a body go: the satellites, or the cells of the satellites, that a selection chooses, the
 // first satellite's bit being the highest of 64; or so many parts of a packet.
-#[derive(Drop)]
+#[derive(Clone, Copy)]
 pub enum Keys {
     Satellites(u64),
     Cells(u64),
@@ -19,7 +21,7 @@ pub enum Keys {
 pub const ALL: u64 = 0xffff_ffff_ffff_ffff;
 
 // A body is its keys and the shape of its rows.
-#[derive(Drop)]
+#[derive(Clone, Copy)]
 pub struct Body {
     pub keys: Keys,
     pub shape: usize,
@@ -27,7 +29,7 @@ pub struct Body {
 
 // A sub type that is read under the mask: whether its rows go over cells, whether flags and perhaps a network with its
 // selection stand before them, and their shape; with flags that is the first of four.
-#[derive(Drop)]
+#[derive(Clone, Copy)]
 pub struct Layout {
     pub cells: bool,
     pub flagged: bool,
@@ -35,7 +37,7 @@ pub struct Layout {
 }
 
 // What a sub type is: none of ours, a mask, a packet's part, or one that is read under the mask.
-#[derive(Drop)]
+#[derive(Clone, Copy)]
 pub enum Kind {
     Other,
     Mask,

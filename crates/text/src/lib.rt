@@ -1,4 +1,6 @@
 // Text into a lent line (document 01, "Saved mask and listing"): characters, digits and numbers from a place on.
+#![tactic(auto)]
+
 pub mod number;
 
 ghost use Rattle.std.specs.Prelude.{◌≡◌, [], ◌∷◌, ◌+◌, ◌<◌, length};

@@ -1,5 +1,7 @@
 // The walk over a stretch (document 01): single readings from place 0 on, each going on where the one before
 // ended, until idle or a refusal.
+#![tactic(auto)]
+
 pub mod single;
 pub mod under;
 
@@ -18,7 +20,7 @@ use reader::Verdict;
 use reader::message::{Found, mask_answer};
 
 // A place, and how many messages and rows were handed out before it.
-#[derive(Drop)]
+#[derive(Clone, Copy)]
 pub struct Tally {
     pub place: usize,
     pub messages: usize,
@@ -26,7 +28,7 @@ pub struct Tally {
 }
 
 // The stop with its place and what was handed out before it, and what is held after it.
-#[derive(Drop)]
+#[derive(Clone, Copy)]
 pub struct Halt {
     pub stop: Answer,
     pub tally: Tally,
@@ -41,7 +43,7 @@ pub const START: Tally = Tally {
 };
 
 // The same where masks and strips are lent: what is held but for these.
-#[derive(Drop)]
+#[derive(Clone, Copy)]
 pub struct Stopped {
     pub stop: Answer,
     pub tally: Tally,

@@ -10,7 +10,7 @@ use holding::{Holding, Outline};
 use reader::message::{Found, find};
 
 // What was found where reading came to, and what it handed out before that.
-#[derive(Drop)]
+#[derive(Clone, Copy)]
 pub struct Pause {
     pub found: Found,
     pub tally: Tally,

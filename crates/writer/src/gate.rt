@@ -9,7 +9,7 @@ use pens::number::{is, word};
 use table::{Kind, kind_of};
 
 // Open, or shut by a refusal.
-#[derive(Drop)]
+#[derive(Clone, Copy)]
 pub enum Gate {
     Open,
     Shut(Refusal),

@@ -1,4 +1,6 @@
 // The writer of one message (document 01, "Writer").
+#![tactic(auto)]
+
 pub mod front;
 pub mod gate;
 pub mod message;
@@ -21,7 +23,7 @@ use holding::{Holding, Outline};
 use table::Kind;
 
 // How writing ends: done, with the place after the message, or refused.
-#[derive(Drop)]
+#[derive(Clone, Copy)]
 pub enum Writing {
     Done(usize),
     Refused(Refusal),

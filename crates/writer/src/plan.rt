@@ -15,7 +15,7 @@ use table::{ALL, Body, Keys, Layout};
 
 // What stands before selection and body is gathered in the pen; the selection of a network has a bit for each of so
 // many satellites, none without one; then the body. Where the selection was told by rows, these have so many numbers.
-#[derive(Drop)]
+#[derive(Clone, Copy)]
 pub struct Plan {
     pub pen: Pen,
     pub marked: usize,

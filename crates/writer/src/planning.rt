@@ -15,7 +15,7 @@ use putting::marks::{Selected, marked};
 use table::{ALL, Kind, Layout};
 
 // What is asked to be written: a head of a kind with so many rows, at a place.
-#[derive(Drop)]
+#[derive(Clone, Copy)]
 pub struct Asked {
     pub kind: Kind,
     pub head: Head,
@@ -24,7 +24,7 @@ pub struct Asked {
 }
 
 // A plan, or none: the head does not fit.
-#[derive(Drop)]
+#[derive(Clone, Copy)]
 pub enum Planned {
     Message(Plan),
     Never,

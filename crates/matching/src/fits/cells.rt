@@ -14,7 +14,7 @@ use rows::row::Key;
 use rows::shape::Shape;
 
 // Which rows are tested: their shape, the satellites that are chosen, and the number where they begin.
-#[derive(Drop)]
+#[derive(Clone, Copy)]
 pub struct Tested {
     pub shape: Shape,
     pub chosen: u64,
@@ -23,7 +23,7 @@ pub struct Tested {
 
 // How far the rows of a slot's cells fit their lines: not all of them do, or they do up to that number of those lent;
 // how many satellites that were, each with its strip; and the selection of those behind, as of satellites.
-#[derive(Drop)]
+#[derive(Clone, Copy)]
 pub enum Passed {
     Stopped,
     On(usize, usize, u64),

@@ -16,7 +16,7 @@ use rows::shapes;
 
 // How far the rows of a slot's satellites fit their lines: not all of them do, or they do up to that number of those
 // lent; and the selection of the satellites behind, whose first one's bit is the highest again.
-#[derive(Drop)]
+#[derive(Clone, Copy)]
 pub enum Passed {
     Stopped,
     On(usize, u64),
