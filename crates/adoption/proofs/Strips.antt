@@ -5,7 +5,7 @@ use native.Mathlib.Nat.{le_of_suc-le-suc, suc-mul, mul-le-mul, add_comm, mod-eq_
 use borrow.Author.Tests.{ltb-true}
 use lib.Count.{ones, ones-le}
 use lib.ListN.{set, replicate, length-drop, length-set, length-replicate, replicate-append-replicate, take-append-drop}
-use lib.Seq.{drop_at, drop-drop, sets, sets_eq}
+use lib.Seq.{drop_at, drop-drop, sets, sets-eq}
 use Rattle.adoption.specs.declared.cells.Masks.{Masks}
 use Rattle.adoption.specs.declared.grow.Window.{Window}
 use Rattle.adoption.specs.Growing.{Sees, window_of, window_for}
@@ -141,7 +141,7 @@ zeros_stay l from (suc n) k zeros few =
     let long : length new ≡ suc n = length-replicate {A = ℕ} (suc n) 0 in
     let rest : drop (from + suc n) l ≡ more = sym (drop-drop (suc n) from l) ∙ ap (drop (suc n)) e ∙ drop_at new more (suc n) long in
     let room : length l - from ≡ k = sym (length-drop from l) ∙ ap length zeros ∙ length-replicate {A = ℕ} k 0 in
-    rw (sets_eq new l from (omega (arith, long)), long, rest, append_assoc, ← e) (take-append-drop from l)
+    rw (sets-eq new l from (omega (arith, long)), long, rest, append_assoc, ← e) (take-append-drop from l)
 
 -- the strip of the field at the place comes first
 pub next_strip : (bs : List ℕ) (n at signals w : ℕ) → w ≡ ones signals → signals < 2 ^ 16 → at + w ≤ 8 * length bs

@@ -3,7 +3,7 @@
 use Rattle.bits.proofs.Words.{◌≡◌, refl, sym, ap, ◌∙◌, Bool, false, List, [], ◌∷◌, ◌++◌, ℕ, zero, suc, ◌+◌, ◌-◌, ◌*◌, ◌/◌, ◌%◌, ◌^◌, ◌≤◌, ◌<◌, add-one, arith, eqb, length, get_or, take, drop}
 use native.Mathlib.Nat.{mod-eq_of_lt, zero-add, zero-div}
 use native.Mathlib.Decide.{dec_lt}
-use lib.ListN.{length-drop, get_or_append}
+use lib.ListN.{length-drop, get_or-append}
 use lib.Seq.{take-suc, get_or-drop, get_or-append-add}
 use Rattle.bits.specs.Places.{bit_at, field}
 use Rattle.bits.specs.BitLists.{number, spell, bits}
@@ -19,7 +19,7 @@ bit_bits (b ∷ bs) place = go (bit_bits bs (place - 8)) (dec_lt place 8)
     go : get_or (bits bs) (place - 8) false ≡ eqb (bit_at bs (place - 8)) 1 → Dec (place < 8) → get_or (bits (b ∷ bs)) place false ≡ eqb (bit_at (b ∷ bs) place) 1
     go later (yes small) =
         let first : bit_at (b ∷ bs) place ≡ b / 2 ^ (7 - place) % 2 = rw zero-add at (bit_in (b ∷ bs) 0 place small) in
-        get_or_append (spell 8 b) (bits bs) false place (omega (arith, length_spell 8 b)) ∙ spell_at 8 b place small ∙ ap (λ (x : ℕ). eqb x 1) (sym first)
+        get_or-append (spell 8 b) (bits bs) false place (omega (arith, length_spell 8 b)) ∙ spell_at 8 b place small ∙ ap (λ (x : ℕ). eqb x 1) (sym first)
     go later (no large) =
         let e : place ≡ 8 + (place - 8) = omega arith in
         let n : length (spell 8 b) + (place - 8) ≡ place = omega (arith, length_spell 8 b) in

@@ -3,12 +3,12 @@ use Rattle.bits.proofs.Words.{◌≡◌, refl, ap, ◌∙◌, List, [], ◌∷�
 use mathlib.Core.List.{append-nil}
 use native.Mathlib.Nat.{add-suc}
 use lib.ListN.{drop_of_length-le}
-use lib.Seq.{drop-cons, sets, sets_eq}
+use lib.Seq.{drop-cons, sets, sets-eq}
 
 -- as many as there is room for, one after the other
 pub stored_all : {A : Type 0} (l vs : List A) → length l ≡ length vs → sets l 0 vs ≡ vs
 stored_all {A} l vs same =
-    sets_eq vs l 0 (omega arith) ∙ ap (λ (m : List A). vs ++ m) (drop_of_length-le l {i = 0 + length vs} (omega arith)) ∙ append-nil vs
+    sets-eq vs l 0 (omega arith) ∙ ap (λ (m : List A). vs ++ m) (drop_of_length-le l {i = 0 + length vs} (omega arith)) ∙ append-nil vs
 
 -- n elements, from the j-th behind the i-th on
 unfoldable pub elements : {A : Type 0} → A → List A → ℕ → ℕ → ℕ → List A

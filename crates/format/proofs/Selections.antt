@@ -5,7 +5,7 @@ use mathlib.Core.Bool.{Bool, true, false, cond, ◌&&◌, false≢true, not-eq-n
 use mathlib.Core.List.{List, [], ◌∷◌, ◌++◌, map, flat_map, map-append}
 use Prim.Native.Nat.{ℕ, suc, ◌≤◌, ◌<◌}
 use native.Mathlib.Omega.{arith}
-use borrow.Author.Tests.{not-true, eqb-true, eqb_false, ltb-true, lt-ltb}
+use borrow.Author.Tests.{not-true, eqb-true, eqb-false, ltb-true, lt-ltb}
 use lib.Dec.{eqb, ltb}
 use lib.IntN.{ℤ, pos}
 use lib.ListN.{length, take, drop, length-map, length-append}
@@ -77,7 +77,7 @@ distinct_from before (s ∷ ss) e =
     let others = distinct_from (before ++ (s ∷ [])) ss parts.1 in (
       all_append (all_weaken (λ t p. rw p.0 (not-true _ (good_system_lem before s parts.0).fresh)) here.0) (all_weaken (λ t unnamed. (named_before t.system before s unnamed).0) others.0),
       distinct_append here.1 others.1
-          (all_weaken (λ t p. all_weaken (λ u unnamed same. eqb_false u.system s.id (named_before u.system before s unnamed).1 (cc p.0)) others.0) here.0),
+          (all_weaken (λ t p. all_weaken (λ u unnamed same. eqb-false u.system s.id (named_before u.system before s unnamed).1 (cc p.0)) others.0) here.0),
     )
 
 pub satellites_distinct : (m : Mask) → good (mask m) ≡ true → Distinct (satellites m.systems)

@@ -6,7 +6,7 @@ use Prim.Native.Nat.{ℕ, ◌+◌, ◌/◌, ◌≤◌, ◌<◌}
 use native.Mathlib.Nat.{zero-add}
 use native.Mathlib.Omega.{arith}
 use lib.ListN.{length, take, drop, drop_of_length-le}
-use lib.Seq.{sets, sets_eq, take-length}
+use lib.Seq.{sets, sets-eq, take-length}
 use borrow.Author.Tests.{le-leb, lt-leb}
 use Rattle.format.specs.declared.Refusal.TheVariants.{Room, Value}
 use Rattle.format.specs.Answers.{number_of}
@@ -91,4 +91,4 @@ module _ (line : List ℕ) {n first : ℕ} (it : SaysSo (line_says (take (length
     unfolding over
     stretch_over e =
         e ∙ ap (sets buffer 0) (says_bytes line (length line) it)
-        ∙ sets_eq (bytes_said it.stretch) buffer 0 (omega (arith, length_said it.stretch, it.long)) ∙ rw zero-add
+        ∙ sets-eq (bytes_said it.stretch) buffer 0 (omega (arith, length_said it.stretch, it.long)) ∙ rw zero-add

@@ -7,8 +7,8 @@ use native.Mathlib.Nat.{le_refl}
 use native.Mathlib.Omega.{arith}
 use lib.Dec.{eqb}
 use lib.ListN.{length, take, drop, length-append, length-take}
-use lib.Seq.{sets_eq, take-nil, take-take, take_at, take-append-add, length-take-le}
-use borrow.Author.Tests.{eqb-true, eqb_false}
+use lib.Seq.{sets-eq, take-nil, take-take, take_at, take-append-add, length-take-le}
+use borrow.Author.Tests.{eqb-true, eqb-false}
 use Rattle.format.specs.Listing.{line_says, lines_from, list_lines}
 use Rattle.format.specs.Masks.{Held}
 use Rattle.format.specs.Text.{line_feed}
@@ -95,7 +95,7 @@ kept_front line filled new there =
     let front : length before ≡ filled = length-take-le filled line there in
     let behind : length kept ≡ min (room - filled) (length new) = length-take (room - filled) new in
     let full : length (before ++ kept) ≡ min room (filled + length new) = length-append before kept ∙ omega arith in
-    let stored = sets_eq kept line filled (omega arith) in
+    let stored = sets-eq kept line filled (omega arith) in
     let whole : room ≡ length before + (room - filled) = omega arith in
     ap (take (min room (filled + length new))) stored
     ∙ take_at (before ++ kept) (drop (filled + length kept) line) (min room (filled + length new)) full
@@ -107,7 +107,7 @@ module _ (held : Held) (k : ℕ) (line : List ℕ) (filled : ℕ) (there : fille
       → list_lines held k (lines_from (take filled line) []) ≡ owed_by (cond none (Gathering 0) (Whole filled)) held k line []
   unfolding owed_by lines_from
   ends_owed true e = ap (λ (n : ℕ). list_lines held k (lines_from (take n line) [])) (eqb-true filled 0 e)
-  ends_owed false e = go (take filled line) (omega (arith, eqb_false filled 0 e, length-take-le filled line there))
+  ends_owed false e = go (take filled line) (omega (arith, eqb-false filled 0 e, length-take-le filled line there))
     where
       go : (l : List ℕ) → 0 < length l → list_lines held k (lines_from l []) ≡ list_lines held k (l ∷ [])
       go [] some = absurd (omega arith)

@@ -7,7 +7,7 @@ use native.Mathlib.Nat.{le_refl}
 use native.Mathlib.Omega.{arith}
 use lib.IntN.{ℤ, pos}
 use lib.ListN.{length, take, drop, replicate, length-replicate}
-use lib.Seq.{sets, sets_eq, length-sets, take-append-le}
+use lib.Seq.{sets, sets-eq, length-sets, take-append-le}
 use Rattle.bits.specs.BitLists.{bits}
 use Rattle.bits.proofs.BitLists.{bits_append, length_bits, length_bytes}
 use Rattle.format.specs.Listing.{Line, says, bad, line_says, bytes_said, lines_from, list_line, list_lines, walk_said}
@@ -32,7 +32,7 @@ said_long l = length_bytes ((length l + 7) / 8) (l ++ replicate 7 false)
 
 module _ (l : List Bool) (few : length l ≤ stretch_limit) (line : List ℕ) (large : line_room ≤ length line) where
   stored : sets line 0 (bytes_said l) ≡ bytes_said l ++ drop (0 + length (bytes_said l)) line
-  stored = sets_eq (bytes_said l) line 0 (omega (arith, said_long l))
+  stored = sets-eq (bytes_said l) line 0 (omega (arith, said_long l))
 
   -- the bits of the stretch come first
   same_bits : take (length l) (bits (sets line 0 (bytes_said l))) ≡ take (length l) (bits (bytes_said l))

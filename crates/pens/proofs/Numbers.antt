@@ -1,7 +1,7 @@
 -- The tests of a head's number by its 32 bits. Assumes nothing.
 use Rattle.bits.proofs.Words.{◌≡◌, refl, Bool, true, false, ℕ, suc, ◌-◌, ◌*◌, ◌^◌, ◌≤◌, ◌<◌, arith, eqb, ltb, ℤ, pos}
 use mathlib.Core.Bool.{false≢true}
-use borrow.Author.Tests.{ltb-true, le-ltb, eq-eqb, ne_eqb, eqb-true, eqb_false}
+use borrow.Author.Tests.{ltb-true, le-ltb, eq-eqb, ne_eqb, eqb-true, eqb-false}
 use lib.IntN.{negsuc}
 use lib.Pow.{pow_mono}
 use lib.Signed.{mag}
@@ -53,7 +53,7 @@ word_absent (negsuc n) fits =
   where
     go : (b : Bool) → eqb n 32767 ≡ b → n * 2 < 2 ^ 32 → eqb (2 ^ 32 - suc n) 4294934528 ≡ b
     go true same half = eq-eqb (2 ^ 32 - suc n) 4294934528 (omega (arith, eqb-true n 32767 same))
-    go false other half = ne_eqb (2 ^ 32 - suc n) 4294934528 (λ e. eqb_false n 32767 other (omega arith))
+    go false other half = ne_eqb (2 ^ 32 - suc n) 4294934528 (λ e. eqb-false n 32767 other (omega arith))
 
 pub word_is : (v : ℤ) → SFits w32 v → (n : ℕ) → n ≤ 255 → eqb (word_of v) n ≡ sameℤ v (pos n)
 unfolding word_of unsigned sameℤ

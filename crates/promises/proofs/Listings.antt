@@ -6,7 +6,7 @@ use Prim.Native.Nat.{ℕ, ◌+◌, ◌^◌, ◌≤◌, ◌<◌}
 use native.Mathlib.Omega.{arith}
 use lib.IntN.{ℤ}
 use lib.ListN.{length, take, drop}
-use lib.Seq.{sets, sets_eq, take_at}
+use lib.Seq.{sets, sets-eq, take_at}
 use Rattle.format.specs.Listing.{listing}
 use Rattle.format.specs.Reading.{row_room}
 use Rattle.holding.specs.declared.Holding.{Holding}
@@ -20,7 +20,7 @@ use Rattle.promises.specs.Listings.{AdvanceCall, Listings, ends, goes}
 
 -- a text that was stored at a buffer's front
 front_text_lem : (out text : List ℕ) → length text ≤ length out → take (length text) (sets out 0 text) ≡ text
-front_text_lem out text room = ap (take (length text)) (sets_eq text out 0 (omega arith)) ∙ take_at text _ (length text) refl
+front_text_lem out text room = ap (take (length text)) (sets-eq text out 0 (omega arith)) ∙ take_at text _ (length text) refl
 
 -- what a call gives is the step's text
 module _ {s : State} {line left : List ℕ} {rows numbers : List ℤ} {piece out text : List ℕ} {result : Step} (c : AdvanceCall s line rows piece out result left numbers text) where

@@ -4,7 +4,7 @@ use mathlib.Core.Path.{◌≡◌, refl, sym, ap, subst, ◌∙◌}
 use mathlib.Core.Bool.{true, false}
 use mathlib.Core.List.{List, [], ◌∷◌, ◌++◌}
 use Prim.Native.Nat.{ℕ}
-use borrow.Author.Tests.{eqb_false}
+use borrow.Author.Tests.{eqb-false}
 use lib.Dec.{eqb}
 use lib.IntN.{ℤ, pos}
 use lib.ListN.{replicate, get_or}
@@ -159,7 +159,7 @@ pub near_apart : {C S A : Type 0} (f : C → S) (Near : C → C → S → S → 
     → f c ≡ s → f d ≡ t → Near c d s t → eqb (number (part s)) (number (part t)) ≡ false → ((c d : C) → Near c d (f c) (f d) → part (f c) ≡ part (f d)) → ⊥
 near_apart f Near part number {c} {d} {s} p q near other same =
     let here = subst (λ x. Near c d x (f d)) (sym p) (subst (λ y. Near c d s y) (sym q) near) in
-    eqb_false _ _ other (ap number (ap part (sym p) ∙ same c d here ∙ ap part q))
+    eqb-false _ _ other (ap number (ap part (sym p) ∙ same c d here ∙ ap part q))
 
 module _ {S : Type 0} (f : Call → Seen S) (Alike : Call → Call → Seen S → Seen S → Type 0) where
   apart : {A : Type 0} (part : Seen S → A) (number : A → ℕ) {c d : Call} {s t : Seen S}

@@ -4,7 +4,7 @@ use mathlib.Core.Path.{◌≡◌, refl, sym, ap, subst, ◌∙◌}
 use mathlib.Core.Bool.{true, false}
 use mathlib.Core.List.{List, [], ◌∷◌, ◌++◌}
 use Prim.Native.Nat.{ℕ}
-use borrow.Author.Tests.{eqb_false}
+use borrow.Author.Tests.{eqb-false}
 use lib.Dec.{eqb}
 use lib.IntN.{ℤ, pos}
 use lib.ListN.{replicate, get_or}
@@ -121,7 +121,7 @@ module _ (f : Asked → Left) (is : Shows f) where
   useful_writer (ignores_head same) =
       other_bytes OneBody other_head 2 is.head_is (record { holding = refl; bytes = refl; start = refl }) (refl, refl) refl same
   useful_writer (writes_nothing leaves) =
-      eqb_false _ _ refl (ap (byte_at 0) (ap (λ (s : Left). s.bytes) (sym is.short_is) ∙ leaves short 65 (ap (λ (s : Left). s.said) is.short_is)))
+      eqb-false _ _ refl (ap (byte_at 0) (ap (λ (s : Left). s.bytes) (sym is.short_is) ∙ leaves short 65 (ap (λ (s : Left). s.said) is.short_is)))
 
 -- from Rattle
 pub write_useful : ShutsOut writer.write.Kinds.ps writer.write.Kinds.r writer.write.Reads.Learnt writes UselessWriter

@@ -1,7 +1,7 @@
 -- The shape whose columns are a row's own: that of all rows, or for an orbit that of the row's system. Assumes nothing.
 use Rattle.bits.proofs.Words.{◌≡◌, refl, sym, ap, subst, ◌∙◌, Bool, true, false, cond, List, [], ◌∷◌, ℕ, arith, eqb, get_or, ℤ, pos}
 use mathlib.Core.Bool.{false≢true}
-use borrow.Author.Tests.{ne_eqb, eqb-true, eqb_false}
+use borrow.Author.Tests.{ne_eqb, eqb-true, eqb-false}
 use lib.IntN.{negsuc}
 use mir.Syntax.{w32}
 use mir.Val.{SFits, of_z}
@@ -67,7 +67,7 @@ orbit_usual i with-iode = go (eqb i 2) (eqb i 3) refl refl
     go : (b c : Bool) → eqb i 2 ≡ b → eqb i 3 ≡ c → shape_for i ≡ orbit_of (iode_width 0) (shape_for i).v5
     go true c two _ = rw (eqb-true i 2 two) (made_orbit false)
     go false true _ three = rw (eqb-true i 3 three) (made_orbit true)
-    go false false two three = absurd (false≢true (sym (no_iode i (eqb_false i 2 two) (eqb_false i 3 three)) ∙ with-iode))
+    go false false two three = absurd (false≢true (sym (no_iode i (eqb-false i 2 two) (eqb-false i 3 three)) ∙ with-iode))
 
 -- so many as its first column has
 pub orbit_own : {s : Shape} → s ≡ orbit_of 8 s.v5 → s ≡ orbit_of s.v1.width s.v5

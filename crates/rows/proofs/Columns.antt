@@ -3,7 +3,7 @@
 use Rattle.bits.proofs.Words.{◌≡◌, refl, sym, ap, subst, Bool, true, false, cond, ℕ, zero, suc, ◌+◌, ◌-◌, ◌*◌, ◌%◌, ◌^◌, ◌≤◌, ◌<◌, arith, eqb, ℤ, pos}
 use native.Mathlib.Nat.{add-zero, one-mul, mod-lt, mod-eq_of_lt, mod-add-mod, mod-eq-sub-mod}
 use native.Mathlib.Decide.{dec_lt}
-use borrow.Author.Tests.{lt-ltb, le-ltb, eq-eqb, ne_eqb, eqb-true, eqb_false}
+use borrow.Author.Tests.{lt-ltb, le-ltb, eq-eqb, ne_eqb, eqb-true, eqb-false}
 use lib.Bits.{bit_and, and_mask, and_zero_r, and_le_r}
 use lib.IntN.{negsuc, sub_ℕ, ◌-ℤ◌}
 use lib.Pow.{pow_pos, pow_mono, pow-lt}
@@ -37,7 +37,7 @@ gap_of c none = rw (eq-eqb c.width 0 none)
 
 pub fine_of : (c : CodeColumn) → c.width ≤ 15 → Fine (column_of c)
 unfolding column_of
-fine_of c narrow = go (eqb c.width 0) (eqb c.half 0) (eqb_false c.width 0)
+fine_of c narrow = go (eqb c.width 0) (eqb c.half 0) (eqb-false c.width 0)
   where
     go : (p q : Bool) → (p ≡ false → c.width ≡ 0 → ⊥) → Fine (cond p gap (cond q (plain c.width) (counts c.width)))
     go true q e = fine_gap

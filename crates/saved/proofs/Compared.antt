@@ -10,7 +10,7 @@ use lib.Count.{ones}
 use lib.Dec.{eqb}
 use lib.ListN.{length, get_or, take, drop, length-append, drop_of_length-le}
 use lib.Seq.{drop-cons, take_at}
-use borrow.Author.Tests.{eqb-true, eqb_false, eq-eqb, ne_eqb}
+use borrow.Author.Tests.{eqb-true, eqb-false, eq-eqb, ne_eqb}
 use Rattle.format.proofs.Sames.{same_list_sound}
 use Rattle.format.specs.Same.{same_list}
 use Rattle.format.specs.Saved.{system_text, line_of}
@@ -57,7 +57,7 @@ turned a b = go (eqb a b) refl
   where
     go : (t : Bool) → eqb a b ≡ t → eqb a b ≡ eqb b a
     go true e = e ∙ sym (eq-eqb b a (sym (eqb-true a b e)))
-    go false e = e ∙ sym (ne_eqb b a (λ f. eqb_false a b e (sym f)))
+    go false e = e ∙ sym (ne_eqb b a (λ f. eqb-false a b e (sym f)))
 
 -- a text of which the front stands: it does so whole just where the rest stands from a place on
 pub record StandsLeft (line : List ℕ) (start : ℕ) (all : List ℕ) (place : ℕ) (rest : List ℕ) : Type 0 where

@@ -5,7 +5,7 @@ use mathlib.Core.List.{List, [], ◌∷◌, ◌++◌, append_assoc, flat_map}
 use Prim.Native.Nat.{ℕ, ◌+◌, ◌*◌, ◌/◌, ◌%◌, ◌≤◌, ◌<◌}
 use native.Mathlib.Omega.{arith}
 use lib.Dec.{ltb}
-use lib.ListN.{length, get_or, drop, get_or_append}
+use lib.ListN.{length, get_or, drop, get_or-append}
 use lib.Seq.{drop-append_seam, drop-drop}
 use borrow.Author.Tests.{ltb-true, ltb-false, lt-ltb, le-ltb}
 use Rattle.format.proofs.Sames.{and_true}
@@ -44,7 +44,7 @@ module _ (m : Mask) where
   no_dash e =
       let first = decimal_first m.iod in
       let some : 0 < length (decimal m.iod) = longer (decimal m.iod) first in
-      let there = ap (λ (t : List ℕ). get_or t 0 0) behind_tab ∙ get_or_append (decimal m.iod) (text_from m.systems) 0 0 some in
+      let there = ap (λ (t : List ℕ). get_or t 0 0) behind_tab ∙ get_or-append (decimal m.iod) (text_from m.systems) 0 0 some in
       omega (arith, there, first)
 
   pub good_parts : good (mask m) ≡ true → (m.iod < 16) × (good_systems [] m.systems ≡ true)

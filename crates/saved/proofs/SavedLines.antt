@@ -6,7 +6,7 @@ use Prim.Native.Nat.{ℕ, ◌≤◌, ◌<◌}
 use native.Mathlib.Nat.{zero-add}
 use lib.Dec.{leb}
 use lib.ListN.{length, take, drop}
-use lib.Seq.{sets, sets_eq, take-append_seam}
+use lib.Seq.{sets, sets-eq, take-append_seam}
 use borrow.Author.Tests.{le-leb, lt-leb, leb-true, leb-false}
 use Rattle.format.proofs.SavedForm.{load_line}
 use Rattle.format.specs.declared.Refusal.{Refusal}
@@ -22,7 +22,7 @@ use Rattle.saved.specs.Saves.{saving_by, done_by}
 
 -- a text from the first byte on
 pub text_over : (text buffer : List ℕ) → length text ≤ length buffer → sets buffer 0 text ≡ text ++ drop (length text) buffer
-text_over text buffer long = sets_eq text buffer 0 (rw zero-add long) ∙ rw zero-add
+text_over text buffer long = sets-eq text buffer 0 (rw zero-add long) ∙ rw zero-add
 
 module _ (h : Holding) (buffer : List ℕ) where
   abbrev line : List ℕ

@@ -6,7 +6,7 @@ use Prim.Native.Nat.{ℕ, suc, ◌+◌, ◌-◌, ◌/◌, ◌%◌, ◌^◌, ◌�
 use native.Mathlib.Nat.{zero-div}
 use native.Mathlib.Omega.{arith}
 use lib.Dec.{eqb, ltb}
-use lib.ListN.{length, get_or, drop, take-append-drop, get_or_append}
+use lib.ListN.{length, get_or, drop, take-append-drop, get_or-append}
 use lib.Seq.{get_or-append-add}
 use borrow.Author.Tests.{ltb-true, ltb-false}
 use Rattle.bits.specs.BitLists.{spell}
@@ -46,7 +46,7 @@ bit_said (c ∷ cs) i = go (spell 4 (char_digit c)) (length_spell 4 (char_digit 
         let few : i < 4 = ltb-true i 4 e in
         let first : i / 4 ≡ 0 = omega arith in
         let same : i % 4 ≡ i = omega arith in
-        get_or_append four (hex_bits cs) false i (omega arith) ∙ here few ∙ rw (first, same)
+        get_or-append four (hex_bits cs) false i (omega arith) ∙ here few ∙ rw (first, same)
     go four long here false e it =
         let large : 4 ≤ i = ltb-false i 4 e in
         let parts : i ≡ length four + (i - 4) = omega arith in

@@ -5,9 +5,9 @@ use Rattle.bits.specs.Parts.{start_of}
 use Rattle.bits.proofs.part.begins.Statement.{statement}
 use Rattle.bits.proofs.part.begins.Tie as tie
 
-pub begins-spec : {M : Type 1} → statement M
+pub begins_spec : {M : Type 1} → statement M
 unfolding start_of
-begins-spec =
+begins_spec =
     tie.close
-    (tie.spec (λ c. rw (lt-ltb c.before.args.from c.before.args.to (omega arith)))
-    (λ c. rw (le-ltb c.before.args.from c.before.args.to (omega arith))))
+    (tie.spec (λ c. rw (lt-ltb c.args.from c.args.to (omega arith)))
+    (λ c. rw (le-ltb c.args.from c.args.to (omega arith))))

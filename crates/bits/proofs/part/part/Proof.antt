@@ -1,5 +1,5 @@
 -- `bits::part::part` meets its contract. Assumes nothing.
-use Rattle.bits.proofs.Words.{◌≡◌, refl, Bool, true, false, ℕ, ◌+◌, ◌*◌, ◌≤◌, arith, needs, ltb, length}
+use Rattle.bits.proofs.Words.{◌≡◌, refl, Bool, true, false, ℕ, ◌+◌, ◌*◌, ◌≤◌, arith, rules, ltb, length}
 use native.Mathlib.Nat.{add-sub_cancel_left}
 use borrow.Author.Tests.{ltb-true}
 use Rattle.bits.specs.Parts.{start_of, count_of, part_of}
@@ -15,14 +15,14 @@ ends_within from to n few = go (ltb from to) refl
     go true e = rw e (omega (arith, ltb-true from to e))
     go false e = rw e (omega arith)
 
-within : (c : tie.After-counts) → c.before.begins.result + c.counts.result ≤ length c.before.before.before.args.bytes.now
+within : (c : tie.After-counts) → c.begins-first.result + c.counts.result ≤ length c.args.bytes.now
 within c =
-    let s = c.before.before.before in
-    rw (c.before.begins.ensures, c.counts.ensures) (ends_within s.args.from s.args.to _ s.requires)
+    let s = c in
+    rw (c.begins-first.ensures, c.counts.ensures) (ends_within s.args.from s.args.to _ s.requires)
 
-pub part-spec : {M : Type 1} → statement M
+pub part_spec : {M : Type 1} → statement M
 unfolding part_of
-part-spec =
+part_spec =
     tie.close
-    (tie.spec (λ c κs. search needs) (λ c κs. search needs) (λ c. omega (arith, within c)) (λ c. search needs) (λ c. search needs) (λ c. omega (arith, within c))
-    (λ c. let k = c.before in record { bytes = rw (add-sub_cancel_left, k.before.begins.ensures, k.counts.ensures); memory = refl; offset = omega (arith, k.before.begins.ensures) }))
+    (tie.spec (λ c κs. search rules) (λ c κs. search rules) (λ c. omega (arith, within c)) (λ c. search rules) (λ c. search rules) (λ c. omega (arith, within c))
+    (λ c. let k = c in record { bytes = rw (add-sub_cancel_left, k.begins-first.ensures, k.counts.ensures); memory = refl; offset = omega (arith, k.begins-first.ensures) }))

@@ -1,5 +1,5 @@
 -- `bits::read::cut` meets its contract. Assumes nothing.
-use Rattle.bits.proofs.Words.{◌≡◌, ◌∙◌, ℕ, ◌+◌, ◌-◌, ◌*◌, ◌%◌, ◌^◌, arith, needs}
+use Rattle.bits.proofs.Words.{◌≡◌, ◌∙◌, ℕ, ◌+◌, ◌-◌, ◌*◌, ◌%◌, ◌^◌, arith, rules}
 use lib.Pow.{shr-shr}
 use Rattle.bits.proofs.Windows.{shifted}
 use Rattle.bits.proofs.read.cut.Statement.{statement}
@@ -15,4 +15,4 @@ returns c =
     shr-shr (y * 2 ^ s % 2 ^ 64) 1 (63 - w) ∙ rw e (shifted y s w t 64 (omega arith))
 
 pub cut_spec : {M : Type 1} → statement M
-cut_spec = tie.close (tie.spec (λ c. search needs) (λ c. search needs) (λ c. search needs) returns)
+cut_spec = tie.close (tie.spec (λ c. search rules) (λ c. search rules) (λ c. search rules) returns)

@@ -1,5 +1,5 @@
 -- `bits::signed::from_signed` meets its contract. Assumes nothing.
-use Rattle.bits.proofs.Words.{◌≡◌, ◌*◌, ◌%◌, ◌^◌, ◌<◌, arith, needs, pos}
+use Rattle.bits.proofs.Words.{◌≡◌, ◌*◌, ◌%◌, ◌^◌, ◌<◌, arith, rules, pos}
 use lib.IntN.{◌+ℤ◌}
 use lib.Pow.{pow_pos, pow_mono}
 use mir.Facts.{to_z-of_z, to_z_pos, sfits_widen}
@@ -22,10 +22,10 @@ returns c =
     let room : lifted c.args.w c.args.z < 2 ^ 63 = omega (arith, small c) in
     rw (sum c, to_z_pos w64 room, one_shifted c.args.w (omega arith)) (lifted_mod c.args.w c.args.z c.requires.2)
 
-pub from-signed-spec : {M : Type 1} → statement M
-from-signed-spec =
+pub from_signed_spec : {M : Type 1} → statement M
+from_signed_spec =
     tie.close
-    (tie.spec (λ c. search needs) (λ c. rw (to_z-of_z c.ranges.z) (sfits_widen tt c.ranges.z))
+    (tie.spec (λ c. search rules) (λ c. rw (to_z-of_z c.ranges.z) (sfits_widen tt c.ranges.z))
     (λ c. record { sfits = rw (one_shifted c.args.w (omega arith)) (omega (arith, pow_mono c.requires.1)) })
     (λ c. rw (sum c) (record { sfits = omega (arith, small c) }))
     (λ c. let room : lifted c.args.w c.args.z < 2 ^ 63 = omega (arith, small c) in rw (sum c, to_z_pos w64 room) (tt, omega arith))

@@ -9,16 +9,16 @@ use Rattle.bits.proofs.Complement.{below_zero, from_zero}
 use Rattle.bits.proofs.signed.magnitude.Statement.{statement}
 use Rattle.bits.proofs.signed.magnitude.Tie as tie
 
-negative : (c : tie.Then1) → negsuc 0 -ℤ c.before.args.z ≡ pos (mag c.before.args.z)
-negative c = below_zero c.before.args.z (rw (to_z-of_z c.before.ranges.z) at c.if1.true)
+negative : (c : tie.Then-z-lt0) → negsuc 0 -ℤ c.args.z ≡ pos (mag c.args.z)
+negative c = below_zero c.args.z (rw (to_z-of_z c.ranges.z) at c.if-z-lt0.true)
 
-plain : (c : tie.Else1) → T (non_neg c.before.args.z) × (nat_abs c.before.args.z ≡ mag c.before.args.z)
-plain c = from_zero c.before.args.z (rw (to_z-of_z c.before.ranges.z) at c.if1.false)
+plain : (c : tie.Else-z-lt0) → T (non_neg c.args.z) × (nat_abs c.args.z ≡ mag c.args.z)
+plain c = from_zero c.args.z (rw (to_z-of_z c.ranges.z) at c.if-z-lt0.false)
 
-pub magnitude-spec : {M : Type 1} → statement M
-magnitude-spec =
+pub magnitude_spec : {M : Type 1} → statement M
+magnitude_spec =
     tie.close
-    (tie.spec (λ c. rw (to_z-of_z c.before.ranges.z, negative c) (record { sfits = c.before.ranges.z.sfits }))
-    (λ c. rw (to_z-of_z c.before.ranges.z, negative c, to_z_pos w32 c.before.ranges.z.sfits) (tt, omega (arith, c.before.ranges.z.sfits)))
-    (λ c. rw (to_z-of_z c.before.ranges.z, (plain c).1) ((plain c).0, omega (arith, c.before.ranges.z.sfits)))
-    (λ c. rw (to_z-of_z c.before.ranges.z, negative c, to_z_pos w32 c.before.ranges.z.sfits)) (λ c. rw (to_z-of_z c.before.ranges.z) (plain c).1))
+    (tie.spec (λ c. rw (to_z-of_z c.ranges.z, negative c) (record { sfits = c.ranges.z.sfits }))
+    (λ c. rw (to_z-of_z c.ranges.z, negative c, to_z_pos w32 c.ranges.z.sfits) (tt, omega (arith, c.ranges.z.sfits)))
+    (λ c. rw (to_z-of_z c.ranges.z, (plain c).1) ((plain c).0, omega (arith, c.ranges.z.sfits)))
+    (λ c. rw (to_z-of_z c.ranges.z, negative c, to_z_pos w32 c.ranges.z.sfits)) (λ c. rw (to_z-of_z c.ranges.z) (plain c).1))

@@ -1,5 +1,5 @@
 -- `bits::window::eight` meets its contract. Assumes nothing.
-use Rattle.bits.proofs.Words.{arith, needs}
+use Rattle.bits.proofs.Words.{arith, rules}
 use Rattle.bits.proofs.Windows.{eight_bytes}
 use Rattle.bits.proofs.window.eight.Statement.{statement}
 use Rattle.bits.proofs.window.eight.Tie as tie
@@ -8,12 +8,12 @@ returns : tie.Need-returns
 returns c =
     let low = c.before in
     let high = low.before.before.before.before.before in
-    let s = high.before.before.before.before.before in
-    omega (arith, eight_bytes s.before.args.bytes.now (λ k. (s.shared-slice-known.given k).fits) s.before.args.i, c.join.ensures, low.four2.ensures, high.four.ensures)
+    let s = high in
+    omega (arith, eight_bytes s.args.bytes.now (λ k. (s.shared_slice_known-1.given k).fits) s.args.i, c.join.ensures, low.four-2.ensures, high.four.ensures)
 
-pub eight-spec : {M : Type 1} → statement M
-eight-spec =
+pub eight_spec : {M : Type 1} → statement M
+eight_spec =
     tie.close
-    (tie.spec (λ c. search needs) (λ c. search needs) (λ c. search needs) (λ c. search needs) (λ c. search needs) (λ c. search needs) (λ c. search needs) (λ c κs. search needs)
-    (λ c. search needs) (λ c. search needs) (λ c. search needs) (λ c. search needs) (λ c. search needs) (λ c. search needs) (λ c. search needs) (λ c. search needs) (λ c κs. search needs)
-    (λ c κs. search needs) returns)
+    (tie.spec (λ c. search rules) (λ c. search rules) (λ c. search rules) (λ c. search rules) (λ c. search rules) (λ c. search rules) (λ c. search rules) (λ c κs. search rules)
+    (λ c. search rules) (λ c. search rules) (λ c. search rules) (λ c. search rules) (λ c. search rules) (λ c. search rules) (λ c. search rules) (λ c. search rules) (λ c κs. search rules)
+    (λ c κs. search rules) returns)
