@@ -161,6 +161,7 @@ own_key s r e = rw e (same_list_refl sameℤ sameℤ_refl (key_of s))
 
 other_key : {own : Satellite → ℕ} (s : Satellite) (r : List ℤ) {ts : List Satellite} {rows : List (List ℤ)} → All (Apart s) ts → Keyed own ts (r ∷ rows)
     → same_list sameℤ (take 2 r) (key_of s) ≡ false
+other_key {own = own} s r {rows = rows} none kept = elim kept [ ]
 other_key s r (more apart ps) (keyed rs e size k) = not-eq-not.0 λ same. apart (cc (same_list_sound sameℤ sameℤ_sound (take 2 r) (key_of s) same))
 
 and_false : (b : Bool) → b && false ≡ false
@@ -174,6 +175,7 @@ unfolding marks pick
 marks_pick own [] [] rows d size k = refl
 marks_pick own [] (b ∷ bits) rows d size k = absurd (omega arith)
 marks_pick own (s ∷ ss) [] rows d size k = absurd (omega arith)
+marks_pick own (s ∷ ss) (true ∷ bits) [] d size k = elim k [ ]
 marks_pick own (s ∷ ss) (true ∷ bits) (r ∷ rows) (another a d) size (keyed rs {rest} e long k) =
     rw (lt-ltb 0 (own s) (omega arith), own_key s r e, drop_at (r ∷ rs) rest (own s) long, marks_pick own ss bits rest d (omega arith) k)
 marks_pick own (s ∷ ss) (false ∷ bits) [] (another a d) size k = rw (marks_pick own ss bits [] d (omega arith) k)

@@ -38,6 +38,7 @@ pub enum Refusal {
 }
 
 // Document 01's number of a refusal.
+#[tactic(auto, unfolding(crate::specs::Answers::number_of))]
 pub fn number(r: Refusal) -> u64
     ensures { result ≡ number_of r }
 {
