@@ -76,7 +76,7 @@ module _ (o : Outline) (sats : List ℕ) (p : Outline) (masks : List ℕ) (in-o 
       let satellites = same_end eqb 0 sats masks i (omega arith) (omega arith) in
       let signals = same_end eqb 0 o.signals p.signals i (omega arith) (omega arith) in
       let flags = same_end Bools.beq false o.flags p.flags i (omega arith) (omega arith) in
-      rw (ids, satellites, signals, flags) (Bools.and_true same)
+      rw (ids, satellites, signals, flags) (Bools.and-true same)
 
 -- ---- all of both
 
@@ -96,7 +96,7 @@ steady_free g h none = rw none
 
 pub steady_other : (g h : Holding) → Bools.not (eqb h.iod g.iod) ≡ true → steady_by g h ≡ true
 unfolding steady_by
-steady_other g h differs = rw (not-true (eqb h.iod g.iod) differs, Bools.and_false g.held)
+steady_other g h differs = rw (not-true (eqb h.iod g.iod) differs, Bools.and-false g.held)
 
 -- of one issue
 pub steady_same : (g h : Holding) → g.held ≡ true → h.iod ≡ g.iod → same_holding g h ≡ steady_by g h

@@ -70,7 +70,7 @@ pub empty_four : (strips : List ℕ) (i : ℕ) → i + 4 ≤ length strips → (
     → eqb (four (get_or strips i 0) (get_or strips (i + 1) 0) (get_or strips (i + 2) 0) (get_or strips (i + 3) 0)) 0 ≡ empty_strips (take 4 (drop i strips))
 unfolding every
 empty_four strips i room thin =
-    rw (four_strips strips i room, Bools.and_true)
+    rw (four_strips strips i room, Bools.and-true)
     (eqb_four (get_or strips i 0) (get_or strips (i + 1) 0) (get_or strips (i + 2) 0) (get_or strips (i + 3) 0) 0 0 0 0 (thin i) (thin (i + 1)) (thin (i + 2)) (omega arith) (omega arith) (omega arith))
 
 -- four joined fit just if they do
@@ -78,4 +78,4 @@ pub fit_joined : (flag : Bool) (g : ℕ) (strips : List ℕ) (i : ℕ) → g < 2
     → strip_fits flag (four g g g g) (four (get_or strips i 0) (get_or strips (i + 1) 0) (get_or strips (i + 2) 0) (get_or strips (i + 3) 0)) ≡ strips_fit flag g (take 4 (drop i strips))
 unfolding strip_fits every
 fit_joined flag g strips i small room thin =
-    rw (four_strips strips i room, Bools.and_true) (fit_four g small flag _ _ _ (get_or strips (i + 3) 0) (thin i) (thin (i + 1)) (thin (i + 2)))
+    rw (four_strips strips i room, Bools.and-true) (fit_four g small flag _ _ _ (get_or strips (i + 3) 0) (thin i) (thin (i + 1)) (thin (i + 2)))

@@ -5,14 +5,14 @@ use Rattle.format.specs.Text.{digit_char}
 use Rattle.text.proofs.number.digit.Statement.{statement}
 use Rattle.text.proofs.number.digit.Tie as tie
 
-returns : tie.Need-returns
+returns-then-n-lt10 : tie.Need-returns-then-n-lt10
 unfolding digit_char
-returns c = rw (lt-ltb _ _ c.if1.true)
+returns-then-n-lt10 c = rw (lt-ltb _ _ c.if-n-lt10.true)
 
-returns-2 : tie.Need-returns-2
+returns-else-n-lt10 : tie.Need-returns-else-n-lt10
 unfolding digit_char
-returns-2 c = rw (le-ltb _ _ c.if1.false)
+returns-else-n-lt10 c = rw (le-ltb _ _ c.if-n-lt10.false)
 
-pub digit-spec : {M : Type 1} → statement M
-digit-spec =
-    tie.close (tie.spec (λ c. search rules) (λ c. search rules) (λ c. search rules) (λ c. search rules) returns returns-2)
+pub digit_spec : {M : Type 1} → statement M
+digit_spec =
+    tie.close (tie.spec (λ c. search rules) (λ c. search rules) (λ c. search rules) (λ c. search rules) returns-then-n-lt10 returns-else-n-lt10)

@@ -6,9 +6,9 @@ use Rattle.text.proofs.number.hex.Tie as tie
 
 returns : tie.Need-returns
 returns c =
-    let d = c.before.before in
-    let x = d.before.before.before.args in
+    let d = c in
+    let x = d.args in
     (d.digits.ensures.0, rw (hex_digits x.k x.word) d.digits.ensures.1)
 
-pub hex-spec : {M : Type 1} → statement M
-hex-spec = tie.close (tie.spec (λ c κs. search rules) (λ c. search rules) returns)
+pub hex_spec : {M : Type 1} → statement M
+hex_spec = tie.close (tie.spec (λ c κs. search rules) (λ c. search rules) returns)

@@ -8,10 +8,10 @@ use Rattle.text.proofs.number.long.Tie as tie
 returns : tie.Need-returns
 returns c =
     let d = c.before.before in
-    let k = d.before.before in
-    let x = k.before.before.args in
+    let k = d in
+    let x = k.args in
     let own = own_digits x.n in
-    (d.digits.ensures.0 ∙ rw k.decimals.ensures, d.digits.ensures.1 ∙ rw (k.decimals.ensures, ← own))
+    (d.digits.ensures.0 ∙ rw k.decimals-k.ensures, d.digits.ensures.1 ∙ rw (k.decimals-k.ensures, ← own))
 
-pub long-spec : {M : Type 1} → statement M
-long-spec = tie.close (tie.spec (λ c κs. search rules) (λ c κs. search rules) (λ c. search rules) returns)
+pub long_spec : {M : Type 1} → statement M
+long_spec = tie.close (tie.spec (λ c κs. search rules) (λ c κs. search rules) (λ c. search rules) returns)

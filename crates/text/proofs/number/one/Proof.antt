@@ -10,10 +10,10 @@ returns : tie.Need-returns
 returns c =
     let p = c.before.before in
     let d = p.before in
-    let s = d.before.before.before in
+    let s = d in
     digit_alone s.args.line.now s.args.at s.args.n s.requires.0 d.digit.ensures p.put.ensures
 
 pub one_spec : {M : Type 1} → statement M
 one_spec =
     tie.close
-    (tie.spec (λ c κs. search rules) (λ c κs. let s = c.before.before.before in omega (arith, short s.args.n s.requires.0)) (λ c. search rules) returns)
+    (tie.spec (λ c κs. search rules) (λ c κs. let s = c in omega (arith, short s.args.n s.requires.0)) (λ c. search rules) returns)

@@ -8,20 +8,20 @@ use Rattle.format.specs.Text.{char_digit}
 use Rattle.text.proofs.number.said.Statement.{statement}
 use Rattle.text.proofs.number.said.Tie as tie
 
-returns : tie.Need-returns
+returns-then-c-lt48 : tie.Need-returns-then-c-lt48
 unfolding char_digit
-returns c =
-    let none : c.before.args.c - 48 ≡ 0 = omega arith in
-    rw (lt-ltb c.before.args.c 58 (omega arith)) (sym none)
+returns-then-c-lt48 c =
+    let none : c.args.c - 48 ≡ 0 = omega arith in
+    rw (lt-ltb c.args.c 58 (omega arith)) (sym none)
 
-returns-2 : tie.Need-returns-2
+returns-then-c-lt58 : tie.Need-returns-then-c-lt58
 unfolding char_digit
-returns-2 c = rw (lt-ltb c.before.before.args.c 58 c.if2.true)
+returns-then-c-lt58 c = rw (lt-ltb c.args.c 58 c.if-c-lt58.true)
 
-returns-3 : tie.Need-returns-3
+returns-else-c-lt58 : tie.Need-returns-else-c-lt58
 unfolding char_digit
-returns-3 c = rw (le-ltb c.before.before.args.c 58 c.if2.false)
+returns-else-c-lt58 c = rw (le-ltb c.args.c 58 c.if-c-lt58.false)
 
-pub said-spec : {M : Type 1} → statement M
-said-spec =
-    tie.close (tie.spec returns (λ c. search rules) (λ c. search rules) (λ c. search rules) returns-2 returns-3)
+pub said_spec : {M : Type 1} → statement M
+said_spec =
+    tie.close (tie.spec returns-then-c-lt48 (λ c. search rules) (λ c. search rules) (λ c. search rules) returns-then-c-lt58 returns-else-c-lt58)

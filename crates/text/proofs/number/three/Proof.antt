@@ -6,23 +6,23 @@ use Rattle.text.proofs.MoreDigits.{last_room, last_digit}
 use Rattle.text.proofs.number.three.Statement.{statement}
 use Rattle.text.proofs.number.three.Tie as tie
 
-two-requires : tie.Need-two-requires
-two-requires c κs =
-    let s = c.before.before in
+two-last-requires : tie.Need-two-last-requires
+two-last-requires c κs =
+    let s = c in
     (omega arith, omega arith, omega (arith, longer s.args.n (omega arith)))
 
 put-requires : tie.Need-put-requires
 put-requires c κs =
     let f = c.before.before.before.before in
-    let s = f.before.before.before in
-    last_room s.args.line.now s.args.at s.args.n (omega arith) f.two.ensures s.requires.2
+    let s = f in
+    last_room s.args.line.now s.args.at s.args.n (omega arith) f.two-last.ensures s.requires.2
 
 returns : tie.Need-returns
 returns c =
     let p = c.before.before in
     let f = p.before.before.before.before.before in
-    let s = f.before.before.before in
-    last_digit s.args.line.now s.args.at s.args.n (omega arith) f.two.ensures p.before.digit.ensures p.put.ensures
+    let s = f in
+    last_digit s.args.line.now s.args.at s.args.n (omega arith) f.two-last.ensures p.digit.ensures p.put.ensures
 
-pub three-spec : {M : Type 1} → statement M
-three-spec = tie.close (tie.spec two-requires (λ c κs. search rules) put-requires (λ c. search rules) returns)
+pub three_spec : {M : Type 1} → statement M
+three_spec = tie.close (tie.spec two-last-requires (λ c κs. search rules) put-requires (λ c. search rules) returns)
