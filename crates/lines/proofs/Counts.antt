@@ -1,6 +1,6 @@
 -- The count that opens a line, character by character. Assumes nothing.
 use mathlib.Core.Path.{◌≡◌, refl, sym, ap, ◌∙◌}
-use mathlib.Core.Bool.{Bool, true, false, cond, ◌&&◌, and_true, and_assoc, and_false}
+use mathlib.Core.Bool.{Bool, true, false, cond, ◌&&◌, and-true, and-assoc, and-false}
 use mathlib.Core.List.{List, [], ◌∷◌, ◌++◌}
 use Prim.Native.Nat.{ℕ, zero, suc, ◌+◌, ◌-◌, ◌*◌, ◌/◌, ◌%◌, ◌≤◌, ◌<◌}
 use native.Mathlib.Omega.{arith}
@@ -51,10 +51,10 @@ module _ (line : List ℕ) (i : ℕ) where
 
 same_ends : (xs ys : List ℕ) (x y : ℕ) → length xs ≡ length ys → same_list eqb (xs ++ (x ∷ [])) (ys ++ (y ∷ [])) ≡ (same_list eqb xs ys && eqb x y)
 unfolding same_list
-same_ends [] [] x y long = and_true (eqb x y)
+same_ends [] [] x y long = and-true (eqb x y)
 same_ends [] (b ∷ ys) x y long = absurd (omega arith)
 same_ends (a ∷ xs) [] x y long = absurd (omega arith)
-same_ends (a ∷ xs) (b ∷ ys) x y long = rw (same_ends xs ys x y (omega arith)) (sym (and_assoc (eqb a b) (same_list eqb xs ys) (eqb x y)))
+same_ends (a ∷ xs) (b ∷ ys) x y long = rw (same_ends xs ys x y (omega arith)) (sym (and-assoc (eqb a b) (same_list eqb xs ys) (eqb x y)))
 
 -- one that is longer is another
 same_long : (xs ys : List ℕ) → ¬ (length xs ≡ length ys) → same_list eqb xs ys ≡ false
@@ -62,7 +62,7 @@ unfolding same_list
 same_long [] [] other = absurd (other refl)
 same_long [] (y ∷ ys) other = refl
 same_long (x ∷ xs) [] other = refl
-same_long (x ∷ xs) (y ∷ ys) other = rw (same_long xs ys (λ e. other (ap suc e))) (and_false (eqb x y))
+same_long (x ∷ xs) (y ∷ ys) other = rw (same_long xs ys (λ e. other (ap suc e))) (and-false (eqb x y))
 
 -- ---- whether they are a number's digits
 

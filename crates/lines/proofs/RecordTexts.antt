@@ -93,7 +93,7 @@ values_shorter letter vs = ap length (record_parts letter vs) ∙ length-append 
 
 pub as_read : (vs : List ℤ) → All Small vs → map (λ v. to_z w32 (of_z w32 v)) vs ≡ vs
 as_read [] none = refl
-as_read (v ∷ vs) (more small rest) = ap₂ ◌∷◌ (to_z-of_z (record { sfits = small })) (as_read vs rest)
+as_read (v ∷ vs) (more small rest) = ap₂ ◌∷◌ (to_z-of_z {w = w32} (record { sfits = small })) (as_read vs rest)
 
 -- the eight of a row
 pub row_read : (rows : List ℤ) (from : ℕ) → from + 8 ≤ length rows

@@ -1,7 +1,7 @@
 -- The eight numbers of a row, and the tests that code makes of them.
 -- Assumes nothing.
 use Rattle.bits.proofs.Words.{◌≡◌, sym, ap, ◌∙◌, Bool, ◌&&◌, List, [], ◌∷◌, ℕ, ◌-◌, ◌^◌, arith, eqb, length, get_or, take, drop, ℤ, pos}
-use mathlib.Core.Bool.{and_true}
+use mathlib.Core.Bool.{and-true}
 use borrow.Author.Tests.{eqb-true, eq-eqb}
 use lib.ListN.{length-drop}
 use lib.Seq.{take_all}
@@ -60,12 +60,12 @@ module _ (r : List ℤ) (eight : length r ≡ 8) where
 
   pub keys_by_lem : (key : Key) → same_list sameℤ (take 3 r) (keys_of key) ≡ (sameℤ (number 0) key.system && (sameℤ (number 1) key.satellite && sameℤ (number 2) key.signal))
   unfolding same_list
-  keys_by_lem key = rw (three, and_true (sameℤ (number 2) key.signal))
+  keys_by_lem key = rw (three, and-true (sameℤ (number 2) key.signal))
 
   pub values_by : (a b c d e : Column) → values_fit (a ∷ b ∷ c ∷ d ∷ e ∷ []) (drop 3 r)
       ≡ (column_fits a (number 3) && (column_fits b (number 4) && (column_fits c (number 5) && (column_fits d (number 6) && column_fits e (number 7)))))
   unfolding values_fit
-  values_by a b c d e = rw (five, and_true (column_fits e (number 7)))
+  values_by a b c d e = rw (five, and-true (column_fits e (number 7)))
 
   -- the third and the fourth are tested together
   pub shape_by : (s : Shape) → values_fit (columns_of s) (drop 3 r)

@@ -1,7 +1,7 @@
 -- Rows of sub type 11 whose satellites are right: their values tell whether they fit their lines. And a loop over them.
 -- Assumes nothing.
 use Rattle.bits.proofs.Words.{◌≡◌, refl, sym, ap, ◌∙◌, Bool, true, false, cond, ◌&&◌, List, [], ◌∷◌, ℕ, zero, suc, ◌+◌, ◌-◌, ◌*◌, ◌≤◌, ◌<◌, arith, eqb, length, get_or, take, drop, ℤ, pos}
-use mathlib.Core.Bool.{and_true, false≢true}
+use mathlib.Core.Bool.{and-true, false≢true}
 use native.Mathlib.Nat.{sub-zero}
 use borrow.Author.Tests.{eqb-true, eq-eqb, ne_eqb}
 use lib.Dec.{eqb-zero-suc, eqb-suc-suc}
@@ -155,7 +155,7 @@ row_valued_lem s sat (x ∷ y ∷ []) e =
 row_valued_lem s sat (x ∷ y ∷ z ∷ vs) e =
     let first : x ≡ pos sat.system = cc in
     let second : y ≡ pos sat.number = cc in
-    rw (first, second, sameℤ_refl (pos sat.system), sameℤ_refl (pos sat.number), and_true (sameℤ z absent), own_columns s sat.system)
+    rw (first, second, sameℤ_refl (pos sat.system), sameℤ_refl (pos sat.number), and-true (sameℤ z absent), own_columns s sat.system)
 
 -- ---- and rows by which a selection was told, one for each satellite
 

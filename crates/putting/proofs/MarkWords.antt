@@ -1,7 +1,7 @@
 -- The marks of satellites that have rows, as a word of 64 bits: what code tells satellite by satellite is that word, and its first bits are the marks.
 -- Assumes nothing.
 use Rattle.bits.proofs.Words.{◌≡◌, refl, sym, ap, subst, ◌∙◌, Bool, true, false, cond, ◌&&◌, List, [], ◌∷◌, ◌++◌, map, ℕ, zero, suc, ◌+◌, ◌-◌, ◌*◌, ◌/◌, ◌%◌, ◌^◌, ◌≤◌, ◌<◌, add-one, arith, ltb, length, get_or, take, drop, ℤ, pos}
-use mathlib.Core.Bool.{and_true, and_false}
+use mathlib.Core.Bool.{and-true, and-false}
 use native.Mathlib.Decide.{dec_lt}
 use native.Mathlib.Nat.{add-mul, mul_assoc, pow-suc, suc-add}
 use borrow.Author.Tests.{lt-ltb, le-ltb}
@@ -113,13 +113,13 @@ rows_past (suc n) numbers at whole place = go (dec_lt at (length numbers)) (rows
 module _ (numbers : List ℤ) (at own : ℕ) (s : Satellite) where
   has_none : length numbers ≤ at → has_row numbers at own s ≡ false
   unfolding has_row
-  has_none past = rw (le-ltb at (length numbers) past) (and_false (ltb 0 own))
+  has_none past = rw (le-ltb at (length numbers) past) (and-false (ltb 0 own))
 
   has_keys : at + 8 ≤ length numbers → ltb 0 own && same_list sameℤ (take 2 (take 8 (drop at numbers))) (pos s.system ∷ pos s.number ∷ []) ≡ has_row numbers at own s
   unfolding has_row same_list
   has_keys room =
       let inside : at < length numbers = omega arith in
-      rw (two_keys numbers at room, lt-ltb at (length numbers) inside, and_true (sameℤ (get_or numbers (at + 1) (pos 0)) (pos s.number)))
+      rw (two_keys numbers at room, lt-ltb at (length numbers) inside, and-true (sameℤ (get_or numbers (at + 1) (pos 0)) (pos s.number)))
 
   -- one satellite's mark, and those of the satellites behind it
   marks_next : (ns : List ℕ) (ss : List Satellite) → length numbers % 8 ≡ 0 → at % 8 ≡ 0

@@ -128,7 +128,7 @@ four_fit row eight a b c d fits =
 
 -- as code reads them
 pub value_read : (v : ℤ) → mag v < 2 ^ 31 → to_z w32 (of_z w32 v) ≡ v
-value_read v small = to_z-of_z (record { sfits = small })
+value_read v small = to_z-of_z {w = w32} (record { sfits = small })
 
 pub fits_read : (v : ℤ) → mag v < 2 ^ 31 → (c : Column) → column_fits c v ≡ true → column_fits c (to_z w32 (of_z w32 v)) ≡ true
 fits_read v small c fits = rw (value_read v small) fits

@@ -1,7 +1,7 @@
 -- `holding::same::cells_same` meets its contract. The loop's invariant: the strips are the same just if those passed are and those from the i-th on.
 -- Assumes nothing.
 use Rattle.bits.proofs.Words.{◌≡◌, refl, sym, ap, ◌∙◌, Bool, ◌&&◌, ◌-◌, ◌≤◌, arith, needs, eqb, drop}
-use mathlib.Core.Bool.{and_true}
+use mathlib.Core.Bool.{and-true}
 use Rattle.format.specs.Same.{same_list}
 use Rattle.holding.proofs.Compared.{same_next, same_end}
 use Rattle.holding.proofs.Tests.{and_assoc}
@@ -26,7 +26,7 @@ returns c =
     let x = c.before.before.args in
     let s = c.before.loop in
     let none = same_end eqb 0 x.strips.now x.cells.now s.i (omega arith) (omega arith) in
-    sym (s.invariant.1 ∙ rw none (and_true _))
+    sym (s.invariant.1 ∙ rw none (and-true _))
 
 pub cells-same-spec : {M : Type 1} → statement M
 cells-same-spec =

@@ -1,7 +1,7 @@
 -- `holding::strips_empty::each_empty` meets its contract. The loop's invariant: the strips are empty from the first on just if nothing is gathered and they
 -- are from the i-th on. Assumes nothing.
 use Rattle.bits.proofs.Words.{◌≡◌, refl, sym, ap, ◌∙◌, Bool, ◌&&◌, ◌+◌, ◌-◌, ◌≤◌, add-one, arith, needs, eqb, length, get_or, drop}
-use mathlib.Core.Bool.{and_true}
+use mathlib.Core.Bool.{and-true}
 use lib.ListN.{drop_of_length-le}
 use Rattle.holding.specs.Bounds.{every}
 use Rattle.holding.specs.Testing.{empty_strips}
@@ -29,7 +29,7 @@ unfolding every
 returns c =
     let x = c.before.before.args in
     let all : length x.strips.now ≤ c.before.loop.i = omega arith in
-    sym (c.before.loop.invariant.1 ∙ rw (drop_of_length-le x.strips.now all) (and_true _))
+    sym (c.before.loop.invariant.1 ∙ rw (drop_of_length-le x.strips.now all) (and-true _))
 
 pub each-empty-spec : {M : Type 1} → statement M
 each-empty-spec =

@@ -1,6 +1,6 @@
 -- `lines::count::opens_with` meets its contract. The loop's invariant: the digits that are left, and what is left of the number. Assumes nothing.
 use mathlib.Core.Path.{◌≡◌, refl, sym, ap, ◌∙◌}
-use mathlib.Core.Bool.{◌&&◌, and_true, and_false}
+use mathlib.Core.Bool.{◌&&◌, and-true, and-false}
 use Prim.Native.Nat.{ℕ, ◌-◌, ◌/◌, ◌≤◌}
 use native.Mathlib.Omega.{arith}
 use borrow.Author.Rules.{rules}
@@ -50,10 +50,10 @@ module _ (c : tie.After-digit invariant-loop decreases-loop) where
       ∙ ap (λ (d : ℕ). same_list eqb (take (l.loop.i - 1) x.args.line.now) (last_digits 10 (l.loop.i - 1) (l.loop.left / 10)) && eqb (get_or x.args.line.now (l.loop.i - 1) 0) d) (sym c.digit.ensures)
 
 returns-2 : tie.Need-returns-2 invariant-loop decreases-loop
-returns-2 c = sym (here c.before ∙ rw (ne_eqb (get_or (x c.before).args.line.now ((l c.before).loop.i - 1) 0) c.before.digit.result c.if2.true) (and_false (same_list eqb (take ((l c.before).loop.i - 1) (x c.before).args.line.now) (last_digits 10 ((l c.before).loop.i - 1) ((l c.before).loop.left / 10)))))
+returns-2 c = sym (here c.before ∙ rw (ne_eqb (get_or (x c.before).args.line.now ((l c.before).loop.i - 1) 0) c.before.digit.result c.if2.true) (and-false (same_list eqb (take ((l c.before).loop.i - 1) (x c.before).args.line.now) (last_digits 10 ((l c.before).loop.i - 1) ((l c.before).loop.left / 10)))))
 
 loop-again : tie.Need-loop-preserved invariant-loop decreases-loop
-loop-again c = (omega arith, here c.before ∙ rw (eq-eqb (get_or (x c.before).args.line.now ((l c.before).loop.i - 1) 0) c.before.digit.result (omega arith)) (and_true _))
+loop-again c = (omega arith, here c.before ∙ rw (eq-eqb (get_or (x c.before).args.line.now ((l c.before).loop.i - 1) 0) c.before.digit.result (omega arith)) (and-true _))
 
 returns-3 : tie.Need-returns-3 invariant-loop decreases-loop
 unfolding last_digits same_list

@@ -1,6 +1,6 @@
 -- `lines::digits::digits_say` meets its contract. Assumes nothing.
 use mathlib.Core.Path.{◌≡◌, sym, ap, ◌∙◌}
-use mathlib.Core.Bool.{◌&&◌, and_true, and_false}
+use mathlib.Core.Bool.{◌&&◌, and-true, and-false}
 use Prim.Native.Nat.{ℕ, ◌/◌}
 use native.Mathlib.Omega.{arith}
 use borrow.Author.Rules.{rules}
@@ -46,12 +46,12 @@ module _ (c : tie.After-digit) where
 returns-4 : tie.Need-returns-4
 returns-4 c =
     let d = c.before.before in
-    sym (parts d ∙ rw (ne_eqb d.digit.result (last d) c.if4.true) (and_false (all_digits (take ((s d).args.n / 4) (s d).args.line.now))))
+    sym (parts d ∙ rw (ne_eqb d.digit.result (last d) c.if4.true) (and-false (all_digits (take ((s d).args.n / 4) (s d).args.line.now))))
 
 returns-5 : tie.Need-returns-5
 returns-5 c =
     let d = c.before.before.before in
-    c.all-digits2.ensures ∙ sym (parts d ∙ rw (eq-eqb d.digit.result (last d) (omega arith)) (and_true _))
+    c.all-digits2.ensures ∙ sym (parts d ∙ rw (eq-eqb d.digit.result (last d) (omega arith)) (and-true _))
 
 pub digits-say-spec : {M : Type 1} → statement M
 digits-say-spec =

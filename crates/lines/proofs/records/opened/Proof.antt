@@ -49,7 +49,7 @@ module _ (c : tie.After-field-arg2 invariant-loop decreases-loop) where
   v = get_or (s l.before).args.values.now l.loop.i (pos 0)
 
   same : to_z w32 (of_z w32 v) ≡ v
-  same = to_z-of_z (record { sfits = c.field-arg2.given })
+  same = to_z-of_z {w = w32} (record { sfits = c.field-arg2.given })
 
   next : values_from (s l.before).args.values.now l.loop.i ≡ (tab ∷ value_text v) ++ values_from (s l.before).args.values.now (l.loop.i + 1)
   next = next_value (s l.before).args.values.now l.loop.i (omega arith)

@@ -1,5 +1,6 @@
 -- `rows::row::alone` meets its contract. Assumes nothing.
 use Rattle.bits.proofs.Words.{ap, ◌∙◌, ◌-◌, ◌%◌, arith, needs}
+use mir.Syntax.{w32}
 use mir.Facts.{to_z-of_z}
 use Rattle.rows.proofs.Cuts.{cut_by, half_lt, front_cut, column_cut}
 use Rattle.rows.proofs.row.alone.Statement.{statement}
@@ -16,7 +17,7 @@ returns c =
     let w = c.before.before in
     let s = w.before.before in
     let x = s.args in
-    to_z-of_z (record { sfits = c.value.type-inv }) ∙ c.value.ensures
+    to_z-of_z {w = w32} (record { sfits = c.value.type-inv }) ∙ c.value.ensures
     ∙ ap (cut_by x.c) (front_cut x.bytes.now x.at w.eight.ensures x.c.width s.requires.0.narrow)
     ∙ column_cut x.bytes.now x.at w.eight.ensures x.c x.at (63 - x.at % 8 - x.c.width) (omega arith) (omega arith)
 

@@ -1,6 +1,7 @@
 -- `rows::row::tested` meets its contract. Assumes nothing.
 use Rattle.bits.proofs.Words.{ap, ◌∙◌, arith, needs}
 use native.Mathlib.Nat.{mod-eq_of_lt}
+use mir.Syntax.{w32}
 use mir.Facts.{to_z-of_z}
 use Rattle.bits.proofs.Fields.{field_lt}
 use Rattle.format.specs.Rows.{value_of}
@@ -19,7 +20,7 @@ returns : tie.Need-returns
 returns c =
     let r = c.before in
     let s = r.before.before.before.before in
-    to_z-of_z (record { sfits = c.value.type-inv }) ∙ c.value.ensures ∙ ap (cut_by s.args.c) r.read-field.ensures
+    to_z-of_z {w = w32} (record { sfits = c.value.type-inv }) ∙ c.value.ensures ∙ ap (cut_by s.args.c) r.read-field.ensures
     ∙ ap (value_of (column_of s.args.c)) (mod-eq_of_lt (field_lt s.args.bytes.now s.args.at s.args.c.width))
 
 -- a column of no bits is a gap

@@ -1,6 +1,7 @@
 -- `matching::fits::values::orbit` meets its contract. Assumes nothing.
 use Rattle.bits.proofs.Words.{◌≡◌, sym, ap, ◌∙◌, List, ℕ, arith, needs, get_or, drop, ℤ, pos}
 use borrow.Author.Tests.{not-true, not-false}
+use mir.Syntax.{w32}
 use mir.Facts.{to_z-of_z}
 use Rattle.format.specs.Messages.{iode_width}
 use Rattle.format.specs.Rows.{Column}
@@ -19,7 +20,7 @@ tested c =
     let o = c.before in
     let s = o.before.before.before.before in
     let key : ℤ = get_or s.args.row.now 0 (pos 0) in
-    let wide : o.own-iode.result ≡ iode_width (own_system key) = o.own-iode.ensures ∙ ap (λ (k : ℤ). iode_width (own_system k)) (to_z-of_z (record { sfits = o.before.own-iode-arg.given })) in
+    let wide : o.own-iode.result ≡ iode_width (own_system key) = o.own-iode.ensures ∙ ap (λ (k : ℤ). iode_width (own_system k)) (to_z-of_z {w = w32} (record { sfits = o.before.own-iode-arg.given })) in
     ap columns_of c.orbit.ensures ∙ ap (λ (w : ℕ). columns_of (orbit_of w s.args.v5)) wide ∙ orbit_own s.args.v5 (own_system key)
 
 returns : tie.Need-returns
