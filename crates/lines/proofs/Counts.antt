@@ -1,6 +1,6 @@
 -- The count that opens a line, character by character. Assumes nothing.
 use mathlib.Core.Path.{◌≡◌, refl, sym, ap, ◌∙◌}
-use mathlib.Core.Bool.{Bool, true, false, cond, ◌&&◌, and-true, and-assoc, and-false}
+use mathlib.Core.Bool.{Bool, true, false, cond, ◌&&◌, and-true, and_assoc, and-false}
 use mathlib.Core.List.{List, [], ◌∷◌, ◌++◌}
 use Prim.Native.Nat.{ℕ, zero, suc, ◌+◌, ◌-◌, ◌*◌, ◌/◌, ◌%◌, ◌≤◌, ◌<◌}
 use native.Mathlib.Omega.{arith}
@@ -54,7 +54,7 @@ unfolding same_list
 same_ends [] [] x y long = and-true (eqb x y)
 same_ends [] (b ∷ ys) x y long = absurd (omega arith)
 same_ends (a ∷ xs) [] x y long = absurd (omega arith)
-same_ends (a ∷ xs) (b ∷ ys) x y long = rw (same_ends xs ys x y (omega arith)) (sym (and-assoc (eqb a b) (same_list eqb xs ys) (eqb x y)))
+same_ends (a ∷ xs) (b ∷ ys) x y long = rw (same_ends xs ys x y (omega arith)) (sym (and_assoc (eqb a b) (same_list eqb xs ys) (eqb x y)))
 
 -- one that is longer is another
 same_long : (xs ys : List ℕ) → ¬ (length xs ≡ length ys) → same_list eqb xs ys ≡ false

@@ -1,6 +1,6 @@
 -- Characters that say n bits are the hex digits of these bits. Assumes nothing.
 use mathlib.Core.Path.{◌≡◌, refl, sym, ap, ◌∙◌}
-use mathlib.Core.Bool.{Bool, true, false, ◌&&◌, and-true, and-assoc}
+use mathlib.Core.Bool.{Bool, true, false, ◌&&◌, and-true, and_assoc}
 use mathlib.Core.List.{List, [], ◌∷◌, ◌++◌}
 use Prim.Native.Nat.{ℕ, zero, suc, ◌+◌, ◌-◌, ◌*◌, ◌/◌, ◌%◌, ◌^◌, ◌≤◌, ◌<◌}
 use native.Mathlib.Omega.{arith}
@@ -90,4 +90,4 @@ digits_say (suc (suc (suc (suc n)))) (c ∷ cs) =
     let left : suc (suc (suc (suc n))) - 4 ≡ n = omega arith in
     let some : ltb 0 (suc (suc (suc (suc n)))) ≡ true = lt-ltb 0 (suc (suc (suc (suc n)))) (omega arith) in
     rw (some, left, digits_say n cs, keeps_four c n, four_more (length (take n (hex_bits cs))) n)
-    (sym (and-assoc (eqb (digit_char (kept (suc (suc (suc (suc n)))) c)) c) (same_list eqb (hex (take n (hex_bits cs))) cs) (eqb (length (take n (hex_bits cs))) n)))
+    (sym (and_assoc (eqb (digit_char (kept (suc (suc (suc (suc n)))) c)) c) (same_list eqb (hex (take n (hex_bits cs))) cs) (eqb (length (take n (hex_bits cs))) n)))

@@ -1,6 +1,6 @@
 -- Digits by the tests that code makes of them: those of four bits each, and the last one. Assumes nothing.
 use mathlib.Core.Path.{◌≡◌, refl, sym, ap, ◌∙◌}
-use mathlib.Core.Bool.{Bool, true, false, ◌&&◌, ◌||◌, and-true, and-assoc, and-eq-true_iff}
+use mathlib.Core.Bool.{Bool, true, false, ◌&&◌, ◌||◌, and-true, and_assoc, and-eq-true_iff}
 use mathlib.Core.List.{List, [], ◌∷◌, ◌++◌}
 use Prim.Native.Nat.{ℕ, zero, suc, ◌+◌, ◌-◌, ◌*◌, ◌/◌, ◌%◌, ◌≤◌, ◌<◌}
 use native.Mathlib.Decide.{dec_lt}
@@ -66,7 +66,7 @@ in_ranges c = go (dec_lt c 48) (dec_lt c 58) (dec_lt c 65) (dec_lt c 71)
 all_more : (cs : List ℕ) (c : ℕ) → all_digits (cs ++ (c ∷ [])) ≡ (all_digits cs && is_digit c)
 unfolding all_digits
 all_more [] c = and-true (is_digit c)
-all_more (b ∷ cs) c = ap (λ (x : Bool). is_digit b && x) (all_more cs c) ∙ sym (and-assoc (is_digit b) (all_digits cs) (is_digit c))
+all_more (b ∷ cs) c = ap (λ (x : Bool). is_digit b && x) (all_more cs c) ∙ sym (and_assoc (is_digit b) (all_digits cs) (is_digit c))
 
 pub one_digit_more : (line : List ℕ) (i : ℕ) → i < length line → all_digits (take (suc i) line) ≡ (all_digits (take i line) && is_digit (get_or line i 0))
 one_digit_more line i there = ap all_digits (take-suc line i 0 there) ∙ all_more (take i line) (get_or line i 0)
@@ -82,7 +82,7 @@ says_whole (suc k) left (c ∷ cs) room =
     let some : ltb 0 (4 * suc k + left) ≡ true = lt-ltb 0 (4 * suc k + left) (omega arith) in
     let rest : 4 * suc k + left - 4 ≡ 4 * k + left = omega arith in
     let four : kept (4 * suc k + left) c ≡ char_digit c % 16 = sym (kept_whole (4 * suc k + left) c (omega arith)) in
-    rw (some, rest, four, says_whole k left cs (omega arith)) (sym (and-assoc (eqb (digit_char (char_digit c % 16)) c) (all_digits (take k cs)) (hex_says left (drop k cs))))
+    rw (some, rest, four, says_whole k left cs (omega arith)) (sym (and_assoc (eqb (digit_char (char_digit c % 16)) c) (all_digits (take k cs)) (hex_says left (drop k cs))))
 
 module _ (n : ℕ) (cs : List ℕ) where
   -- as many as they must be

@@ -1,6 +1,6 @@
 -- A line compared with a holding's own, piece by piece. Assumes nothing.
 use mathlib.Core.Path.{◌≡◌, refl, sym, ap, ◌∙◌}
-use mathlib.Core.Bool.{Bool, true, false, ◌&&◌, and-true, and-assoc}
+use mathlib.Core.Bool.{Bool, true, false, ◌&&◌, and-true, and_assoc}
 use mathlib.Core.List.{List, [], ◌∷◌, ◌++◌, append_assoc}
 use Prim.Native.Nat.{ℕ, suc, ◌+◌, ◌≤◌, ◌<◌}
 use native.Mathlib.Nat.{add-zero}
@@ -32,7 +32,7 @@ unfolding stands_at
 stands_append line at [] more = rw (add-zero at)
 stands_append line at (c ∷ text) more =
     let there : at + 1 + length text ≡ at + suc (length text) = omega arith in
-    rw (stands_append line (at + 1) text more, there) (sym (and-assoc (eqb c (get_or line at 0)) _ _))
+    rw (stands_append line (at + 1) text more, there) (sym (and_assoc (eqb c (get_or line at 0)) _ _))
 
 -- as long as what is left of a line, it is all that is left
 stands_whole : (line : List ℕ) (at : ℕ) (text : List ℕ) → at + length text ≡ length line → stands_at line at text ≡ same_list eqb text (drop at line)
