@@ -136,6 +136,18 @@ kind_reads : (n : ℕ) (k : Kind) (test : Asks) → Told n k test → (held : He
     → fits_as test held h rows ≡ true
     → (n < 2 ^ 4) × Readable (by_kind k held) (record { content = record { head = h; rows = rows }; after = held })
 unfolding fits_as by_kind
+kind_reads n other (freely test) x8 held fine h rows type fits = elim x8 [ ]
+kind_reads n other (under_issue test) x9 held fine h rows type fits = elim x9 [ ]
+kind_reads n other (of_mask test) x10 held fine h rows type fits = elim x10 [ ]
+kind_reads n (free k) never x6 held fine h rows type fits = elim x6 [ ]
+kind_reads n (free k) (under_issue test) x7 held fine h rows type fits = elim x7 [ ]
+kind_reads n (free k) (of_mask test) x8 held fine h rows type fits = elim x8 [ ]
+kind_reads n (masked k) never x7 held fine h rows type fits = elim x7 [ ]
+kind_reads n (masked k) (freely test) x8 held fine h rows type fits = elim x8 [ ]
+kind_reads n (masked k) (of_mask test) x9 held fine h rows type fits = elim x9 [ ]
+kind_reads n (adopts k) never x8 held fine h rows type fits = elim x8 [ ]
+kind_reads n (adopts k) (freely test) x9 held fine h rows type fits = elim x9 [ ]
+kind_reads n (adopts k) (under_issue test) x10 held fine h rows type fits = elim x10 [ ]
 kind_reads n other never neither held fine h rows type fits = absurd (false≢true fits)
 kind_reads n (free k) (freely test) (told_free small carried _) held fine h rows type fits =
     (small, kept held (carried h rows type fits))
@@ -187,6 +199,18 @@ under_fits n m test front h rows fit issue same passes =
 kind_fits : (n : ℕ) (k : Kind) (test : Asks) → Told n k test → (held : Held) → good held ≡ true
     → Gives (by_kind k held) (λ m b. (m.content.head.subtype ≡ pos n) × (fits_as test m.after m.content.head m.content.rows ≡ true))
 unfolding fits_as by_kind head_of sky_of
+kind_fits n other (freely test) x4 held fine = elim x4 [ ]
+kind_fits n other (under_issue test) x5 held fine = elim x5 [ ]
+kind_fits n other (of_mask test) x6 held fine = elim x6 [ ]
+kind_fits n (free k) never x4 held fine = elim x4 [ ]
+kind_fits n (free k) (under_issue test) x5 held fine = elim x5 [ ]
+kind_fits n (free k) (of_mask test) x6 held fine = elim x6 [ ]
+kind_fits n (masked k) never x5 held fine = elim x5 [ ]
+kind_fits n (masked k) (freely test) x6 held fine = elim x6 [ ]
+kind_fits n (masked k) (of_mask test) x7 held fine = elim x7 [ ]
+kind_fits n (adopts k) never x6 held fine = elim x6 [ ]
+kind_fits n (adopts k) (freely test) x7 held fine = elim x7 [ ]
+kind_fits n (adopts k) (under_issue test) x8 held fine = elim x8 [ ]
 kind_fits n other never neither held fine = gives_refuse SubType
 kind_fits n (free k) (freely test) (told_free _ _ law) held fine = keeping_gives held law λ d b l it whole. (it.0, it.1 l whole)
 kind_fits n (masked k) (under_issue test) (told_masked _ _ law) nothing fine =
