@@ -1,5 +1,5 @@
 -- `pens::number::fits` meets its contract. Assumes nothing.
-use Rattle.bits.proofs.Words.{◌≡◌, arith, needs}
+use Rattle.bits.proofs.Words.{◌≡◌, arith, rules}
 use mir.Facts.{to_z-of_z}
 use Rattle.bits.proofs.Windows.{one_shifted}
 use Rattle.pens.specs.Numbers.{word_of}
@@ -9,8 +9,8 @@ use Rattle.pens.proofs.number.fits.Tie as tie
 
 returns : tie.Need-returns
 returns c =
-    let found : c.word.result ≡ word_of c.before.args.v = rw (to_z-of_z c.before.ranges.v) at c.word.ensures.0 in
-    rw (found, one_shifted c.before.args.w (omega arith)) (word_fits c.before.args.v c.before.ranges.v c.before.args.w c.before.requires)
+    let found : c.word.result ≡ word_of c.args.v = rw (to_z-of_z c.ranges.v) at c.word.ensures.0 in
+    rw (found, one_shifted c.args.w (omega arith)) (word_fits c.args.v c.ranges.v c.args.w c.requires)
 
-pub fits-spec : {M : Type 1} → statement M
-fits-spec = tie.close (tie.spec (λ c κs. search needs) (λ c. search needs) returns)
+pub fits_spec : {M : Type 1} → statement M
+fits_spec = tie.close (tie.spec (λ c κs. search rules) (λ c. search rules) returns)

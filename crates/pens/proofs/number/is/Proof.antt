@@ -1,5 +1,5 @@
 -- `pens::number::is` meets its contract. Assumes nothing.
-use Rattle.bits.proofs.Words.{◌≡◌, needs}
+use Rattle.bits.proofs.Words.{◌≡◌, rules}
 use mir.Facts.{to_z-of_z}
 use Rattle.pens.specs.Numbers.{word_of}
 use Rattle.pens.proofs.Numbers.{word_is}
@@ -8,8 +8,8 @@ use Rattle.pens.proofs.number.is.Tie as tie
 
 returns : tie.Need-returns
 returns c =
-    let found : c.word.result ≡ word_of c.before.args.v = rw (to_z-of_z c.before.ranges.v) at c.word.ensures.0 in
-    rw found (word_is c.before.args.v c.before.ranges.v c.before.args.n c.before.requires)
+    let found : c.word.result ≡ word_of c.args.v = rw (to_z-of_z c.ranges.v) at c.word.ensures.0 in
+    rw found (word_is c.args.v c.ranges.v c.args.n c.requires)
 
-pub is-spec : {M : Type 1} → statement M
-is-spec = tie.close (tie.spec (λ c κs. search needs) returns)
+pub is_spec : {M : Type 1} → statement M
+is_spec = tie.close (tie.spec (λ c κs. search rules) returns)

@@ -9,8 +9,8 @@ use Rattle.pens.proofs.number.word.Tie as tie
 returns : tie.Need-returns
 unfolding word_of
 returns c =
-    let found : c.from-signed.result ≡ word_of c.before.args.v = rw (to_z-of_z c.before.ranges.v) at c.from-signed.ensures in
-    (found, rw found (word_small c.before.args.v c.before.ranges.v))
+    let found : c.from_signed.result ≡ word_of c.args.v = rw (to_z-of_z c.ranges.v) at c.from_signed.ensures in
+    (found, rw found (word_small c.args.v c.ranges.v))
 
-pub word-spec : {M : Type 1} → statement M
-word-spec = tie.close (tie.spec (λ c κs. rw (to_z-of_z c.ranges.v) (omega arith, omega arith, halved c.ranges.v)) returns)
+pub word_spec : {M : Type 1} → statement M
+word_spec = tie.close (tie.spec (λ c κs. rw (to_z-of_z c.ranges.v) (omega arith, omega arith, halved c.ranges.v)) returns)

@@ -1,5 +1,5 @@
 -- `pens::pen::set` meets its contract. Assumes nothing.
-use Rattle.bits.proofs.Words.{◌≡◌, ap, ◌∙◌, List, ℕ, ◌*◌, ◌%◌, ◌^◌, ◌<◌, arith, needs}
+use Rattle.bits.proofs.Words.{◌≡◌, ap, ◌∙◌, List, ℕ, ◌*◌, ◌%◌, ◌^◌, arith, rules}
 use native.Mathlib.Nat.{mod-lt}
 use lib.Pow.{pow_pos}
 use Rattle.bits.proofs.BitLists.{spell_mod}
@@ -19,7 +19,7 @@ module _ (s : tie.Start) where
 
   -- as many numbers as there are of its bits
   all : 1 * 2 ^ width % 2 ^ 64 ≡ 2 ^ width
-  all = one_shifted width s.pre.pen.narrow
+  all = one_shifted width s.requires.pen.narrow
 
   -- its low bits are what is set anyway
   low_set : (part : List ℕ) → set_field part 0 width (gathered % (1 * 2 ^ width % 2 ^ 64)) ≡ set_field part 0 width gathered
@@ -32,10 +32,10 @@ returns c =
     let f = c.before.before in
     let x = f.before.before in
     let s = x.before in
-    set_part s.args.bytes.now s.args.place (width s) (gathered s) (λ k. (x.slice-known.given k).fits) s.requires.whole (omega (arith, s.requires.room)) _ (f.write-field.ensures ∙ low_set s _)
+    set_part s.args.bytes.now s.args.place (width s) (gathered s) (λ k. (x.slice_known-1.given k).fits) s.requires.whole (omega (arith, s.requires.room)) _ (f.write_field.ensures ∙ low_set s _)
 
 pub set_spec : {M : Type 1} → statement M
 set_spec =
     tie.close
-    (tie.spec (λ c. search needs) (λ c. let s = c.before in omega (arith, all s, pow_pos (width s))) (λ c. search needs) (λ c. search needs) (λ c. search needs)
-    (λ c κs. let s = c.before.before in (omega (arith, s.requires.pen.narrow), search needs, rw (all s) (mod-lt (gathered s) (pow_pos (width s))))) (λ c. search needs) returns)
+    (tie.spec (λ c. search rules) (λ c. let s = c.before in omega (arith, all s, pow_pos (width s))) (λ c. search rules) (λ c. search rules) (λ c. search rules)
+    (λ c κs. let s = c.before.before in (omega (arith, s.requires.pen.narrow), search rules, rw (all s) (mod-lt (gathered s) (pow_pos (width s))))) (λ c. search rules) returns)
