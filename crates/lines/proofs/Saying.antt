@@ -7,7 +7,7 @@ use native.Mathlib.Omega.{arith}
 use lib.Dec.{eqb}
 use lib.ListN.{length, get_or, take, drop}
 use borrow.Author.Tests.{eqb-true}
-use Rattle.format.specs.Listing.{stretch_line, line_says, says}
+use Rattle.format.specs.Listing.{stretch_line, line_says}
 use Rattle.format.specs.Reading.{stretch_limit}
 use Rattle.format.specs.Same.{same_list}
 use Rattle.format.specs.Text.{tab, line_feed, decimal, decimal_value, hex, hex_bits}

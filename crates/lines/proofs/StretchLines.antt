@@ -12,8 +12,7 @@ use lib.Seq.{take-append_seam, drop-append_seam, take_at, get_or-append-add, dro
 use borrow.Author.Tests.{ne_eqb}
 use Rattle.format.specs.Listing.{stretch_line}
 use Rattle.format.specs.Reading.{stretch_limit}
-use Rattle.format.specs.Same.{same_list}
-use Rattle.format.specs.Text.{tab, line_feed, decimal, hex, hex_bits}
+use Rattle.format.specs.Text.{tab, line_feed, decimal, hex}
 use Rattle.format.proofs.Bodies.{more}
 use Rattle.format.proofs.Sames.{same_list_refl, eqb_refl}
 use Rattle.format.proofs.Texts.{hex_bits_hex, Plain, plain_decimal}

@@ -1,5 +1,5 @@
 -- What the code answers to a line of input, by crate format's meaning of it.
-use Rattle.std.specs.Prelude.{List, suc, length}
+use Rattle.std.specs.Prelude.{suc, length}
 use Rattle.format.specs.Listing as Listing
 use Rattle.format.specs.Text.{decimal}
 use Rattle.lines.specs.declared.Line.{Line}

@@ -4,85 +4,84 @@ use mathlib.Core.List.{List}
 use Prim.Native.Nat.{ℕ, ◌≤◌}
 use native.Mathlib.Omega.{arith}
 use borrow.Author.Rules.{rules}
-use borrow.Author.Tests.{not-true, not-false}
 use Rattle.lines.proofs.Counts.{tab_near}
 use Rattle.lines.proofs.Saying.{no_tab, another, too_many, no_count, no_room, no_end, no_digits, says_bits}
 use Rattle.lines.proofs.said_by.Statement.{statement}
 use Rattle.lines.proofs.said_by.Tie as tie
 
 -- the place of the first tab
-module _ (b : tie.After-before-tab) where
+module _ (b : tie.After-before_tab-t) where
   abbrev line : List ℕ
-  line = b.before.before.args.line.now
+  line = b.args.line.now
 
   abbrev t : ℕ
-  t = b.before-tab.result
+  t = b.before_tab-t.result
 
   near : t ≤ 5
-  near = omega (arith, b.before-tab.ensures, tab_near 5 line)
+  near = omega (arith, b.before_tab-t.ensures, tab_near 5 line)
 
-returns : tie.Need-returns
-returns c =
+returns-then-t-line : tie.Need-returns-then-t-line
+returns-then-t-line c =
     let b = c.before in
-    no_tab (line b) (t b) b.before-tab.ensures _ refl c.if1.true
+    no_tab (line b) (t b) b.before_tab-t.ensures _ refl c.if-t-line.true
 
-returns-2 : tie.Need-returns-2
-returns-2 c =
+returns-then-line-t-ne-TAB : tie.Need-returns-then-line-t-ne-TAB
+returns-then-line-t-ne-TAB c =
     let b = c.before.before.before in
-    another (line b) (t b) b.before-tab.ensures _ refl c.if2.true
+    another (line b) (t b) b.before_tab-t.ensures _ refl c.if-line-t-ne-TAB.true
 
 -- the number before it
-module _ (k : tie.After-number-in) where
-  abbrev b : tie.After-before-tab
+module _ (k : tie.After-number_in-n) where
+  abbrev b : tie.After-before_tab-t
   b = k.before.before.before.before
 
   abbrev n : ℕ
-  n = k.number_in.result
+  n = k.number_in-n.result
 
-returns-3 : tie.Need-returns-3
-returns-3 c =
+returns-then-n : tie.Need-returns-then-n
+returns-then-n c =
     let k = c.before in
-    too_many (line (b k)) (t (b k)) (b k).before-tab.ensures (n k) k.number_in.ensures.0 c.if3.true
+    too_many (line (b k)) (t (b k)) (b k).before_tab-t.ensures (n k) k.number_in-n.ensures.0 c.if-n.true
 
 -- whether that is how the line opens
-module _ (o : tie.After-opens-with) where
-  abbrev k : tie.After-number-in
+module _ (o : tie.After-opens_with) where
+  abbrev k : tie.After-number_in-n
   k = o.before.before
 
-returns-4 : tie.Need-returns-4
-returns-4 c =
+returns-then-not-opens_with : tie.Need-returns-then-not-opens_with
+returns-then-not-opens_with c =
     let o = c.before in
-    let not = sym o.opens-with.ensures ∙ not-true _ c.if4.true in
-    no_count (line (b (k o))) (t (b (k o))) (b (k o)).before-tab.ensures (n (k o)) (k o).number_in.ensures.0 not
+    let not = sym o.opens_with.ensures ∙ c.if-not-opens_with.true in
+    no_count (line (b (k o))) (t (b (k o))) (b (k o)).before_tab-t.ensures (n (k o)) (k o).number_in-n.ensures.0 not
 
-returns-5 : tie.Need-returns-5
-returns-5 c =
+returns-then-end-first : tie.Need-returns-then-end-first
+returns-then-end-first c =
     let o = c.before.before in
-    no_room (line (b (k o))) (t (b (k o))) (b (k o)).before-tab.ensures (n (k o)) (k o).number_in.ensures.0 c.if5.true
+    no_room (line (b (k o))) (t (b (k o))) (b (k o)).before_tab-t.ensures (n (k o)) (k o).number_in-n.ensures.0 c.if-end-first.true
 
-returns-6 : tie.Need-returns-6
-returns-6 c =
+returns-then-line-end-ne-LINE_FEED : tie.Need-returns-then-line-end-ne-LINE_FEED
+returns-then-line-end-ne-LINE_FEED c =
     let o = c.before.before.before.before in
-    no_end (line (b (k o))) (t (b (k o))) (b (k o)).before-tab.ensures (n (k o)) (k o).number_in.ensures.0 c.if6.true
+    no_end (line (b (k o))) (t (b (k o))) (b (k o)).before_tab-t.ensures (n (k o)) (k o).number_in-n.ensures.0 c.if-line-end-ne-LINE_FEED.true
 
-returns-7 : tie.Need-returns-7
-returns-7 c =
+returns-then-not-digits_say : tie.Need-returns-then-not-digits_say
+returns-then-not-digits_say c =
     let d = c.before in
     let o = d.before.before.before.before.before.before in
-    let not = sym d.digits_say.ensures ∙ not-true _ c.if7.true in
-    no_digits (line (b (k o))) (t (b (k o))) (b (k o)).before-tab.ensures (n (k o)) (k o).number_in.ensures.0 not
+    let not = sym d.digits_say.ensures ∙ c.if-not-digits_say.true in
+    no_digits (line (b (k o))) (t (b (k o))) (b (k o)).before_tab-t.ensures (n (k o)) (k o).number_in-n.ensures.0 not
 
-returns-8 : tie.Need-returns-8
-returns-8 c =
+returns : tie.Need-returns
+returns c =
     let d = c.before in
     let x = d.before.before in
     let o = x.before.before.before.before in
-    let opened = sym o.opens-with.ensures ∙ not-false _ x.before.before.before.if4.false in
-    let said = sym d.digits_say.ensures ∙ not-false _ c.if7.false in
-    says_bits (line (b (k o))) (t (b (k o))) (b (k o)).before-tab.ensures (n (k o)) (k o).number_in.ensures.0 (omega arith) (omega arith) (omega arith) opened (omega arith) (omega arith) said
+    let opened = sym o.opens_with.ensures ∙ x.if-not-opens_with.false in
+    let said = sym d.digits_say.ensures ∙ c.if-not-digits_say.false in
+    says_bits (line (b (k o))) (t (b (k o))) (b (k o)).before_tab-t.ensures (n (k o)) (k o).number_in-n.ensures.0 (omega arith) (omega arith) (omega arith) opened (omega arith) (omega arith) said
 
-pub said-by-spec : {M : Type 1} → statement M
-said-by-spec =
+pub said_by_spec : {M : Type 1} → statement M
+said_by_spec =
     tie.close
-    (tie.spec (λ c κs. search rules) returns (λ c. search rules) returns-2 (λ c κs. (near c.before.before.before, omega arith)) returns-3 (λ c κs. search rules) returns-4 (λ c. search rules)
-    (λ c. search rules) returns-5 (λ c. search rules) returns-6 (λ c. search rules) (λ c. search rules) (λ c κs. search rules) returns-7 returns-8)
+    (tie.spec (λ c κs. search rules) returns-then-t-line (λ c. search rules) returns-then-line-t-ne-TAB (λ c κs. (near c.before.before.before, omega arith)) returns-then-n (λ c κs. search rules) returns-then-not-opens_with (λ c. search rules)
+    (λ c. search rules) returns-then-end-first (λ c. search rules) returns-then-line-end-ne-LINE_FEED (λ c. search rules) (λ c. search rules) (λ c κs. search rules) returns-then-not-digits_say returns)

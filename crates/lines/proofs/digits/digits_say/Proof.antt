@@ -14,20 +14,20 @@ use Rattle.lines.proofs.digits.digits_say.Statement.{statement}
 use Rattle.lines.proofs.digits.digits_say.Tie as tie
 
 -- another count of characters
-returns : tie.Need-returns
-returns c =
-    let x = c.before.before.before.args in
+returns-then-line-k : tie.Need-returns-then-line-k
+returns-then-line-k c =
+    let x = c.args in
     sym (other_count x.n x.line.now (λ e. omega arith))
 
-returns-3 : tie.Need-returns-3
-returns-3 c =
-    let x = c.before.before.before.args in
+returns-then-line-k-2 : tie.Need-returns-then-line-k-2
+returns-then-line-k-2 c =
+    let x = c.args in
     sym (other_count x.n x.line.now (λ e. omega arith))
 
 -- digits of four bits alone
-returns-2 : tie.Need-returns-2
-returns-2 c =
-    let x = c.before.before.before.before.args in
+returns-then-left-eq0 : tie.Need-returns-then-left-eq0
+returns-then-left-eq0 c =
+    let x = c.args in
     c.all_digits.ensures ∙ sym (says_even x.n x.line.now (omega arith) (omega arith))
 
 -- and one of fewer
@@ -41,20 +41,20 @@ module _ (c : tie.After-digit) where
   parts : hex_says s.args.n s.args.line.now ≡ (all_digits (take (s.args.n / 4) s.args.line.now) && eqb c.digit.result last)
   parts =
       says_odd s.args.n s.args.line.now (λ e. omega arith) (omega arith)
-      ∙ ap (λ (d : ℕ). all_digits (take (s.args.n / 4) s.args.line.now) && eqb d last) (sym (c.digit.ensures ∙ ap digit_char c.before.nibble.ensures.0))
+      ∙ ap (λ (d : ℕ). all_digits (take (s.args.n / 4) s.args.line.now) && eqb d last) (sym (c.digit.ensures ∙ ap digit_char c.nibble.ensures.0))
 
-returns-4 : tie.Need-returns-4
-returns-4 c =
+returns-then-digit-line : tie.Need-returns-then-digit-line
+returns-then-digit-line c =
     let d = c.before.before in
-    sym (parts d ∙ rw (ne_eqb d.digit.result (last d) c.if4.true) (and-false (all_digits (take ((s d).args.n / 4) (s d).args.line.now))))
+    sym (parts d ∙ rw (ne_eqb d.digit.result (last d) c.if-digit-line.true) (and-false (all_digits (take ((s d).args.n / 4) (s d).args.line.now))))
 
-returns-5 : tie.Need-returns-5
-returns-5 c =
+returns : tie.Need-returns
+returns c =
     let d = c.before.before.before in
-    c.all-digits2.ensures ∙ sym (parts d ∙ rw (eq-eqb d.digit.result (last d) (omega arith)) (and-true _))
+    c.all_digits-2.ensures ∙ sym (parts d ∙ rw (eq-eqb d.digit.result (last d) (omega arith)) (and-true _))
 
-pub digits-say-spec : {M : Type 1} → statement M
-digits-say-spec =
+pub digits_say_spec : {M : Type 1} → statement M
+digits_say_spec =
     tie.close
-    (tie.spec returns (λ c κs. search rules) returns-2 (λ c. search rules) returns-3 (λ c. search rules) (λ c κs. search rules) (λ c κs. search rules)
-    (λ c. search rules) returns-4 (λ c κs. search rules) returns-5)
+    (tie.spec returns-then-line-k (λ c κs. search rules) returns-then-left-eq0 (λ c. search rules) returns-then-line-k-2 (λ c. search rules) (λ c κs. search rules) (λ c κs. search rules)
+    (λ c. search rules) returns-then-digit-line (λ c κs. search rules) returns)

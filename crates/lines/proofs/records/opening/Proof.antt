@@ -15,7 +15,7 @@ use Rattle.lines.proofs.RecordTexts.{Small, record_long_lem, as_read}
 use Rattle.lines.proofs.records.opening.Statement.{statement}
 use Rattle.lines.proofs.records.opening.Tie as tie
 
-module _ (c : tie.After-struct-told) where
+module _ (c : tie.After-struct_told-1) where
   abbrev s : tie.Start
   s = c.before.before
 
@@ -25,7 +25,7 @@ module _ (c : tie.After-struct-told) where
   small : All Small values
   unfolding head_values
   small =
-      let t = c.struct_told.given in
+      let t = c.struct_told-1.given in
       let place : Small (pos s.args.place) = omega arith in
       let long : Small (pos (s.args.next - s.args.place)) = omega arith in
       let count : Small (pos s.args.n) = omega arith in
@@ -53,7 +53,7 @@ returns c =
     let done = rw (same t) at r.«record».ensures in
     (omega (arith, done.0), (done.1, omega (arith, done.0, long t)))
 
-pub opening-spec : {M : Type 1} → statement M
-opening-spec =
+pub opening_spec : {M : Type 1} → statement M
+opening_spec =
     tie.close
     (tie.spec (λ c. search rules) (λ c. search rules) (λ c. search rules) (λ c. search rules) (λ c. search rules) record-requires (λ c. search rules) returns)

@@ -16,7 +16,7 @@ use Rattle.lines.proofs.RecordTexts.{Small, record_long_lem, as_read, row_read}
 use Rattle.lines.proofs.records.row.Statement.{statement}
 use Rattle.lines.proofs.records.row.Tie as tie
 
-module _ (c : tie.After-t36) where
+module _ (c : tie.After-values-8-1) where
   abbrev s : tie.Start
   s = c.before.before.before.before.before.before.before.before.before
 
@@ -26,9 +26,9 @@ module _ (c : tie.After-t36) where
   small : All Small values
   unfolding elements
   small =
-      let t20 = c.before.before.before.before in
-      more t20.before.before.before.t8.given (more t20.before.before.t12.given (more t20.before.t16.given (more t20.t20.given
-      (more c.before.before.before.t24.given (more c.before.before.t28.given (more c.before.t32.given (more c.t36.given none)))))))
+      let t20 = c in
+      more t20.values-1.given (more t20.values-2-1.given (more t20.values-3-1.given (more t20.values-4-1.given
+      (more c.values-5-1.given (more c.values-6-1.given (more c.values-7-1.given (more c.values-8-1.given none)))))))
 
   same : map (λ v. to_z w32 (of_z w32 v)) values ≡ take 8 (drop s.args.from s.args.rows.now)
   same = as_read values small ∙ sym (row_read s.args.rows.now s.args.from (omega arith))
@@ -51,8 +51,8 @@ returns c =
     let done = rw (same t) at r.«record».ensures in
     (done.0, (done.1, omega (arith, done.0, long t)))
 
-pub row-spec : {M : Type 1} → statement M
-row-spec =
+pub row_spec : {M : Type 1} → statement M
+row_spec =
     tie.close
     (tie.spec (λ c. search rules) (λ c. search rules) (λ c. search rules) (λ c. search rules) (λ c. search rules) (λ c. search rules) (λ c. search rules)
     (λ c. search rules) (λ c. search rules) (λ c. search rules) (λ c. search rules) (λ c. search rules) (λ c. search rules) (λ c. search rules)

@@ -23,7 +23,7 @@ module _ (s : tie.Start) where
   values = pos s.args.number ∷ pos s.args.place ∷ pos s.args.messages ∷ pos s.args.rows ∷ []
 
   small : All Small values
-  small = more s.pre.0 (more s.pre.1 (more s.pre.2 (more s.pre.3 none)))
+  small = more s.requires.0 (more s.requires.1 (more s.requires.2 (more s.requires.3 none)))
 
   same : map (λ v. to_z w32 (of_z w32 v)) values ≡ values
   same = as_read values small
@@ -31,16 +31,16 @@ module _ (s : tie.Start) where
   long : length (values_text letter_e values) + 1 ≤ record_long 4
   long = omega (arith, record_long_lem letter_e values small, values_shorter letter_e values)
 
-opened-requires : tie.Need-opened-requires
-opened-requires c κs =
+opened-first-requires : tie.Need-opened-first-requires
+opened-first-requires c κs =
     let s = c.before.before.before in
     omega (arith, long s, ap (λ (vs : List ℤ). length (values_text letter_e vs)) (same s))
 
-missing-bits-requires : tie.Need-missing-bits-requires
-missing-bits-requires c κs =
+missing_bits-last-requires : tie.Need-missing_bits-last-requires
+missing_bits-last-requires c κs =
     let o = c.before.before.before in
     let s = o.before.before.before.before in
-    let first = rw (same s) at o.opened.ensures in
+    let first = rw (same s) at o.opened-first.ensures in
     omega (arith, first.0, long s)
 
 put-requires : tie.Need-put-requires
@@ -48,8 +48,8 @@ put-requires c κs =
     let m = c.before.before.before in
     let o = m.before.before.before.before in
     let s = o.before.before.before.before in
-    let first = rw (same s) at o.opened.ensures in
-    omega (arith, first.0, long s, m.missing-bits.ensures.1.1)
+    let first = rw (same s) at o.opened-first.ensures in
+    omega (arith, first.0, long s, m.missing_bits-last.ensures.1.1)
 
 returns : tie.Need-returns
 unfolding stop_values
@@ -59,14 +59,14 @@ returns c =
     let o = m.before.before.before.before in
     let s = o.before.before.before.before in
     let x = s.args in
-    let first = rw (same s) at o.opened.ensures in
-    let last = m.missing-bits.ensures in
+    let first = rw (same s) at o.opened-first.ensures in
+    let last = m.missing_bits-last.ensures in
     let w = told_first (then_wrote (wrote x.out.now {at = 0} (values_text letter_e (values s)) first)
     (then_wrote (wrote _ (tab ∷ value_text (missing_value x.number x.missing)) (last.0, last.1.0)) (wrote _ (line_feed ∷ []) f.put.ensures))) in
     rw (one_more letter_e (values s) (missing_value x.number x.missing)) (w.0, (w.1, omega (arith, first.0, long s, last.1.1, f.put.ensures.0)))
 
-pub stop-spec : {M : Type 1} → statement M
-stop-spec =
+pub stop_spec : {M : Type 1} → statement M
+stop_spec =
     tie.close
-    (tie.spec (λ c. search rules) (λ c. search rules) (λ c. search rules) (λ c. search rules) (λ c. search rules) opened-requires missing-bits-requires put-requires
+    (tie.spec (λ c. search rules) (λ c. search rules) (λ c. search rules) (λ c. search rules) (λ c. search rules) opened-first-requires missing_bits-last-requires put-requires
     (λ c. search rules) returns)

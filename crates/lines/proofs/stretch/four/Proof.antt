@@ -1,6 +1,6 @@
 -- `lines::stretch::four` meets its contract. Assumes nothing.
 use mathlib.Core.Path.{◌≡◌, sym}
-use Prim.Native.Nat.{ℕ, ◌+◌, ◌-◌, ◌*◌, ◌/◌, ◌%◌, ◌<◌}
+use Prim.Native.Nat.{ℕ, ◌+◌, ◌*◌, ◌/◌, ◌%◌, ◌<◌}
 use native.Mathlib.Decide.{dec_lt}
 use native.Mathlib.Omega.{arith}
 use borrow.Author.Rules.{rules}
@@ -17,5 +17,5 @@ says c n few own = go (dec_lt n 10)
     go (yes plain) = omega (arith, sym (rw (lt-ltb n 10 plain) at own))
     go (no capital) = omega (arith, sym (rw (le-ltb n 10 (omega arith)) at own))
 
-pub four-spec : {M : Type 1} → statement M
-four-spec = tie.close (tie.spec (λ c. search rules) (λ c. search rules) (λ c. says c.args.c (char_digit c.args.c) c.requires.0 c.requires.1))
+pub four_spec : {M : Type 1} → statement M
+four_spec = tie.close (tie.spec (λ c. search rules) (λ c. search rules) (λ c. says c.args.c (char_digit c.args.c) c.requires.0 c.requires.1))
