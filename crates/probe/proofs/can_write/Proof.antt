@@ -9,24 +9,24 @@ use Rattle.bits.proofs.Windows.{one_shifted}
 use Rattle.probe.proofs.can_write.Statement.{statement}
 use Rattle.probe.proofs.can_write.Tie as tie
 
+returns-then-skip-ge8 : tie.Need-returns-then-skip-ge8
+returns-then-skip-ge8 c = simp (le-ltb _ _ c.if-skip-ge8.true)
+
+returns-then-w-gt56 : tie.Need-returns-then-w-gt56
+returns-then-w-gt56 c = simp (lt-ltb _ _ c.if-skip-ge8.false, lt-leb _ _ c.if-w-gt56.true)
+
+returns-then-count-skip : tie.Need-returns-then-count-skip
+returns-then-count-skip c =
+    let x = c.args in
+    simp (lt-ltb _ _ c.if-skip-ge8.false, le-leb _ _ c.if-w-gt56.false, lt-leb (x.skip + x.w) (8 * x.count) (omega arith))
+
 returns : tie.Need-returns
-returns c = simp (le-ltb _ _ c.if1.true)
-
-returns-2 : tie.Need-returns-2
-returns-2 c = simp (lt-ltb _ _ c.before.if1.false, lt-leb _ _ c.if2.true)
-
-returns-3 : tie.Need-returns-3
-returns-3 c =
-    let x = c.before.before.before.args in
-    simp (lt-ltb _ _ c.before.before.if1.false, le-leb _ _ c.before.if2.false, lt-leb (x.skip + x.w) (8 * x.count) (omega arith))
-
-returns-4 : tie.Need-returns-4
-returns-4 c =
-    let x = c.before.before.before.args in
-    simp (lt-ltb _ _ c.before.before.if1.false, le-leb _ _ c.before.if2.false, le-leb (x.skip + x.w) (8 * x.count) (omega arith))
+returns c =
+    let x = c.args in
+    simp (lt-ltb _ _ c.if-skip-ge8.false, le-leb _ _ c.if-w-gt56.false, le-leb (x.skip + x.w) (8 * x.count) (omega arith))
     (ap (ltb x.value) (one_shifted x.w (omega arith)))
 
-pub can-write-spec : {M : Type 1} → statement M
-can-write-spec =
+pub can_write_spec : {M : Type 1} → statement M
+can_write_spec =
     tie.close
-    (tie.spec returns returns-2 (λ c. search rules) (λ c. search rules) returns-3 (λ c. search rules) returns-4)
+    (tie.spec returns-then-skip-ge8 returns-then-w-gt56 (λ c. search rules) (λ c. search rules) returns-then-count-skip (λ c. search rules) returns)

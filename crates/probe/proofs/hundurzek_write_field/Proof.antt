@@ -9,25 +9,25 @@ use Rattle.probe.proofs.hundurzek_write_field.Statement.{statement}
 use Rattle.probe.proofs.hundurzek_write_field.Tie as tie
 
 -- what the test of the conditions found
-good : (c : tie.Then1) → let x = c.before.before.before.args in writable (length x.part.now) x.skip x.w x.value ≡ true
-good c = sym c.before.can_write_lem.ensures ∙ c.if1.true
+good : (c : tie.Then-can_write) → let x = c.args in writable (length x.part.now) x.skip x.w x.value ≡ true
+good c = sym c.can_write.ensures ∙ c.if-can_write.true
 
-bad : (c : tie.Else1) → let x = c.before.before.before.args in writable (length x.part.now) x.skip x.w x.value ≡ false
-bad c = sym c.before.can_write_lem.ensures ∙ c.if1.false
+bad : (c : tie.Else-can_write) → let x = c.args in writable (length x.part.now) x.skip x.w x.value ≡ false
+bad c = sym c.can_write.ensures ∙ c.if-can_write.false
 
-write-field-requires : tie.Need-write-field-requires
-write-field-requires c κs =
-    let x = c.before.before.before.before.args in
+write_field-requires : tie.Need-write_field-requires
+write_field-requires c κs =
+    let x = c.args in
     can (length x.part.now) x.skip x.w x.value (good c.before)
 
-returns : tie.Need-returns
-returns c =
+returns-then-can_write : tie.Need-returns-then-can_write
+returns-then-can_write c =
     let done = good c.before.before.before.before in
-    (sym done, simp done c.before.before.write-field.ensures)
+    (sym done, simp done c.write_field.ensures)
 
-returns-2 : tie.Need-returns-2
-returns-2 c = (sym (bad c), simp (bad c))
+returns : tie.Need-returns
+returns c = (sym (bad c), simp (bad c))
 
-pub hundurzek-write-field-spec : {M : Type 1} → statement M
-hundurzek-write-field-spec =
-    tie.close (tie.spec (λ c κs. search rules) write-field-requires (λ c. search rules) returns returns-2)
+pub hundurzek_write_field_spec : {M : Type 1} → statement M
+hundurzek_write_field_spec =
+    tie.close (tie.spec (λ c κs. search rules) write_field-requires (λ c. search rules) returns-then-can_write returns)
