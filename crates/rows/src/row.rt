@@ -249,6 +249,7 @@ fn iode_by(system: i32) -> usize
 }
 
 // A shape as the rows of a system have it.
+#[tactic(auto, unfolding(crate::specs::Shapes::shape_on), using(crate::proofs::Laid::iode_some))]
 fn shape_in(s: Shape, system: i32) -> Shape
     ensures { result ≡ shape_on s (mag system) }
 {

@@ -1,18 +1,18 @@
 -- `rows::row::anywhere` meets its contract. Assumes nothing.
-use Rattle.bits.proofs.Words.{ap, ◌∙◌, List, ◌∷◌, ℕ, ◌^◌, ◌/◌, ◌<◌, arith, needs, ℤ}
+use Rattle.bits.proofs.Words.{ap, ◌∙◌, List, ◌∷◌, ℕ, ◌^◌, ◌/◌, ◌<◌, arith, rules, ℤ}
 use mir.Facts.{to_z-of_z}
 use mir.Syntax.{w32}
 use Rattle.rows.proofs.Cuts.{front_lt, rest_lt, values_front}
 use Rattle.rows.proofs.row.anywhere.Statement.{statement}
 use Rattle.rows.proofs.row.anywhere.Tie as tie
 
-module _ (c : tie.After-read-field) where
+module _ (c : tie.After-read_field-four) where
   abbrev s : tie.Start
   s = c.before.before.before.before.before
 
   -- what is left of the field below a column
-  rest : (t : ℕ) → c.read-field.result / 2 ^ t < 2 ^ 63
-  rest = rest_lt s.args.bytes.now s.args.at _ c.read-field.ensures (omega (arith, s.pre.2.window))
+  rest : (t : ℕ) → c.read_field-four.result / 2 ^ t < 2 ^ 63
+  rest = rest_lt s.args.bytes.now s.args.at _ c.read_field-four.ensures (omega (arith, s.requires.2.window))
 
 returns : tie.Need-returns
 returns c =
@@ -22,16 +22,16 @@ returns c =
     let v2 = v3.before in
     let v1 = v2.before in
     let r = v1.before in
-    let x = (s r).args in
-    c.before.store.ensures
-    ∙ rw (to_z-of_z {w = w32} (record { sfits = v1.value.type-inv }), to_z-of_z {w = w32} (record { sfits = v2.value2.type-inv }), to_z-of_z {w = w32} (record { sfits = v3.value3.type-inv }), to_z-of_z {w = w32} (record { sfits = v4.value4.type-inv }), to_z-of_z {w = w32} (record { sfits = v5.tested.type-inv }))
+    let x = (s r.before.before.before.before.before).args in
+    c.store.ensures
+    ∙ rw (to_z-of_z {w = w32} (record { sfits = v1.value.type_inv }), to_z-of_z {w = w32} (record { sfits = v2.value-2.type_inv }), to_z-of_z {w = w32} (record { sfits = v3.value-3.type_inv }), to_z-of_z {w = w32} (record { sfits = v4.value-4.type_inv }), to_z-of_z {w = w32} (record { sfits = v5.tested.type_inv }))
     (ap (λ (l : List ℤ). x.key.system ∷ x.key.satellite ∷ x.key.signal ∷ l)
-    (values_front x.bytes.now x.at x.s r.read-field.ensures _ _ _ _ _ v1.value.ensures v2.value2.ensures v3.value3.ensures v4.value4.ensures v5.tested.ensures))
+    (values_front x.bytes.now x.at x.s r.read_field-four.ensures _ _ _ _ _ v1.value.ensures v2.value-2.ensures v3.value-3.ensures v4.value-4.ensures v5.tested.ensures))
 
-pub anywhere-spec : {M : Type 1} → statement M
-anywhere-spec =
+pub anywhere_spec : {M : Type 1} → statement M
+anywhere_spec =
     tie.close
-    (tie.spec (λ c. search needs) (λ c. search needs) (λ c. search needs) (λ c κs. search needs) (λ c. search needs) (λ c κs. (rest c _, (s c).requires.2.first)) (λ c. search needs)
-    (λ c κs. let r = c.before in (rest r _, (s r).requires.2.second)) (λ c. search needs) (λ c κs. let r = c.before.before in (rest r _, (s r).requires.2.third))
-    (λ c κs. let r = c.before.before.before in (front_lt (s r).args.bytes.now (s r).args.at _ r.read-field.ensures (omega (arith, (s r).requires.2.window)), (s r).requires.2.fourth))
-    (λ c. search needs) (λ c κs. search needs) (λ c κs. search needs) (λ c. search needs) returns)
+    (tie.spec (λ c. search rules) (λ c. search rules) (λ c. search rules) (λ c κs. search rules) (λ c. search rules) (λ c κs. (rest c.before _, (s c.before).requires.2.first)) (λ c. search rules)
+    (λ c κs. let r = c.before in (rest r.before.before _, (s r.before.before).requires.2.second)) (λ c. search rules) (λ c κs. let r = c.before.before in (rest r.before.before.before _, (s r.before.before.before).requires.2.third))
+    (λ c κs. let r = c.before.before.before in (front_lt (s r.before.before.before.before).args.bytes.now (s r.before.before.before.before).args.at _ r.read_field-four.ensures (omega (arith, (s r.before.before.before.before).requires.2.window)), (s r.before.before.before.before).requires.2.fourth))
+    (λ c. search rules) (λ c κs. search rules) (λ c κs. search rules) (λ c. search rules) returns)

@@ -6,9 +6,9 @@ use Rattle.rows.proofs.row.sole.Statement.{statement}
 use Rattle.rows.proofs.row.sole.Tie as tie
 
 -- a column of no bits is a gap
-returns : tie.Need-returns
+returns-then-c-eq0 : tie.Need-returns-then-c-eq0
 unfolding value_of
-returns c = let x = c.before.before.before.args in rw (gap_of x.c c.if1.true)
+returns-then-c-eq0 c = let x = c.args in rw (gap_of x.c c.if-c-eq0.true)
 
-pub sole-spec : {M : Type 1} → statement M
-sole-spec = tie.close (tie.spec returns (λ c κs. search rules) (λ c. search rules))
+pub sole_spec : {M : Type 1} → statement M
+sole_spec = tie.close (tie.spec returns-then-c-eq0 (λ c κs. search rules) (λ c. search rules))

@@ -1,5 +1,5 @@
 -- `rows::row::store` meets its contract. Assumes nothing.
-use Rattle.bits.proofs.Words.{[], ◌∷◌, arith, needs}
+use Rattle.bits.proofs.Words.{[], ◌∷◌, arith, rules}
 use lib.ListN.{length-set}
 use mir.Facts.{to_z-of_z}
 use mir.Syntax.{w32}
@@ -10,11 +10,11 @@ use Rattle.rows.proofs.row.store.Tie as tie
 returns : tie.Need-returns
 returns c =
     let f = c.before.before.before.before.before in
-    let s = f.before.before.before in
+    let s = f in
     let k = s.args.key in
     let v = s.args.v in
-    let key = f.struct-told3.given in
-    let told = c.struct-told8.given in
+    let key = f.struct_told-3-1.given in
+    let told = c.struct_told-8-1.given in
     rw (
       to_z-of_z {w = w32} {z = k.system} (record { sfits = key.0.1 }),
       to_z-of_z {w = w32} {z = k.satellite} (record { sfits = key.1.0.1 }),
@@ -30,5 +30,5 @@ returns c =
 pub store_spec : {M : Type 1} → statement M
 store_spec =
     tie.close
-    (tie.spec (λ c. search needs) (λ c. search needs) (λ c. search needs) (λ c. search needs) (λ c. simp length-set (omega arith))
+    (tie.spec (λ c. search rules) (λ c. search rules) (λ c. search rules) (λ c. search rules) (λ c. simp length-set (omega arith))
     (λ c. simp length-set (omega arith)) (λ c. simp length-set (omega arith)) (λ c. simp length-set (omega arith)) (λ c. simp length-set) returns)

@@ -1,14 +1,14 @@
 -- `rows::shape::plain` meets its contract. Assumes nothing.
-use Rattle.bits.proofs.Words.{arith, needs}
+use Rattle.bits.proofs.Words.{arith, rules}
 use lib.Pow.{pow_pos}
 use Rattle.rows.specs.Shapes.{column_for}
 use Rattle.rows.proofs.Columns.{one_up}
 use Rattle.rows.proofs.shape.plain.Statement.{statement}
 use Rattle.rows.proofs.shape.plain.Tie as tie
 
-pub plain-spec : {M : Type 1} → statement M
+pub plain_spec : {M : Type 1} → statement M
 unfolding column_for
-plain-spec =
+plain_spec =
     tie.close
-    (tie.spec (λ c. search needs) (λ c. search needs) (λ c. rw (one_up c.args.w (omega arith)) (pow_pos c.args.w))
+    (tie.spec (λ c. search rules) (λ c. search rules) (λ c. rw (one_up c.args.w (omega arith)) (pow_pos c.args.w))
     (λ c. rw (one_up c.args.w (omega arith))))

@@ -1,5 +1,5 @@
 -- `rows::shape::value` meets its contract. Assumes nothing.
-use Rattle.bits.proofs.Words.{◌≡◌, ◌+◌, ◌^◌, ◌<◌, arith, needs}
+use Rattle.bits.proofs.Words.{◌≡◌, ◌+◌, ◌^◌, ◌<◌, arith, rules}
 use lib.Bits.{bit_and}
 use lib.IntN.{◌-ℤ◌}
 use mir.Facts.{to_z-of_z, to_z_pos}
@@ -29,7 +29,7 @@ small c = record { sfits = omega (arith, value_small c.args.c c.args.x c.require
 pub value_spec : {M : Type 1} → statement M
 value_spec =
     tie.close
-    (tie.spec (λ c. search needs) (λ c. let l = limits c.before in record { fits = omega arith }) (λ c. search needs)
+    (tie.spec (λ c. search rules) (λ c. let l = limits c.before in record { fits = omega arith }) (λ c. search rules)
     (λ c. record { sfits = masked_small c.before.before }) (λ c. let l = limits c.before.before.before in record { sfits = omega arith })
     (λ c. let s = c.before.before.before in rw (difference s) (small s))
     (λ c. let s = c.before.before.before in rw (difference s, to_z-of_z (small s)) (value_computed s.args.c s.args.x s.requires.1)))

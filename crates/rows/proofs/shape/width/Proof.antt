@@ -1,5 +1,5 @@
 -- `rows::shape::width` meets its contract. Assumes nothing.
-use Rattle.bits.proofs.Words.{arith, needs}
+use Rattle.bits.proofs.Words.{arith, rules}
 use Rattle.format.specs.Rows.{shape_width}
 use Rattle.rows.specs.Shapes.{columns_of}
 use Rattle.rows.proofs.Columns.{width_of_lem}
@@ -10,5 +10,5 @@ pub width_spec : {M : Type 1} → statement M
 unfolding columns_of shape_width
 width_spec =
     tie.close
-    (tie.spec (λ c. search needs) (λ c. search needs) (λ c. search needs) (λ c. search needs)
-    (λ c. let s = c.before.before.before.before.args.s in omega (arith, width_of_lem s.v1, width_of_lem s.v2, width_of_lem s.v3, width_of_lem s.v4, width_of_lem s.v5)))
+    (tie.spec (λ c. search rules) (λ c. search rules) (λ c. search rules) (λ c. search rules)
+    (λ c. let s = c.args.s in omega (arith, width_of_lem s.v1, width_of_lem s.v2, width_of_lem s.v3, width_of_lem s.v4, width_of_lem s.v5)))

@@ -4,9 +4,9 @@ use Rattle.rows.specs.Shapes.{orbit_of}
 use Rattle.rows.proofs.shapes.orbit.Statement.{statement}
 use Rattle.rows.proofs.shapes.orbit.Tie as tie
 
-pub orbit-spec : {M : Type 1} → statement M
+pub orbit_spec : {M : Type 1} → statement M
 unfolding orbit_of
-orbit-spec =
+orbit_spec =
     tie.close
     (tie.spec (λ c κs. search rules) (λ c κs. search rules) (λ c κs. search rules)
-    (λ c. rw (c.before.plain.ensures, c.counts2.ensures, c.before.before.counts.ensures)))
+    (λ c. rw (c.plain.ensures, c.counts.ensures, c.counts-across.ensures)))
