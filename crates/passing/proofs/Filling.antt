@@ -33,6 +33,7 @@ littles_length k (suc n) bs = ap suc (littles_length k n (drop k bs))
 
 pub littles_at : (k n i from : ℕ) (bs : List ℕ) → i < n → little k (drop (from + k * i) bs) ≡ get_or (littles k n (drop from bs)) i 0
 unfolding littles
+littles_at k zero i from bs inside = elim inside [ ]
 littles_at k (suc n) zero from bs inside =
     let here : from + k * 0 ≡ from = omega arith in
     rw here refl

@@ -1,5 +1,5 @@
 -- `passing::give::holding_over` meets its contract. Assumes nothing.
-use Rattle.bits.proofs.Words.{sym, ap, ◌∙◌, List, ℕ, arith, needs}
+use Rattle.bits.proofs.Words.{ap, ◌∙◌, List, ℕ, arith, rules}
 use lib.Seq.{length-take-le}
 use Rattle.format.specs.Reading.{over}
 use Rattle.passing.proofs.Placing.{put_three, put_room}
@@ -17,7 +17,7 @@ module _ (s : tie.Start) where
   h = whole_of s.args.outline s.args.satellites.now s.args.strips.now
 
   firm : Sounds (mask_of h) h
-  firm = sounds h s.pre.1
+  firm = sounds h s.requires.1
 
 start-requires : tie.Need-start-requires
 start-requires c κs =
@@ -44,9 +44,9 @@ returns c =
     (put_three 6 60 128 s.args.bytes.now (start_of (h s)) (systems_in (h s)) (strips_in (h s)) (start_length (h s)) (systems_length (h s) sizes) (strips_length (h s) sizes)
     ∙ ap (λ (l : List ℕ). over l s.args.bytes.now) (three_segments (h s)))
 
-pub holding-over-spec : {M : Type 1} → statement M
-holding-over-spec =
+pub holding_over_spec : {M : Type 1} → statement M
+holding_over_spec =
     tie.close
-    (tie.spec (λ c. search needs) (λ c. search needs) (λ c. search needs) start-requires (λ c. search needs) (λ c. search needs) (λ c. search needs)
-    (λ c. search needs) (λ c. search needs) (λ c. search needs) (λ c κs. search needs) (λ c. search needs) (λ c. search needs)
-    (λ c. search needs) words-requires (λ c. search needs) returns)
+    (tie.spec (λ c. search rules) (λ c. search rules) (λ c. search rules) start-requires (λ c. search rules) (λ c. search rules) (λ c. search rules)
+    (λ c. search rules) (λ c. search rules) (λ c. search rules) (λ c κs. search rules) (λ c. search rules) (λ c. search rules)
+    (λ c. search rules) words-requires (λ c. search rules) returns)

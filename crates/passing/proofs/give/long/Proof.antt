@@ -1,5 +1,5 @@
 -- `passing::give::long` meets its contract. Assumes nothing.
-use Rattle.bits.proofs.Words.{◌∙◌, [], ◌∷◌, ◌/◌, ◌%◌, arith, needs}
+use Rattle.bits.proofs.Words.{◌∙◌, [], ◌∷◌, ◌/◌, ◌%◌, arith, rules}
 use lib.ListN.{length-set}
 use Rattle.bits.proofs.Lists.{stored_all}
 use Rattle.passing.proofs.Parts.{eight_parts}
@@ -14,10 +14,10 @@ returns c =
     c.requires
     ∙ eight_parts n c.ranges.n.fits
 
-pub long-spec : {M : Type 1} → statement M
-long-spec =
+pub long_spec : {M : Type 1} → statement M
+long_spec =
     tie.close
-    (tie.spec (λ c. search needs) (λ c. search needs) (λ c. search needs) (λ c. search needs) (λ c. search needs) (λ c. search needs)
-    (λ c. search needs) (λ c. search needs) (λ c. search needs) (λ c. simp length-set (omega arith)) (λ c. search needs)
-    (λ c. simp length-set (omega arith)) (λ c. search needs) (λ c. simp length-set (omega arith)) (λ c. search needs)
-    (λ c. simp length-set (omega arith)) (λ c. search needs) returns)
+    (tie.spec (λ c. search rules) (λ c. search rules) (λ c. search rules) (λ c. search rules) (λ c. search rules) (λ c. search rules)
+    (λ c. search rules) (λ c. search rules) (λ c. search rules) (λ c. simp length-set (omega arith)) (λ c. search rules)
+    (λ c. simp length-set (omega arith)) (λ c. search rules) (λ c. simp length-set (omega arith)) (λ c. search rules)
+    (λ c. simp length-set (omega arith)) (λ c. search rules) returns)

@@ -1,5 +1,5 @@
 -- `passing::give::start` meets its contract. Assumes nothing.
-use Rattle.bits.proofs.Words.{[], ◌∷◌, ◌/◌, ◌%◌, arith, needs}
+use Rattle.bits.proofs.Words.{[], ◌∷◌, ◌/◌, ◌%◌, arith, rules}
 use lib.ListN.{length-set}
 use Rattle.bits.specs.BitLists.{digit}
 use Rattle.bits.proofs.Lists.{stored_all}
@@ -9,7 +9,7 @@ use Rattle.passing.proofs.give.start.Tie as tie
 
 returns : tie.Need-returns
 returns c =
-    let s = c.before.before.before in
+    let s = c in
     let o = s.args.outline in
     rw (truth_byte o.held, ← (two_parts o.ncell s.requires.1))
     (stored_all s.args.part.now (digit o.held ∷ o.iod ∷ o.count ∷ o.nsat ∷ o.ncell % 256 ∷ o.ncell / 256 ∷ []) s.requires.0)
@@ -17,5 +17,5 @@ returns c =
 pub start_spec : {M : Type 1} → statement M
 start_spec =
     tie.close
-    (tie.spec (λ c. search needs) (λ c. search needs) (λ c. search needs) (λ c. search needs) (λ c. search needs) (λ c. search needs)
-    (λ c. simp length-set (omega arith)) (λ c. search needs) (λ c. simp length-set (omega arith)) (λ c. simp length-set) returns)
+    (tie.spec (λ c. search rules) (λ c. search rules) (λ c. search rules) (λ c. search rules) (λ c. search rules) (λ c. search rules)
+    (λ c. simp length-set (omega arith)) (λ c. search rules) (λ c. simp length-set (omega arith)) (λ c. simp length-set) returns)

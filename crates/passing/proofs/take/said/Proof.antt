@@ -1,5 +1,5 @@
 -- `passing::take::said` meets its contract. Assumes nothing.
-use Rattle.bits.proofs.Words.{◌∙◌, needs}
+use Rattle.bits.proofs.Words.{◌∙◌, rules}
 use Rattle.passing.specs.Passing.{said}
 use Rattle.passing.proofs.take.said.Statement.{statement}
 use Rattle.passing.proofs.take.said.Tie as tie
@@ -8,7 +8,7 @@ returns : tie.Need-returns
 unfolding said
 returns c =
     c.with.ensures
-    ∙ rw (c.before.before.before.outline.ensures, c.before.before.satellites.ensures, c.before.strips.ensures)
+    ∙ rw (c.outline.ensures, c.satellites.ensures, c.strips.ensures)
 
-pub said-spec : {M : Type 1} → statement M
-said-spec = tie.close (tie.spec (λ c κs. search needs) (λ c κs. search needs) (λ c κs. search needs) (λ c κs. search needs) returns)
+pub said_spec : {M : Type 1} → statement M
+said_spec = tie.close (tie.spec (λ c κs. search rules) (λ c κs. search rules) (λ c κs. search rules) (λ c κs. search rules) returns)
