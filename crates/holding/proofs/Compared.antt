@@ -1,5 +1,5 @@
 -- Structs compared: lists element by element, and of sound ones the test of the code is that of their `S` lines (document 02, Ask 2). Assumes nothing.
-use Rattle.bits.proofs.Words.{◌≡◌, refl, sym, ap, ◌∙◌, Bool, true, false, cond, ◌&&◌, List, map, ℕ, ◌+◌, ◌≤◌, ◌<◌, add-one, arith, eqb, length, get_or, drop}
+use Rattle.bits.proofs.Words.{◌≡◌, refl, sym, ap, ◌∙◌, Bool, true, false, cond, ◌&&◌, List, ℕ, ◌+◌, ◌≤◌, ◌<◌, add-one, arith, eqb, length, get_or, drop}
 use mathlib.Core.Bool as Bools
 use borrow.Author.Tests.{eq-eqb, not-true}
 use lib.ListN.{drop_of_length-le}
@@ -17,7 +17,6 @@ use Rattle.holding.specs.Outlines.{outline_of}
 use Rattle.holding.specs.Pictures.{picture_of, mask_of, same_holding, sound}
 use Rattle.holding.proofs.Pictured.{mask_picture, sound_picture, picture_sound}
 use Rattle.holding.proofs.PicturedSame.{same_holding_sound, same_holding_refl}
-use Rattle.holding.proofs.Shapes.{as_long}
 use Rattle.holding.proofs.Tests.{and_assoc, and_fours}
 
 -- ---- lists element by element
@@ -50,10 +49,10 @@ pub record Slots (o : Outline) (sats : List ℕ) : Type 0 where
   pub flags : length o.flags ≡ 5
 
 -- by their types
-pub slots_typed : (o : Outline) (sats : List ℕ) → length (map (λ x. x) o.ids) ≡ 5 → length sats ≡ 5 → length (map (λ x. x) o.signals) ≡ 5
-    → length (map (λ x. x) o.flags) ≡ 5 → Slots o sats
+pub slots_typed : (o : Outline) (sats : List ℕ) → length o.ids ≡ 5 → length sats ≡ 5 → length o.signals ≡ 5
+    → length o.flags ≡ 5 → Slots o sats
 slots_typed o sats ids satellites signals flags =
-    record { ids = as_long o.ids 5 ids; satellites = satellites; signals = as_long o.signals 5 signals; flags = as_long o.flags 5 flags }
+    record { ids = ids; satellites = satellites; signals = signals; flags = flags }
 
 module _ (o : Outline) (sats : List ℕ) (p : Outline) (masks : List ℕ) (in-o : Slots o sats) (in_p : Slots p masks) (same : Bool) (i : ℕ) where
   -- the next one and those behind it

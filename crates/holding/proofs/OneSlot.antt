@@ -11,7 +11,7 @@ use Rattle.bits.proofs.BitLists.{length_spell, number_spell}
 use Rattle.bits.specs.BitLists.{number, spell}
 use Rattle.format.proofs.Sames.{and_true, true_and}
 use Rattle.format.specs.Assigned.{satellite_places, known, assigned}
-use Rattle.format.specs.Good.{good_system, good}
+use Rattle.format.specs.Good.{good_system}
 use Rattle.format.specs.Masks.{System, places_from, pick, satellites, cells}
 use Rattle.format.specs.Messages.{named, ids_of}
 use Rattle.holding.specs.Building.{ones_in}

@@ -1,8 +1,8 @@
 -- What the types of the struct's fields say of its lists, and with it: the test of the code is that of the definitions. Assumes nothing.
-use Rattle.bits.proofs.Words.{◌≡◌, refl, sym, ◌∙◌, Bool, true, false, List, [], ◌∷◌, map, ℕ, suc, ◌^◌, length}
+use Rattle.bits.proofs.Words.{◌≡◌, refl, sym, ◌∙◌, Bool, true, false, List, [], ◌∷◌, map, ℕ, suc, ◌^◌}
 use borrow.Author.Tests.{lt-ltb}
 use denote.Struct.Laws.{u16-laws}
-use lib.ListN.{get_or, length-map}
+use lib.ListN.{get_or}
 use mir.Syntax.{w16}
 use mir.Val.{WTs, of_list, Fits}
 use Rattle.format.proofs.Sames.{true_and}
@@ -15,12 +15,8 @@ use Rattle.holding.proofs.Sounds.{Shaped}
 use Rattle.format.proofs.Sames.{same_test}
 use Rattle.holding.proofs.TestedSound.{tested_sound}
 
--- the struct's lists stand there as copies of themselves
-pub as_long : {A : Type 0} (xs : List A) (n : ℕ) → length (map (λ x. x) xs) ≡ n → length xs ≡ n
-as_long xs n e = sym (length-map xs _) ∙ e
-
 -- 16 bits each, by their type
-pub narrow_typed : (xs : List ℕ) → WTs (of_list (map u16-laws.val (map (λ x. x) xs))) → narrow 16 xs ≡ true
+pub narrow_typed : (xs : List ℕ) → WTs (of_list (map u16-laws.val xs)) → narrow 16 xs ≡ true
 unfolding every
 narrow_typed [] w = refl
 narrow_typed (x ∷ xs) w = true_and (lt-ltb x (2 ^ 16) w.0.fits) (narrow_typed xs w.1)

@@ -4,6 +4,6 @@ use Rattle.holding.specs.Pictures.{picture_of}
 use Rattle.holding.proofs.Holding.empty.Statement.{statement}
 use Rattle.holding.proofs.Holding.empty.Tie as tie
 
-pub empty-spec : {M : Type 1} → statement M
+pub empty_spec : {M : Type 1} → statement M
 unfolding picture_of
-empty-spec = tie.close (tie.spec (λ c. refl))
+empty_spec = tie.close (tie.spec (λ c. refl))

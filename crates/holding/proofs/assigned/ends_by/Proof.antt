@@ -1,5 +1,5 @@
 -- `holding::assigned::ends_by` meets its contract. Assumes nothing.
-use Rattle.bits.proofs.Words.{◌≡◌, sym, ap, ◌∙◌, ℕ, suc, ◌-◌, ◌*◌, ◌%◌, ◌^◌, arith, needs, eqb}
+use Rattle.bits.proofs.Words.{◌≡◌, sym, ap, ◌∙◌, ℕ, suc, ◌-◌, ◌*◌, ◌%◌, ◌^◌, arith, rules, eqb}
 use lib.Pow.{pow_pos}
 use Rattle.bits.proofs.Windows.{one_shifted}
 use Rattle.holding.proofs.Places.{assigned_number}
@@ -21,5 +21,5 @@ returns c =
     ap (λ (p : ℕ). eqb (x.mask % p) 0) (power c ∙ ap (λ (k : ℕ). 2 ^ k) same)
     ∙ sym (assigned_number x.w x.highest x.mask c.requires.0 c.requires.2)
 
-pub ends-by-spec : {M : Type 1} → statement M
-ends-by-spec = tie.close (tie.spec (λ c. search needs) (λ c. search needs) (λ c. search needs) (λ c. rw (power c) (pow_pos (free c))) returns)
+pub ends_by_spec : {M : Type 1} → statement M
+ends_by_spec = tie.close (tie.spec (λ c. search rules) (λ c. search rules) (λ c. search rules) (λ c. rw (power c) (pow_pos (free c))) returns)
