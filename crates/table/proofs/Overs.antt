@@ -2,7 +2,7 @@
 -- Assumes nothing.
 use Rattle.bits.proofs.Words.{◌≡◌, refl, ap, Bool, true, false, cond, ℕ, ◌-◌, ◌^◌, ◌≤◌, length}
 use Rattle.bits.specs.BitLists.{spell}
-use Rattle.format.specs.Masks.{Cell, pick}
+use Rattle.format.specs.Masks.{pick}
 use Rattle.format.specs.Messages.{over_satellites, over_cells, by_satellite, by_cell, lines_of, cell_lines}
 use Rattle.format.proofs.Picks.{pick_all}
 use Rattle.format.proofs.Selections.{Distinct}

@@ -1,18 +1,17 @@
 -- Cells by strips: of satellites of which no two are the same, each one's cells are those of its own strip; so the cells of those that a selection chooses are
 -- those of the strips that it chooses. Assumes nothing.
-use Rattle.bits.proofs.Words.{◌≡◌, refl, sym, ap, ap₂, ◌∙◌, Bool, true, false, cond, ◌&&◌, List, [], ◌∷◌, ◌++◌, map, ℕ, zero, suc, ◌^◌, ◌≤◌, ◌<◌, arith, eqb, ltb, length, take}
+use Rattle.bits.proofs.Words.{◌≡◌, refl, sym, ap, ap₂, ◌∙◌, Bool, true, false, cond, ◌&&◌, List, [], ◌∷◌, ◌++◌, map, ℕ, zero, suc, ◌^◌, ◌≤◌, ◌<◌, arith, ltb, length, take}
 use mathlib.Core.Bool.{not-eq-not}
 use mathlib.Core.List.{flat_map, append-nil}
 use borrow.Author.Tests.{ltb-true, lt-ltb}
 use lib.Count.{ones}
-use lib.IntN.{pos}
 use lib.ListN.{length-map}
 use Rattle.bits.specs.BitLists.{spell}
 use Rattle.format.specs.Masks.{Satellite, Cell, places_from, pick, same_satellite, cells_on}
 use Rattle.format.specs.Messages.{celled}
 use Rattle.format.proofs.Bodies.{All, none, more}
 use Rattle.format.proofs.Sames.{and_true, eqb_refl}
-use Rattle.format.proofs.Selections.{Apart, Distinct, nobody, another, all_pick, same_key}
+use Rattle.format.proofs.Selections.{Apart, Distinct, another, all_pick, same_key}
 use Rattle.holding.specs.Bounds.{every, narrow}
 use Rattle.holding.specs.Held.{cells_at, strip_cells}
 use Rattle.holding.proofs.Places.{ones_places, no_place, first_place}

@@ -1,5 +1,5 @@
 -- `table::kind_of` meets its contract: each arm is the table's row. Assumes nothing.
-use Rattle.bits.proofs.Words.{◌≡◌, refl, sym, ap, ◌∙◌, ℕ, needs, get_or}
+use Rattle.bits.proofs.Words.{◌≡◌, refl, sym, ap, ◌∙◌, ℕ, rules, get_or}
 use Rattle.format.proofs.Tables.{NoneOf}
 use Rattle.table.specs.declared.Kind.{Kind}
 use Rattle.table.specs.declared.Kind.TheVariants.{Other, Mask, Packet}
@@ -14,13 +14,13 @@ module _ (n : ℕ) where
   unfolding kind_for
   row k e x is = sym (ap (λ (m : ℕ). get_or code_kinds m Other) e ∙ is)
 
-pub kind-of-spec : {M : Type 1} → statement M
+pub kind_of_spec : {M : Type 1} → statement M
 unfolding code_kinds NoneOf
-kind-of-spec =
+kind_of_spec =
     tie.close
-    (tie.spec (λ c κs. search needs) (λ c κs. search needs) (λ c κs. search needs) (λ c κs. search needs) (λ c κs. search needs) (λ c κs. search needs) (λ c κs. search needs)
-    (λ c. row _ 1 c.match.keys1 Mask refl)
-    (λ c. c.alone.ensures ∙ row _ 2 c.before.match.keys2 _ refl) (λ c. c.alone2.ensures ∙ row _ 3 c.before.match.keys3 _ refl)
-    (λ c. c.alone3.ensures ∙ row _ 4 c.before.match.keys4 _ refl) (λ c. c.alone4.ensures ∙ row _ 5 c.before.match.keys5 _ refl)
-    (λ c. c.flagged.ensures ∙ row _ 6 c.before.match.keys6 _ refl) (λ c. c.alone5.ensures ∙ row _ 7 c.before.match.keys7 _ refl)
-    (λ c. row _ 10 c.match.keys8 Packet refl) (λ c. c.flagged2.ensures ∙ row _ 11 c.before.match.keys9 _ refl) (λ c. unlisted_other _ c.match.rest))
+    (tie.spec (λ c κs. search rules) (λ c κs. search rules) (λ c κs. search rules) (λ c κs. search rules) (λ c κs. search rules) (λ c κs. search rules) (λ c κs. search rules)
+    (λ c. row _ 1 c.in-1.is Mask refl)
+    (λ c. c.alone.ensures ∙ row _ 2 c.in-2.is _ refl) (λ c. c.alone-in-3.ensures ∙ row _ 3 c.in-3.is _ refl)
+    (λ c. c.alone-in-4.ensures ∙ row _ 4 c.in-4.is _ refl) (λ c. c.alone-in-5.ensures ∙ row _ 5 c.in-5.is _ refl)
+    (λ c. c.flagged.ensures ∙ row _ 6 c.in-6.is _ refl) (λ c. c.alone-in-7.ensures ∙ row _ 7 c.in-7.is _ refl)
+    (λ c. row _ 10 c.in-10.is Packet refl) (λ c. c.flagged-in-11.ensures ∙ row _ 11 c.in-11.is _ refl) (λ c. unlisted_other _ c.in_default.in_default-own.rest))

@@ -3,6 +3,6 @@ use Rattle.table.specs.Kinds.{keys_for}
 use Rattle.table.proofs.over.Statement.{statement}
 use Rattle.table.proofs.over.Tie as tie
 
-pub over-spec : {M : Type 1} → statement M
+pub over_spec : {M : Type 1} → statement M
 unfolding keys_for
-over-spec = tie.close (tie.spec (λ c. rw c.if1.true) (λ c. rw c.if1.false))
+over_spec = tie.close (tie.spec (λ c. rw c.if-cells.true) (λ c. rw c.if-cells.false))
