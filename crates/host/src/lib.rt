@@ -148,8 +148,7 @@ fn adopt(holding: &mut [u8], bytes: &[u8], end: usize, place: usize) -> Answer
 }
 
 // Makes the empty holding.
-#[unsafe(no_mangle)]
-pub extern "C" fn hundurzek_empty(holding: &mut [u8]) -> u64
+pub fn hundurzek_empty(holding: &mut [u8]) -> u64
     ensures value { result ≡ emptied_number holding.old }
     ensures holding_after { holding.new ≡ emptied holding.old }
 {
@@ -181,8 +180,7 @@ fn sought(holding: &[u8], bytes: &[u8], end: usize, start: usize, rows: &mut [i3
 }
 
 // Reads one message.
-#[unsafe(no_mangle)]
-pub extern "C" fn hundurzek_read(
+pub fn hundurzek_read(
     holding: &mut [u8],
     bytes: &[u8],
     end: usize,
@@ -241,13 +239,7 @@ fn leave(
 }
 
 // Reads a whole stretch, from place 0 until idle or a refusal.
-#[unsafe(no_mangle)]
-pub extern "C" fn hundurzek_walk(
-    holding: &mut [u8],
-    bytes: &[u8],
-    end: usize,
-    rows: &mut [i32],
-) -> Walked
+pub fn hundurzek_walk(holding: &mut [u8], bytes: &[u8], end: usize, rows: &mut [i32]) -> Walked
     ensures value { result ≡ walked_to (host_walk holding.old bytes.now end rows.old) }
     ensures holding_after { holding.new ≡ walk_bytes (host_walk holding.old bytes.now end rows.old) holding.old }
     ensures rows_after { rows.new ≡ (host_walk holding.old bytes.now end rows.old).rows }

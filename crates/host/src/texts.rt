@@ -76,8 +76,7 @@ fn saved_in(holding: &[u8], line: &mut [u8]) -> Saving
 }
 
 // Saves a holding as a line, its line feed too.
-#[unsafe(no_mangle)]
-pub extern "C" fn hundurzek_save(holding: &[u8], line: &mut [u8]) -> Done
+pub fn hundurzek_save(holding: &[u8], line: &mut [u8]) -> Done
     ensures value { result ≡ done_handed (done_saving (saving (lent_by (holding_in holding.now)) line.old)) }
     ensures line_after { line.new ≡ buffer_after (saving (lent_by (holding_in holding.now)) line.old) (mask_of (holding_in holding.now)) line.old }
 {
@@ -99,8 +98,7 @@ fn load_number(answer: LoadAnswer) -> u64
 }
 
 // Loads the holding that a saved line says; the empty one where it says none.
-#[unsafe(no_mangle)]
-pub extern "C" fn hundurzek_load(line: &[u8]) -> Loaded
+pub fn hundurzek_load(line: &[u8]) -> Loaded
     ensures { result ≡ loaded_to (load line.now) }
 {
     let mut satellites = [0u64; Holding::SYSTEMS];
@@ -120,8 +118,7 @@ pub extern "C" fn hundurzek_load(line: &[u8]) -> Loaded
 const BYTE: usize = 8;
 
 // Takes the stretch that a line of the listing's input says.
-#[unsafe(no_mangle)]
-pub extern "C" fn hundurzek_line(line: &[u8], bytes: &mut [u8]) -> Done
+pub fn hundurzek_line(line: &[u8], bytes: &mut [u8]) -> Done
     ensures value { result ≡ done_handed (done_taking (taking (line_says line.now) bytes.old)) }
     ensures bytes_after { bytes.new ≡ stretch_after (taking (line_says line.now) bytes.old) bytes.old }
 {

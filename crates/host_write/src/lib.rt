@@ -110,8 +110,7 @@ fn no_holding(bytes: &[u8], start: usize) -> Done
 }
 
 // Writes one message. Bytes that say no holding are refused before one is made of them.
-#[unsafe(no_mangle)]
-pub extern "C" fn hundurzek_write(
+pub fn hundurzek_write(
     holding: &[u8],
     head: &[i32],
     rows: &[i32],

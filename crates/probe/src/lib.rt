@@ -8,8 +8,7 @@ ghost use Rattle.probe.specs.Probes.{read_or, writable, written_or, bits_or};
 
 // The number in w bits at a place; all ones, which no field of 56 bits or fewer is, for a wider one.
 // The width comes before the place, which leaves x86-64 fewer moves.
-#[unsafe(no_mangle)]
-pub extern "C" fn hundurzek_read_field(bytes: &[u8], w: usize, place: usize) -> u64
+pub fn hundurzek_read_field(bytes: &[u8], w: usize, place: usize) -> u64
     ensures { result ≡ read_or bytes.now place w }
 {
     if w <= 56 {
@@ -35,8 +34,7 @@ fn can_write(count: usize, skip: usize, w: usize, value: u64) -> bool
 }
 
 // Sets w bits after the first skip to a number; false, and nothing changed, where that cannot be.
-#[unsafe(no_mangle)]
-pub extern "C" fn hundurzek_write_field(part: &mut [u8], skip: usize, w: usize, value: u64) -> bool
+pub fn hundurzek_write_field(part: &mut [u8], skip: usize, w: usize, value: u64) -> bool
     ensures value { result ≡ writable (length part.old) skip w value }
     ensures part_after { part.new ≡ written_or part.old skip w value }
 {
@@ -48,16 +46,14 @@ pub extern "C" fn hundurzek_write_field(part: &mut [u8], skip: usize, w: usize, 
 }
 
 // Whether every bit from a place to the end is zero.
-#[unsafe(no_mangle)]
-pub extern "C" fn hundurzek_zero_from(bytes: &[u8], end: usize, place: usize) -> bool
+pub fn hundurzek_zero_from(bytes: &[u8], end: usize, place: usize) -> bool
     ensures { result ≡ eqb (field bytes.now place (end - place)) 0 }
 {
     bits::rest::zero_from(bytes, end, place)
 }
 
 // The w bits that mean an integer; all ones where the width is not from 1 to 32 or they cannot.
-#[unsafe(no_mangle)]
-pub extern "C" fn hundurzek_from_signed(z: i32, w: usize) -> u64
+pub fn hundurzek_from_signed(z: i32, w: usize) -> u64
     ensures { result ≡ bits_or z w }
 {
     if w < 1 {
