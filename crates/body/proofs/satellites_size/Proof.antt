@@ -1,23 +1,22 @@
 -- `body::satellites_size` meets its contract. Assumes nothing.
-use Rattle.bits.proofs.Words.{◌≡◌, arith, needs}
+use Rattle.bits.proofs.Words.{◌≡◌, arith, rules}
 use mathlib.Core.Logic.{⊎_elim}
-use borrow.Author.Tests.{ltb-true}
 use Rattle.rows.proofs.Table.{width_at}
 use Rattle.body.proofs.Bodies.{alike}
 use Rattle.body.proofs.satellites_size.Statement.{statement}
 use Rattle.body.proofs.satellites_size.Tie as tie
 
-returns : tie.Need-returns
-returns c =
+returns-then-shape-lt-ORBIT : tie.Need-returns-then-shape-lt-ORBIT
+returns-then-shape-lt-ORBIT c =
     let j = c.before.before in
-    let s = j.before.before.before in
+    let s = j in
     let x = s.args in
-    let not-orbit : x.shape ≡ 2 → ⊥ = λ e. ⊎_elim (λ w. omega arith) (λ w. omega (arith, ltb-true 3 x.shape w.1.taken)) j.if1.branch in
-    let not-both : x.shape ≡ 3 → ⊥ = λ e. ⊎_elim (λ w. omega arith) (λ w. omega (arith, ltb-true 3 x.shape w.1.taken)) j.if1.branch in
-    rw c.size-alike.ensures (alike _ x.n s.requires.1 s.requires.2 x.chosen x.shape _ (omega arith) not-orbit not-both c.before.width_of_lem.ensures)
+    let not-orbit : x.shape ≡ 2 → ⊥ = λ e. ⊎_elim (λ w. omega arith) (λ w. omega arith) j.then-shape-lt-ORBIT.either in
+    let not-both : x.shape ≡ 3 → ⊥ = λ e. ⊎_elim (λ w. omega arith) (λ w. omega arith) j.then-shape-lt-ORBIT.either in
+    rw c.size_alike.ensures (alike _ x.n s.requires.1 s.requires.2 x.chosen x.shape _ (omega arith) not-orbit not-both c.width_of.ensures)
 
-pub satellites-size-spec : {M : Type 1} → statement M
-satellites-size-spec =
+pub satellites_size_spec : {M : Type 1} → statement M
+satellites_size_spec =
     tie.close
-    (tie.spec (λ c κs. search needs) (λ c κs. let s = c.before.before.before.before in (s.requires.2, omega (arith, c.width_of_lem.ensures, width_at 0 s.args.shape))) returns (λ c κs. search needs)
+    (tie.spec (λ c κs. search rules) (λ c κs. let s = c in (s.requires.2, omega (arith, c.width_of.ensures, width_at 0 s.args.shape))) returns-then-shape-lt-ORBIT (λ c κs. search rules)
     (λ c. c.size.ensures))

@@ -1,5 +1,5 @@
 -- `body::size` meets its contract. Assumes nothing.
-use Rattle.bits.proofs.Words.{◌∙◌, subst, List, arith, needs}
+use Rattle.bits.proofs.Words.{◌∙◌, subst, List, arith, rules}
 use Rattle.format.specs.Rows.{Line}
 use Rattle.holding.specs.Held.{View}
 use Rattle.rows.proofs.Table.{width_at}
@@ -15,40 +15,40 @@ view s = view_by s.args.ids.now s.args.masks.now s.args.strips.now
 
 alike-requires : tie.Need-alike-requires
 alike-requires c κs =
-    let s = c.before.before.before.before.before.before.before.before in
-    (omega (arith, c.before.cells-chosen.ensures, few_chosen s.requires.0 c.before.before.before.keys2.given.0.0), omega (arith, c.width_of_lem.ensures, width_at 0 s.args.body.shape))
+    let s = c in
+    (omega (arith, c.cells_chosen.ensures, few_chosen s.requires.0 c.in-Cells.chosen), omega (arith, c.width_of.ensures, width_at 0 s.args.body.shape))
 
-alike-requires-2 : tie.Need-alike-requires-2
-alike-requires-2 c κs =
+alike-requires-in-Parts : tie.Need-alike-requires-in-Parts
+alike-requires-in-Parts c κs =
+    let s = c in
+    let fit = parts_fit_lem s.args.body s.requires.1 c.in-Parts.is in
+    (omega (arith, fit), omega (arith, c.width_of-in-Parts.ensures, width_at 0 s.args.body.shape))
+
+returns-in-Satellites : tie.Need-returns-in-Satellites
+returns-in-Satellites c =
+    let s = c.before.before.before.before.before in
+    let known = c.in-Satellites in
+    subst (λ (l : List Line). Counts l c.satellites_size.result) (by_shape (view s) known.chosen s.args.body.shape ∙ lines_known (view s) s.args.body known.is) c.satellites_size.ensures
+
+returns-in-Cells : tie.Need-returns-in-Cells
+returns-in-Cells c =
     let s = c.before.before.before.before.before.before.before in
-    let fit = parts_fit_lem s.args.body s.requires.1 c.before.before.keys3.given.1 in
-    (omega (arith, fit), omega (arith, c.width-of2.ensures, width_at 0 s.args.body.shape))
+    let known = c.in-Cells in
+    let fit = cells_fit s.args.body s.requires.1 known.is in
+    subst (λ (l : List Line). Counts l c.alike.result) (lines_known (view s) s.args.body known.is)
+    (rw c.alike.ensures (cells_alike (view s) known.chosen s.args.body.shape _ _ fit.0.iode (c.cells_chosen.ensures ∙ some_cells s.requires.0 known.chosen) c.width_of.ensures))
 
-returns : tie.Need-returns
-returns c =
-    let s = c.before.before.before.before.before.before.before in
-    let known = c.before.before.keys.given in
-    subst (λ (l : List Line). Counts l c.satellites-size.result) (by_shape (view s) known.0.0 s.args.body.shape ∙ lines_known (view s) s.args.body known.1) c.satellites-size.ensures
+returns-in-Parts : tie.Need-returns-in-Parts
+returns-in-Parts c =
+    let s = c.before.before.before.before.before.before in
+    let known = c.in-Parts in
+    subst (λ (l : List Line). Counts l c.alike-in-Parts.result) (lines_known (view s) s.args.body known.is)
+    (rw c.alike-in-Parts.ensures (parts_alike (view s) known.parts s.args.body.shape _ (parts_fit_lem s.args.body s.requires.1 known.is).1 c.width_of-in-Parts.ensures))
 
-returns-2 : tie.Need-returns-2
-returns-2 c =
-    let s = c.before.before.before.before.before.before.before.before.before in
-    let known = c.before.before.before.before.keys2.given in
-    let fit = cells_fit s.args.body s.requires.1 known.1 in
-    subst (λ (l : List Line). Counts l c.alike.result) (lines_known (view s) s.args.body known.1)
-    (rw c.alike.ensures (cells_alike (view s) known.0.0 s.args.body.shape _ _ fit.0.iode (c.before.before.cells-chosen.ensures ∙ some_cells s.requires.0 known.0.0) c.before.width_of_lem.ensures))
-
-returns-3 : tie.Need-returns-3
-returns-3 c =
-    let s = c.before.before.before.before.before.before.before.before in
-    let known = c.before.before.before.keys3.given in
-    subst (λ (l : List Line). Counts l c.alike2.result) (lines_known (view s) s.args.body known.1)
-    (rw c.alike2.ensures (parts_alike (view s) known.0.0 s.args.body.shape _ (parts_fit_lem s.args.body s.requires.1 known.1).1 c.before.width-of2.ensures))
-
-pub size-spec : {M : Type 1} → statement M
-size-spec =
+pub size_spec : {M : Type 1} → statement M
+size_spec =
     tie.close
-    (tie.spec (λ c. search needs)
-    (λ c κs. let z = c.before.before.before.before.before.before.requires.0 in (z.lent.slots, z.satellites, sized_few z))
-    (λ c. search needs) (λ c κs. let z = c.before.before.before.before.before.before.requires.0 in (sized_few z, sized_covered z, every_cell z c.before.keys2.given.0.0)) (λ c κs. search needs) alike-requires (λ c. search needs) (λ c κs. search needs) alike-requires-2 returns
-    returns-2 returns-3)
+    (tie.spec (λ c. search rules)
+    (λ c κs. let z = c.requires.0 in (z.lent.slots, z.satellites, sized_few z))
+    (λ c. search rules) (λ c κs. let z = c.requires.0 in (sized_few z, sized_covered z, every_cell z c.in-Cells.chosen)) (λ c κs. search rules) alike-requires (λ c. search rules) (λ c κs. search rules) alike-requires-in-Parts returns-in-Satellites
+    returns-in-Cells returns-in-Parts)

@@ -1,6 +1,6 @@
 -- `body::cells::celled` meets its contract. The loop's invariant: of the strips that are left those that the marks left choose tell the same as all.
 -- Assumes nothing.
-use Rattle.bits.proofs.Words.{◌≡◌, refl, sym, ap, ◌∙◌, Bool, true, false, not, ◌&&◌, List, [], ◌∷◌, ℕ, zero, suc, ◌-◌, ◌*◌, ◌%◌, ◌^◌, ◌≤◌, ◌<◌, add-one, arith, needs, leb, ltb, eqb, length, get_or, drop}
+use Rattle.bits.proofs.Words.{◌≡◌, refl, sym, ap, ◌∙◌, Bool, true, false, not, ◌&&◌, List, [], ◌∷◌, ℕ, zero, suc, ◌-◌, ◌*◌, ◌%◌, ◌^◌, ◌<◌, add-one, arith, rules, leb, ltb, eqb, length, get_or, drop}
 use borrow.Author.Tests.{leb-true, leb-false, lt-ltb, ne_eqb}
 use native.Mathlib.Nat.{mod-lt}
 use lib.ListN.{drop_of_length-le}
@@ -30,47 +30,47 @@ first_tells marks x xs small = go (leb (2 ^ 63) marks) refl
     go true e = ap all_set (pick_set marks x xs (leb-true (2 ^ 63) marks e) small) ∙ some x _
     go false e = ap all_set (pick_clear marks x xs (leb-false (2 ^ 63) marks e))
 
-abbrev invariant-loop : tie.invariant-loop
-invariant-loop strips chosen marks₀ i₀ marks i = (marks < 2 ^ 64) × (from strips marks i ≡ from strips chosen 0)
+abbrev invariant-loop-i : tie.invariant-loop-i
+invariant-loop-i strips chosen marks₀ i₀ marks i = (marks < 2 ^ 64) × (from strips marks i ≡ from strips chosen 0)
 
-abbrev decreases-loop : tie.decreases-loop
-decreases-loop strips chosen marks₀ i₀ marks i = length strips - i
+abbrev decreases-loop-i : tie.decreases-loop-i
+decreases-loop-i strips chosen marks₀ i₀ marks i = length strips - i
 
 -- what the strip in hand tells
-module _ (c : tie.After-lacking invariant-loop decreases-loop) where
-  abbrev at : tie.At-loop invariant-loop decreases-loop
+module _ (c : tie.After-lacking invariant-loop-i decreases-loop-i) where
+  abbrev at : tie.At-loop-i invariant-loop-i decreases-loop-i
   at = c.before.before.before
 
   abbrev strips : List ℕ
-  strips = at.before.before.args.strips.now
+  strips = at.args.strips.now
 
-  tells : from strips at.loop.marks at.loop.i ≡ (not c.lacking.result && from strips (at.loop.marks * 2 ^ 1 % 2 ^ 64) (suc at.loop.i))
+  tells : from strips at.loop-i.marks at.loop-i.i ≡ (not c.lacking.result && from strips (at.loop-i.marks * 2 ^ 1 % 2 ^ 64) (suc at.loop-i.i))
   tells =
-      ap (λ (l : List ℕ). all_set (pick (spell 64 at.loop.marks) l)) (drop-cons strips at.loop.i 0 c.before.before.loop-test.true)
-      ∙ first_tells at.loop.marks (get_or strips at.loop.i 0) (drop (suc at.loop.i) strips) at.loop.inv.0
-      ∙ ap (λ (b : Bool). not b && from strips (at.loop.marks * 2 ^ 1 % 2 ^ 64) (suc at.loop.i)) (sym c.lacking.ensures)
+      ap (λ (l : List ℕ). all_set (pick (spell 64 at.loop-i.marks) l)) (drop-cons strips at.loop-i.i 0 c.loop-i-test.true)
+      ∙ first_tells at.loop-i.marks (get_or strips at.loop-i.i 0) (drop (suc at.loop-i.i) strips) at.loop-i.invariant.0
+      ∙ ap (λ (b : Bool). not b && from strips (at.loop-i.marks * 2 ^ 1 % 2 ^ 64) (suc at.loop-i.i)) (sym c.lacking.ensures)
 
-returns : tie.Need-returns invariant-loop decreases-loop
-returns c =
+returns-then-lacking : tie.Need-returns-then-lacking invariant-loop-i decreases-loop-i
+returns-then-lacking c =
     let t = c.before in
-    sym (sym (at t).loop.invariant.1 ∙ tells t ∙ ap (λ (b : Bool). not b && from (strips t) ((at t).loop.marks * 2 ^ 1 % 2 ^ 64) (suc (at t).loop.i)) c.if1.true)
+    sym (sym (at t).loop-i.invariant.1 ∙ tells t ∙ ap (λ (b : Bool). not b && from (strips t) ((at t).loop-i.marks * 2 ^ 1 % 2 ^ 64) (suc (at t).loop-i.i)) c.if-lacking.true)
 
-loop-again : tie.Need-loop-preserved invariant-loop decreases-loop
+loop-again : tie.Need-loop-i-preserved invariant-loop-i decreases-loop-i
 loop-again c =
     let t = c.before in
-    let s = (at t).loop in
-    let rest = tells t ∙ ap (λ (b : Bool). not b && from (strips t) (s.marks * 2 ^ 1 % 2 ^ 64) (suc s.i)) c.if1.false in
-    (mod-lt (s.marks * 2 ^ 1) (omega arith), rw (add-one s.i) (sym rest ∙ s.inv.1))
+    let s = (at t).loop-i in
+    let rest = tells t ∙ ap (λ (b : Bool). not b && from (strips t) (s.marks * 2 ^ 1 % 2 ^ 64) (suc s.i)) c.if-lacking.false in
+    (mod-lt (s.marks * 2 ^ 1) (omega arith), rw (add-one s.i) (sym rest ∙ s.invariant.1))
 
-returns-2 : tie.Need-returns-2 invariant-loop decreases-loop
+returns : tie.Need-returns invariant-loop-i decreases-loop-i
 unfolding all_set
-returns-2 c =
-    let s = c.before.loop in
-    let none : drop s.i c.before.before.before.args.strips.now ≡ [] = drop_of_length-le _ {i = s.i} (omega (arith, c.loop-test.false)) in
+returns c =
+    let s = c.loop-i in
+    let none : drop s.i c.args.strips.now ≡ [] = drop_of_length-le _ {i = s.i} (omega (arith, c.loop-i-test.false)) in
     sym (sym s.invariant.1 ∙ ap (λ (l : List ℕ). all_set (pick (spell 64 s.marks) l)) none ∙ ap all_set (pick_nil (spell 64 s.marks)))
 
-pub celled-spec : {M : Type 1} → statement M
-celled-spec =
+pub celled_spec : {M : Type 1} → statement M
+celled_spec =
     tie.close
-    (tie.spec invariant-loop decreases-loop (λ c. (c.before.ranges.chosen.fits, refl)) (λ c. search needs) (λ c. search needs) (λ c κs. search needs) returns (λ c. search needs) (λ c. omega arith) loop-again
-    returns-2)
+    (tie.spec invariant-loop-i decreases-loop-i (λ c. (c.ranges.chosen.fits, refl)) (λ c. search rules) (λ c. search rules) (λ c κs. search rules) returns-then-lacking (λ c. search rules) (λ c. omega arith) loop-again
+    returns)

@@ -4,5 +4,5 @@ use borrow.Author.Tests.{lt-leb, le-leb}
 use Rattle.body.proofs.cells.lacking.Statement.{statement}
 use Rattle.body.proofs.cells.lacking.Tie as tie
 
-pub lacking-spec : {M : Type 1} → statement M
-lacking-spec = tie.close (tie.spec (λ c. rw (lt-leb (2 ^ 63) c.before.args.marks c.if1.true)) (λ c. rw (le-leb (2 ^ 63) c.before.args.marks c.if1.false)))
+pub lacking_spec : {M : Type 1} → statement M
+lacking_spec = tie.close (tie.spec (λ c. rw (lt-leb (2 ^ 63) c.args.marks c.if-marks-lt-FIRST.true)) (λ c. rw (le-leb (2 ^ 63) c.args.marks c.if-marks-lt-FIRST.false)))

@@ -1,5 +1,5 @@
 -- `body::cells::satellite` meets its contract. The loop's invariant: the rows of the cells that are left are still to come. Assumes nothing.
-use Rattle.bits.proofs.Words.{◌≡◌, refl, ap, ◌∙◌, List, [], ◌∷◌, ℕ, ◌-◌, ◌^◌, ◌<◌, arith, needs, pos}
+use Rattle.bits.proofs.Words.{◌≡◌, refl, ap, ◌∙◌, List, [], ◌∷◌, ℕ, ◌-◌, ◌^◌, ◌<◌, arith, rules, pos}
 use lib.Count.{count_leading_zeros}
 use Rattle.format.specs.Masks.{Satellite}
 use Rattle.format.specs.Messages.{cell_lines}
@@ -14,20 +14,20 @@ use Rattle.body.proofs.Slots.{Next, next, next_of, none_of}
 use Rattle.body.proofs.cells.satellite.Statement.{statement}
 use Rattle.body.proofs.cells.satellite.Tie as tie
 
-abbrev invariant-loop : tie.invariant-loop
-invariant-loop word s bytes at rows₀ system number width left₀ k₀ place₀ rows left k place =
+abbrev invariant-loop-left : tie.invariant-loop-left
+invariant-loop-left word s bytes at rows₀ system number width left₀ k₀ place₀ rows left k place =
     let sat : Satellite = record { system = system; number = number } in
     (left < 2 ^ 64) × Going bytes (cell_lines (columns_in s) (cells_in 64 sat word)) at rows₀ (cell_lines (columns_in s) (cells_in 64 sat left)) k place rows
 
-abbrev decreases-loop : tie.decreases-loop
-decreases-loop word s bytes at rows₀ system number width left₀ k₀ place₀ rows left k place = left
+abbrev decreases-loop-left : tie.decreases-loop-left
+decreases-loop-left word s bytes at rows₀ system number width left₀ k₀ place₀ rows left k place = left
 
-module _ (c : tie.After-first invariant-loop decreases-loop) where
-  abbrev start : tie.Start invariant-loop decreases-loop
+module _ (c : tie.After-first invariant-loop-left decreases-loop-left) where
+  abbrev start : tie.Start invariant-loop-left decreases-loop-left
   start = c.before.before.before.before.before.before.before
 
   abbrev left : ℕ
-  left = c.before.before.loop.left
+  left = c.loop-left.left
 
   abbrev sat : Satellite
   sat = satellite_of start.args.sat
@@ -40,44 +40,44 @@ module _ (c : tie.After-first invariant-loop decreases-loop) where
   line = record { keys = pos sat.system ∷ pos sat.number ∷ pos (count_leading_zeros 64 left) ∷ []; shape = columns sat.system }
 
   same : columns_of start.args.s ≡ columns sat.system
-  same = narrow_in start.args.s sat.system start.pre.2
+  same = narrow_in start.args.s sat.system start.requires.2
 
-  wide : c.before.before.before.width.result ≡ shape_width (columns sat.system)
-  wide = c.before.before.before.width.ensures ∙ ap shape_width same
+  wide : c.width-width.result ≡ shape_width (columns sat.system)
+  wide = c.width-width.ensures ∙ ap shape_width same
 
   -- and those behind it
   module _ (rest : ℕ) (e : rest ≡ left - 2 ^ (63 - count_leading_zeros 64 left)) where
     fewer : Next left rest
-    fewer = next left rest c.before.loop-test.true c.before.before.loop.invariant.0 e
+    fewer = next left rest c.loop-left-test.true c.loop-left.invariant.0 e
 
     row : Row start.args.bytes.now (cell_lines columns (cells_in 64 sat start.args.word)) start.args.at start.args.rows.now line (cell_lines columns (cells_in 64 sat rest))
-        c.before.before.loop.k c.before.before.loop.place c.before.before.loop.rows
+        c.loop-left.k c.loop-left.place c.loop-left.rows
     unfolding cell_lines
     row =
-        let all = ap (cell_lines columns) (next_of left rest c.before.loop-test.true c.before.before.loop.invariant.0 e sat) in
-        going_row line _ refl (five_in _ _) (rw all at c.before.before.loop.invariant.1)
+        let all = ap (cell_lines columns) (next_of left rest c.loop-left-test.true c.loop-left.invariant.0 e sat) in
+        going_row line _ refl (five_in _ _) (rw all at c.loop-left.invariant.1)
 
-loop-again : tie.Need-loop-preserved invariant-loop decreases-loop
+loop-again : tie.Need-loop-left-preserved invariant-loop-left decreases-loop-left
 loop-again c =
     let f = c.before.before.before.before in
     let x = start f in
-    let r = c.rest in
+    let r = c.rest-left in
     let id = x.args.sat.system in
     let system = key id id (omega arith) refl in
-    let number = key x.args.sat.number x.args.sat.number x.pre.0 refl in
+    let number = key x.args.sat.number x.args.sat.number x.requires.0 refl in
     let signal = key f.first.result (count_leading_zeros 64 (left f)) (omega (arith, (fewer f _ refl).inside, f.first.ensures)) f.first.ensures in
-    let new = c.before.before.cell.ensures ∙ keyed _ system number signal ∙ ap (λ (cs : List Column). pos id ∷ pos x.args.sat.number ∷ pos (count_leading_zeros 64 (left f)) ∷ values_at cs x.args.bytes.now f.before.before.loop.place) (same f) in
+    let new = c.cell.ensures ∙ keyed _ system number signal ∙ ap (λ (cs : List Column). pos id ∷ pos x.args.sat.number ∷ pos (count_leading_zeros 64 (left f)) ∷ values_at cs x.args.bytes.now f.loop-left.place) (same f) in
     (omega (arith, (fewer f r.result r.ensures).fewer), (row f r.result r.ensures).written _ _ (wide f) new)
 
-pub satellite-spec : {M : Type 1} → statement M
+pub satellite_spec : {M : Type 1} → statement M
 unfolding cell_lines
-satellite-spec =
+satellite_spec =
     tie.close
-    (tie.spec invariant-loop decreases-loop (λ c. search needs) (λ c. record { sfits = c.before.before.before.requires.0 }) (λ c κs. c.before.before.before.requires.1)
-    (λ c. (omega arith, going_start c.before.before.before.before.requires.3)) (λ c κs. search needs)
+    (tie.spec invariant-loop-left decreases-loop-left (λ c. search rules) (λ c. record { sfits = c.requires.0 }) (λ c κs. c.requires.1)
+    (λ c. (omega arith, going_start c.requires.3)) (λ c κs. search rules)
     (λ c. record { sfits = omega (arith, (fewer c _ refl).inside, c.first.ensures) }) (λ c. omega (arith, (row c _ refl).room))
-    (λ c. omega (arith, (row c _ refl).room)) (λ c. omega arith) (λ c. search needs) (λ c. (row c _ refl).room)
+    (λ c. omega (arith, (row c _ refl).room)) (λ c. omega arith) (λ c. search rules) (λ c. (row c _ refl).room)
     (λ c κs. let f = c.before in let w = row f _ refl in (w.part, omega (arith, w.near), (start f).requires.1, (start f).requires.2, omega (arith, w.whole)))
-    (λ c κs. search needs) (λ c. let f = c.before.before.before.before in omega (arith, (row f _ refl).near, wide f))
-    (λ c. (fewer c.before.before.before.before c.rest.result c.rest.ensures).fewer) loop-again (λ c. c.before.loop.invariant.1.same)
-    (λ c. let x = c.before.before.before.before.before.before.args in going_end (ap (cell_lines (columns_in x.s)) (none_of (satellite_of x.sat) (omega arith))) c.before.loop.invariant.1))
+    (λ c κs. search rules) (λ c. let f = c.before.before.before.before in omega (arith, (row f _ refl).near, wide f))
+    (λ c. (fewer c.before.before.before.before c.rest-left.result c.rest-left.ensures).fewer) loop-again (λ c. c.loop-left.invariant.1.same)
+    (λ c. let x = c.args in going_end (ap (cell_lines (columns_in x.s)) (none_of (satellite_of x.sat) (omega arith))) c.loop-left.invariant.1))

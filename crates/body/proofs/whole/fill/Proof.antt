@@ -1,5 +1,5 @@
 -- `body::whole::fill` meets its contract. Assumes nothing.
-use Rattle.bits.proofs.Words.{◌≡◌, refl, ap, ◌∙◌, subst, List, needs, ℤ}
+use Rattle.bits.proofs.Words.{◌≡◌, refl, ap, ◌∙◌, subst, List, rules, ℤ}
 use Rattle.format.specs.Reading.{over}
 use Rattle.format.specs.Rows.{Line}
 use Rattle.holding.specs.Held.{View}
@@ -22,10 +22,10 @@ module _ (s : tie.Start) where
   body = s.args.placed.body
 
   room : {keys : Keys} → body.keys ≡ keys → Room (lines_over view keys body.shape) s.args.bytes.now s.args.placed.at s.args.rows.now
-  room known = rw (lines_known view body known) s.pre.room
+  room known = rw (lines_known view body known) s.requires.room
 
   kind : {keys : Keys} → body.keys ≡ keys → Kinded keys body.shape
-  kind known = subst (λ (k : Keys). Kinded k body.shape) known s.pre.kind
+  kind known = subst (λ (k : Keys). Kinded k body.shape) known s.requires.kind
 
   -- the rows of the lines of known keys are the body's
   abbrev Rows : List Line → List ℤ
@@ -37,49 +37,49 @@ module _ (s : tie.Start) where
 fill-requires : tie.Need-fill-requires
 unfolding Kinded
 fill-requires c κs =
-    let k = c.before.before.before in
-    let s = k.before.before.before.before.before.before.before in
-    let known = k.keys.given in
+    let k = c.before.before in
+    let s = k.before.before.before.before.before.before in
+    let known = k.in-Satellites in
     let lent = s.requires.lent in
-    rw c.before.wanted.ensures (
+    rw c.wanted.ensures (
       lent.slots,
-      record { formed = made_formed 0 _ refl; kind = kind s known.1; room = rw (by_satellites (view s) known.0.0 (body s).shape) (room s known.1) },
+      record { formed = made_formed 0 _ refl; kind = kind s known.is; room = rw (by_satellites (view s) known.chosen (body s).shape) (room s known.is) },
     )
 
-fill-requires-2 : tie.Need-fill-requires-2
+fill-requires-in-Cells : tie.Need-fill-requires-in-Cells
 unfolding Kinded
-fill-requires-2 c κs =
-    let k = c.before.before.before in
-    let s = k.before.before.before.before.before.before.before in
-    let known = k.keys2.given in
+fill-requires-in-Cells c κs =
+    let k = c.before.before in
+    let s = k.before.before.before.before.before.before in
+    let known = k.in-Cells in
     let lent = s.requires.lent in
-    rw c.before.wanted2.ensures (
+    rw c.wanted-in-Cells.ensures (
       lent.slots,
       lent.covered,
-      record { formed = made_formed 0 _ refl; kind = kind s known.1; room = rw (by_cells (view s) known.0.0 (body s).shape) (room s known.1) },
+      record { formed = made_formed 0 _ refl; kind = kind s known.is; room = rw (by_cells (view s) known.chosen (body s).shape) (room s known.is) },
     )
 
-returns : tie.Need-returns
-returns c =
+returns-in-Satellites : tie.Need-returns-in-Satellites
+returns-in-Satellites c =
     let w = c.before.before.before in
-    let k = w.before.before in
-    let s = k.before.before.before.before.before.before.before in
-    let known = k.keys.given in
-    (rw w.wanted.ensures at c.before.fill.ensures) ∙ ap (Rows s) (by_satellites (view s) known.0.0 (body s).shape) ∙ whole s known.1
+    let k = w.before in
+    let s = k.before.before.before.before.before.before in
+    let known = k.in-Satellites in
+    (rw w.wanted.ensures at c.fill.ensures) ∙ ap (Rows s) (by_satellites (view s) known.chosen (body s).shape) ∙ whole s known.is
 
-returns-2 : tie.Need-returns-2
-returns-2 c =
+returns-in-Cells : tie.Need-returns-in-Cells
+returns-in-Cells c =
     let w = c.before.before.before in
-    let k = w.before.before in
-    let s = k.before.before.before.before.before.before.before in
-    let known = k.keys2.given in
-    (rw w.wanted2.ensures at c.before.fill2.ensures) ∙ ap (Rows s) (by_cells (view s) known.0.0 (body s).shape) ∙ whole s known.1
+    let k = w.before in
+    let s = k.before.before.before.before.before.before in
+    let known = k.in-Cells in
+    (rw w.wanted-in-Cells.ensures at c.fill-in-Cells.ensures) ∙ ap (Rows s) (by_cells (view s) known.chosen (body s).shape) ∙ whole s known.is
 
 pub fill_spec : {M : Type 1} → statement M
 unfolding lines_over
 fill_spec =
     tie.close
-    (tie.spec (λ c. search needs) (λ c κs. search needs) fill-requires (λ c. search needs) (λ c κs. search needs) fill-requires-2 (λ c. search needs)
-    (λ c κs. let k = c.before.before in room k.before.before.before.before.before.before.before k.keys3.given.1) (λ c. search needs) returns
-    (λ c. search needs) returns-2 (λ c. search needs)
-    (λ c. let k = c.before.before.before.before in c.before.fill3.ensures ∙ whole k.before.before.before.before.before.before.before k.keys3.given.1))
+    (tie.spec (λ c. search rules) (λ c κs. search rules) fill-requires (λ c. search rules) (λ c κs. search rules) fill-requires-in-Cells (λ c. search rules)
+    (λ c κs. let k = c.before in room k.before.before.before.before.before.before k.in-Parts.is) (λ c. search rules) returns-in-Satellites
+    (λ c. search rules) returns-in-Cells (λ c. search rules)
+    (λ c. let k = c.before.before.before in c.fill-in-Parts.ensures ∙ whole k.before.before.before.before.before.before k.in-Parts.is))

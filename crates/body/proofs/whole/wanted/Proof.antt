@@ -3,5 +3,5 @@ use borrow.Author.Rules.{rules}
 use Rattle.body.proofs.whole.wanted.Statement.{statement}
 use Rattle.body.proofs.whole.wanted.Tie as tie
 
-pub wanted-spec : {M : Type 1} → statement M
-wanted-spec = tie.close (tie.spec (λ c κs. search rules) (λ c. rw c.shape_of.ensures))
+pub wanted_spec : {M : Type 1} → statement M
+wanted_spec = tie.close (tie.spec (λ c κs. search rules) (λ c. rw c.shape_of.ensures))
