@@ -5,7 +5,7 @@ use mathlib.Core.Bool.{Bool, true, false, false≢true}
 use mathlib.Core.List.{List, ◌++◌}
 use Prim.Native.Nat.{ℕ, ◌≤◌}
 use contract.Lifetimes.{Lfts}
-use denote.Ref.{MutBor, at_last}
+use denote.Ref.{Bor, MutBor, at_last}
 use denote.Triple.Clauses.{at_exit}
 use borrow.Fn.Kinds.{ended_of}
 use lib.ListN.{length, take, drop}
@@ -42,8 +42,9 @@ pub record SaveCall (h : Holding) (buffer : List ℕ) (answer : Saving) (after :
 -- `load` of a line: what it answers
 pub record LoadCall (line : List ℕ) (got : Loading) : Type 0 where
   pub κs : Lfts 1
-  pub lent : MutBor (List ℕ)
-  pub allowed : load-reads.Learnt κs (at_last lent line, tt) got (at_exit (ended_of 1 load-kinds.ps load-kinds.r) κs (at_last lent line, tt) (tt, tt))
+  pub lies : ℕ × ℕ
+  pub allowed : let lent : Bor (List ℕ) = record { ref_ptr = lies; now = line } in
+      load-reads.Learnt κs (lent, tt) got (at_exit (ended_of 1 load-kinds.ps load-kinds.r) κs (lent, tt) (tt, tt))
 
 answers : {h : Holding} {buffer : List ℕ} {answer : Saving} {after : List ℕ} → SaveCall h buffer answer after → answer ≡ saving_by (saving (lent_by h) buffer)
 answers c = c.allowed.0

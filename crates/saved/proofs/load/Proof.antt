@@ -7,7 +7,7 @@ use Rattle.saved.proofs.load.Tie as tie
 
 returns : tie.Need-returns
 returns c =
-    let p = c.before.before.load-parts in
+    let p = c.load_parts-parts in
     ap (λ (h : Holding). record { answer = p.result.answer; holding = h }) c.with.ensures ∙ p.ensures
 
 pub load_spec : {M : Type 1} → statement M

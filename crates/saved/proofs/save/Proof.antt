@@ -12,13 +12,13 @@ use Rattle.saved.proofs.save.Tie as tie
 returns : tie.Need-returns
 returns c =
     let p = c.before.before in
-    let o = p.before.before.before.before in
-    let x = o.before.before.before.before.args in
+    let o = p in
+    let x = o.args in
     subst
     (λ (l : Outline). let h = whole_of l x.holding.satellites x.holding.strips in
-    (p.save-parts.result ≡ saving_by (saving (lent_by h) x.line.now)) × (p.save-parts.new.1.1.1.0 ≡ buffer_after (saving (lent_by h) x.line.now) (mask_of h) x.line.now))
-    o.outline.ensures
-    p.save-parts.ensures
+    (p.save_parts.result ≡ saving_by (saving (lent_by h) x.line.now)) × (p.save_parts.new.line ≡ buffer_after (saving (lent_by h) x.line.now) (mask_of h) x.line.now))
+    o.outline-outline.ensures
+    p.save_parts.ensures
 
-pub save-spec : {M : Type 1} → statement M
-save-spec = tie.close (tie.spec (λ c κs. search rules) (λ c κs. search rules) (λ c. search rules) returns)
+pub save_spec : {M : Type 1} → statement M
+save_spec = tie.close (tie.spec (λ c κs. search rules) (λ c κs. search rules) (λ c. search rules) returns)

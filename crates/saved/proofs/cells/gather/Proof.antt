@@ -4,29 +4,29 @@ use Rattle.saved.proofs.Gathers.{Gathered, none_gathered, one_gathered, none_mor
 use Rattle.saved.proofs.cells.gather.Statement.{statement}
 use Rattle.saved.proofs.cells.gather.Tie as tie
 
-abbrev invariant-loop : tie.invariant-loop
-invariant-loop signals strip bits₀ i₀ bits i = Gathered signals strip bits i
+abbrev invariant-loop-i : tie.invariant-loop-i
+invariant-loop-i signals strip bits₀ i₀ bits i = Gathered signals strip bits i
 
-abbrev decreases-loop : tie.decreases-loop
-decreases-loop signals strip bits₀ i₀ bits i = i
+abbrev decreases-loop-i : tie.decreases-loop-i
+decreases-loop-i signals strip bits₀ i₀ bits i = i
 
-pub gather-spec : {M : Type 1} → statement M
-gather-spec =
+pub gather_spec : {M : Type 1} → statement M
+gather_spec =
     tie.close
     (tie.spec
-    invariant-loop
-    decreases-loop
+    invariant-loop-i
+    decreases-loop-i
     (λ c. none_gathered c.args.signals c.args.strip)
     (λ c. omega arith)
-    (λ c. omega (arith, c.before.loop.invariant.left))
-    (λ c. omega (arith, c.before.loop.invariant.left))
-    (λ c. omega (arith, gathered_few c.before.before.loop.invariant))
-    (λ c. omega (arith, c.before.before.loop.invariant.left))
-    (λ c. omega (arith, c.before.before.loop.invariant.left))
+    (λ c. omega (arith, c.loop-i.invariant.left))
+    (λ c. omega (arith, c.loop-i.invariant.left))
+    (λ c. omega (arith, gathered_few c.loop-i.invariant))
+    (λ c. omega (arith, c.loop-i.invariant.left))
+    (λ c. omega (arith, c.loop-i.invariant.left))
     (λ c. omega arith)
-    (λ c. omega (arith, gathered_few c.before.before.loop.invariant))
+    (λ c. omega (arith, gathered_few c.loop-i.invariant))
     (λ c. omega arith)
-    (λ c. one_gathered c.before.before.loop.invariant (omega arith) c.if1.true)
+    (λ c. one_gathered c.loop-i.invariant (omega arith) c.if-signals-i-eq1.true)
     (λ c. omega arith)
-    (λ c. none_more c.before.before.loop.invariant (omega arith) c.if1.false)
-    (λ c. all_gathered c.before.loop.invariant (omega arith)))
+    (λ c. none_more c.loop-i.invariant (omega arith) c.if-signals-i-eq1.false)
+    (λ c. all_gathered c.loop-i.invariant (omega arith)))

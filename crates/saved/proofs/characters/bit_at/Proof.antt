@@ -15,13 +15,13 @@ use Rattle.saved.proofs.characters.bit_at.Tie as tie
 
 returns : tie.Need-returns
 returns c =
-    let x = c.before.before.before.args in
+    let x = c.args in
     let text = drop x.at x.line.now in
-    let four : c.said.result ≡ char_digit (get_or text (x.i / 4) 0) = c.said.ensures ∙ ap char_digit (c.before.char-at.ensures ∙ sym (get_or-drop x.at x.line.now (x.i / 4) 0)) in
+    let four : c.said-four.result ≡ char_digit (get_or text (x.i / 4) 0) = c.said-four.ensures ∙ ap char_digit (c.char_at.ensures ∙ sym (get_or-drop x.at x.line.now (x.i / 4) 0)) in
     let bit = char_digit (get_or text (x.i / 4) 0) / 2 ^ (3 - x.i % 4) % 2 in
     ap (λ (n : ℕ). n / 2 ^ (3 - x.i % 4) % 2) four ∙ sym (digit_eqb bit (omega arith)) ∙ ap (λ (b : Bool). digit b) (sym (bit_said text x.i))
 
-pub bit-at-spec : {M : Type 1} → statement M
-bit-at-spec =
+pub bit_at_spec : {M : Type 1} → statement M
+bit_at_spec =
     tie.close
     (tie.spec (λ c. search rules) (λ c κs. search rules) (λ c κs. search rules) (λ c. search rules) (λ c. search rules) (λ c. search rules) returns)

@@ -4,7 +4,6 @@ use mathlib.Core.List.{List}
 use Prim.Native.Nat.{ℕ, ◌+◌, ◌-◌, ◌≤◌, ◌<◌}
 use native.Mathlib.Omega.{arith}
 use borrow.Author.Rules.{rules}
-use borrow.Author.Tests.{not-true, not-false}
 use lib.Count.{ones}
 use lib.ListN.{length, drop}
 use Rattle.format.specs.Saved.{system_text, line_of}
@@ -21,13 +20,13 @@ use Rattle.saved.proofs.SlotsLeft.{all_slots, few_slots, strips_there, read_low,
 use Rattle.saved.proofs.line.is_own.Statement.{statement}
 use Rattle.saved.proofs.line.is_own.Tie as tie
 
-abbrev invariant-loop : tie.invariant-loop
-invariant-loop outline satellites strips line piece₀ place₀ from₀ i₀ piece place from i = Compared (whole_of outline satellites strips) line place from i × (length piece ≡ 182)
+abbrev invariant-loop-i : tie.invariant-loop-i
+invariant-loop-i outline satellites strips line piece₀ place₀ from₀ i₀ piece place from i = Compared (whole_of outline satellites strips) line place from i × (length piece ≡ 182)
 
-abbrev decreases-loop : tie.decreases-loop
-decreases-loop outline satellites strips line piece₀ place₀ from₀ i₀ piece place from i = outline.count - i
+abbrev decreases-loop-i : tie.decreases-loop-i
+decreases-loop-i outline satellites strips line piece₀ place₀ from₀ i₀ piece place from i = outline.count - i
 
-module _ (s : tie.Start invariant-loop decreases-loop) where
+module _ (s : tie.Start invariant-loop-i decreases-loop-i) where
   -- what is held
   abbrev whole : Holding
   whole = whole_of s.args.outline s.args.satellites.now s.args.strips.now
@@ -39,128 +38,128 @@ module _ (s : tie.Start invariant-loop decreases-loop) where
   own = line_of (mask_of whole)
 
 -- how long its line is
-module _ (c : tie.After-line-long invariant-loop decreases-loop) where
-  abbrev start : tie.Start invariant-loop decreases-loop
+module _ (c : tie.After-line_long invariant-loop-i decreases-loop-i) where
+  abbrev start : tie.Start invariant-loop-i decreases-loop-i
   start = c.before.before
 
-  size : c.line-long.result ≡ length (own start)
-  size = c.line-long.ensures start.args.strips.now start.pre
+  size : c.line_long.result ≡ length (own start)
+  size = c.line_long.ensures start.args.strips.now start.requires
 
-returns : tie.Need-returns invariant-loop decreases-loop
-returns c = sym (lengths_differ _ _ (λ e. omega (arith, size c.before, c.if1.true)))
+returns-then-line-line_long : tie.Need-returns-then-line-line_long invariant-loop-i decreases-loop-i
+returns-then-line-line_long c = sym (lengths_differ _ _ (λ e. omega (arith, size c.before, c.if-line-line_long.true)))
 
 -- ---- what comes before the systems
 
-module _ (c : tie.After-front-text invariant-loop decreases-loop) where
-  abbrev s : tie.Start invariant-loop decreases-loop
+module _ (c : tie.After-front_text-place invariant-loop-i decreases-loop-i) where
+  abbrev s : tie.Start invariant-loop-i decreases-loop-i
   s = start c.before.before.before
 
   long : length (own s) ≡ length (line s)
-  long = omega (arith, size c.before.before.before, c.before.before.if1.false)
+  long = omega (arith, size c.before.before.before, c.if-line-line_long.false)
 
   few : length (line_front s.args.outline) ≤ 182
-  few = omega (arith, front_most (whole s) s.pre)
+  few = omega (arith, front_most (whole s) s.requires)
 
-  front : Piece (own s) (line s) 0 (text_from (systems_from (whole s) 0 0)) c.front_text_lem.new.0 c.front_text_lem.result
-  front = piece (line_left (own s) (line s) long) (line_pieces (whole s) s.pre) (wrote_first _ (line_front s.args.outline) c.front_text_lem.ensures) few
+  front : Piece (own s) (line s) 0 (text_from (systems_from (whole s) 0 0)) c.front_text-place.new.line c.front_text-place.result
+  front = piece (line_left (own s) (line s) long) (line_pieces (whole s) s.requires) (wrote_first _ (line_front s.args.outline) c.front_text-place.ensures) few
 
-returns-2 : tie.Need-returns-2 invariant-loop decreases-loop
-returns-2 c =
+returns-then-not-stands : tie.Need-returns-then-not-stands invariant-loop-i decreases-loop-i
+returns-then-not-stands c =
     let t = c.before in
-    sym (piece_differs (front t.before.before.before) t.stands.ensures (not-true _ c.if2.true))
+    sym (piece_differs (front t.before.before.before) t.stands.ensures c.if-not-stands.true)
 
-loop-holds : tie.Need-loop-init invariant-loop decreases-loop
+loop-holds : tie.Need-loop-i-init invariant-loop-i decreases-loop-i
 loop-holds c =
     let t = c.before in
     let f = t.before.before.before in
-    (record { slots = all_slots (whole (s f)) (s f).requires; text = piece_stands (front f) t.stands.ensures (not-false _ c.if2.false) (omega arith) }, omega (arith, f.front_text_lem.auto.0))
+    (record { slots = all_slots (whole (s f)) (s f).requires; text = piece_stands (front f) t.stands.ensures c.if-not-stands.false (omega arith) }, omega (arith, f.front_text-place.auto.line))
 
 -- ---- one system more
 
-module _ (c : tie.After-slot-in invariant-loop decreases-loop) where
-  abbrev at : tie.At-loop invariant-loop decreases-loop
+module _ (c : tie.After-slot_in-slot invariant-loop-i decreases-loop-i) where
+  abbrev at : tie.At-loop-i invariant-loop-i decreases-loop-i
   at = c.before.before.before
 
-  abbrev begun : tie.Start invariant-loop decreases-loop
+  abbrev begun : tie.Start invariant-loop-i decreases-loop-i
   begun = s at.before.before.before.before.before
 
   abbrev text : List ℕ
-  text = system_text (system_in c.slot-in.result (drop at.loop.from begun.args.strips.now))
+  text = system_text (system_in c.slot_in-slot.result (drop at.loop-i.from begun.args.strips.now))
 
-  more : at.loop.i < begun.args.outline.count
+  more : at.loop-i.i < begun.args.outline.count
   more = omega arith
 
-  satellites_few : at.loop.from + ones c.slot-in.result.satellites ≤ 64
-  satellites_few = read_few at.loop.inv.0.slots more c.slot-in.ensures
+  satellites_few : at.loop-i.from + ones c.slot_in-slot.result.satellites ≤ 64
+  satellites_few = read_few at.loop-i.invariant.0.slots more c.slot_in-slot.ensures
 
-  text_few : length text ≤ length at.loop.piece
-  text_few = omega (arith, piece_most at.loop.inv.0.slots more c.slot-in.ensures, at.loop.inv.1)
+  text_few : length text ≤ length at.loop-i.piece
+  text_few = omega (arith, piece_most at.loop-i.invariant.0.slots more c.slot_in-slot.ensures, at.loop-i.invariant.1)
 
-system-requires : tie.Need-system-requires invariant-loop decreases-loop
-system-requires c κs =
+system-long-requires : tie.Need-system-long-requires invariant-loop-i decreases-loop-i
+system-long-requires c κs =
     let r = c.before.before in
-    let l = (at r).loop.invariant.0.slots in
-    (read_low l (more r) r.slot-in.ensures, omega (arith, satellites_few r, strips_there l), omega (arith, text_few r))
+    let l = (at r).loop-i.invariant.0.slots in
+    (read_low l (more r) r.slot_in-slot.ensures, omega (arith, satellites_few r, strips_there l), omega (arith, text_few r))
 
-module _ (c : tie.After-system invariant-loop decreases-loop) where
-  abbrev r : tie.After-slot-in invariant-loop decreases-loop
+module _ (c : tie.After-system-long invariant-loop-i decreases-loop-i) where
+  abbrev r : tie.After-slot_in-slot invariant-loop-i decreases-loop-i
   r = c.before.before.before
 
-  written : Wrote (at r).loop.piece 0 (text r) c.system.new.0 c.system.result
-  written = wrote (at r).loop.piece (text r) c.system.ensures
+  written : Wrote (at r).loop-i.piece 0 (text r) c.system-long.new.line c.system-long.result
+  written = wrote (at r).loop-i.piece (text r) c.system-long.ensures
 
-  next : Piece (own (begun r)) (line (begun r)) (at r).loop.place (behind (at r).loop.inv.0 (more r) r.slot-in.ensures) c.system.new.0 c.system.result
-  next = one_piece (at r).loop.inv.0 (more r) r.slot-in.ensures written (text_few r)
+  next : Piece (own (begun r)) (line (begun r)) (at r).loop-i.place (behind (at r).loop-i.invariant.0 (more r) r.slot_in-slot.ensures) c.system-long.new.line c.system-long.result
+  next = one_piece (at r).loop-i.invariant.0 (more r) r.slot_in-slot.ensures written (text_few r)
 
-returns-3 : tie.Need-returns-3 invariant-loop decreases-loop
-returns-3 c =
+returns-then-not-stands-2 : tie.Need-returns-then-not-stands-2 invariant-loop-i decreases-loop-i
+returns-then-not-stands-2 c =
     let t = c.before in
-    sym (piece_differs (next t.before.before.before) t.stands2.ensures (not-true _ c.if4.true))
+    sym (piece_differs (next t.before.before.before) t.stands-in-loop-i.ensures c.if-not-stands-2.true)
 
-add-place : tie.Need-overflow-add-place invariant-loop decreases-loop
-add-place c =
+overflow_add-place : tie.Need-overflow_add-place invariant-loop-i decreases-loop-i
+overflow_add-place c =
     let y = c.before.before.before.before in
-    omega (arith, piece_long (next y), piece_room (next y), (next y).left.long, line_most (whole (begun (r y))) (begun (r y)).pre)
+    omega (arith, piece_long (next y), piece_room (next y), (next y).left.long, line_most (whole (begun (r y))) (begun (r y)).requires)
 
-loop-again : tie.Need-loop-preserved invariant-loop decreases-loop
+loop-again : tie.Need-loop-i-preserved invariant-loop-i decreases-loop-i
 loop-again c =
     let t = c.before.before in
     let y = t.before.before.before in
-    let after = piece_stands (next y) t.stands2.ensures (not-false _ c.before.if4.false) refl in
-    (one_compared (at (r y)).loop.inv.0 (more (r y)) (r y).slot-in.ensures after c.count.ensures, omega (arith, y.system.auto.0))
+    let after = piece_stands (next y) t.stands-in-loop-i.ensures c.if-not-stands-2.false refl in
+    (one_compared (at (r y)).loop-i.invariant.0 (more (r y)) (r y).slot_in-slot.ensures after c.count-from.ensures, omega (arith, y.system-long.auto.line))
 
 -- the line feed
-returns-4 : tie.Need-returns-4 invariant-loop decreases-loop
-returns-4 c = sym (last_same c.before.before.before.loop.invariant.0 (omega arith))
+returns : tie.Need-returns invariant-loop-i decreases-loop-i
+returns c = sym (last_same c.loop-i.invariant.0 (omega arith))
 
-pub is-own-spec : {M : Type 1} → statement M
-is-own-spec =
+pub is_own_spec : {M : Type 1} → statement M
+is_own_spec =
     tie.close
     (tie.spec
-    invariant-loop
-    decreases-loop
-    (λ c κs. record { strips = c.before.args.strips.now; sounds = c.before.requires })
-    returns
+    invariant-loop-i
+    decreases-loop-i
+    (λ c κs. record { strips = c.args.strips.now; sounds = c.requires })
+    returns-then-line-line_long
     (λ c. search rules)
-    (λ c κs. let s = start c.before.before in omega (arith, front_most (whole s) s.pre))
-    (λ c. let f = c.before.front_text_lem in omega (arith, f.ensures.0, f.auto.0, few c.before))
+    (λ c κs. let s = start c.before.before in omega (arith, front_most (whole s) s.requires))
+    (λ c. let f = c.front_text-place in omega (arith, f.ensures.0, f.auto.line, few c.before))
     (λ c. piece_long (front c.before.before))
     (λ c κs. piece_room (front c.before.before))
-    returns-2
+    returns-then-not-stands
     loop-holds
     (λ c. search rules)
-    (λ c κs. omega (arith, few_slots c.before.before.loop.invariant.0.slots))
-    (λ c. sym (at c.before).loop.invariant.1)
-    system-requires
-    (λ c. let y = c.before.system in omega (arith, y.ensures.0, y.auto.0, text_few (r c.before)))
+    (λ c κs. omega (arith, few_slots c.loop-i.invariant.0.slots))
+    (λ c. sym (at c.before).loop-i.invariant.1)
+    system-long-requires
+    (λ c. let y = c.system-long in omega (arith, y.ensures.0, y.auto.line, text_few (r c.before)))
     (λ c. piece_long (next c.before.before))
     (λ c κs. piece_room (next c.before.before))
-    returns-3
-    add-place
+    returns-then-not-stands-2
+    overflow_add-place
     (λ c κs. search rules)
-    (λ c. omega (arith, c.count.ensures, satellites_few c.before.before.before.before.before.before.before.before))
-    (λ c. omega (arith, few_slots (at c.before.before.before.before.before.before.before.before).loop.invariant.0.slots))
+    (λ c. omega (arith, c.count-from.ensures, satellites_few c.before.before.before.before.before.before.before.before))
+    (λ c. omega (arith, few_slots (at c.before.before.before.before.before.before.before.before).loop-i.invariant.0.slots))
     (λ c. omega arith)
     loop-again
-    (λ c. last_room c.before.before.before.loop.invariant.0 (omega arith))
-    returns-4)
+    (λ c. last_room c.loop-i.invariant.0 (omega arith))
+    returns)

@@ -11,25 +11,25 @@ use Rattle.saved.proofs.HeldTexts.{nothing_line, mask_line}
 use Rattle.saved.proofs.line.line_long.Statement.{statement}
 use Rattle.saved.proofs.line.line_long.Tie as tie
 
-returns : tie.Need-returns
-returns c strips sounds =
-    let x = c.before.before.args in
+returns-then-not-outline : tie.Need-returns-then-not-outline
+returns-then-not-outline c strips sounds =
+    let x = c.args in
     let h = whole_of x.outline x.satellites.now strips in
-    sym (ap length (nothing_line h (not-true _ c.if1.true)))
+    sym (ap length (nothing_line h (not-true _ c.if-not-outline.true)))
 
 few : (c : tie.After-decimals) → c.decimals.result ≤ 3
-few c = omega (arith, c.decimals.ensures, decimal_long 2 c.before.before.before.before.args.outline.iod (omega (arith, c.before.struct-known2.given)))
+few c = omega (arith, c.decimals.ensures, decimal_long 2 c.args.outline.iod (omega (arith, c.struct_known-2-1.given)))
 
-returns-2 : tie.Need-returns-2
-returns-2 c strips sounds =
+returns : tie.Need-returns
+returns c strips sounds =
     let d = c.before in
-    let e = d.before.before in
-    let x = e.before.before.args in
+    let e = d in
+    let x = e.args in
     let h = whole_of x.outline x.satellites.now strips in
-    omega (arith, simp length-append at (ap length (mask_line h (not-false _ e.if1.false))), d.decimals.ensures, c.systems_long.ensures.0 strips sounds)
+    omega (arith, simp length-append at (ap length (mask_line h (not-false _ e.if-not-outline.false))), d.decimals.ensures, c.systems_long.ensures.0 strips sounds)
 
-pub line-long-spec : {M : Type 1} → statement M
-line-long-spec =
+pub line_long_spec : {M : Type 1} → statement M
+line_long_spec =
     tie.close
-    (tie.spec returns (λ c. search rules) (λ c κs. search rules) (λ c κs. search rules) (λ c. omega (arith, few c.before, c.systems_long.ensures.1))
-    (λ c. omega (arith, few c.before, c.systems_long.ensures.1)) returns-2)
+    (tie.spec returns-then-not-outline (λ c. search rules) (λ c κs. search rules) (λ c κs. search rules) (λ c. omega (arith, few c.before, c.systems_long.ensures.1))
+    (λ c. omega (arith, few c.before, c.systems_long.ensures.1)) returns)

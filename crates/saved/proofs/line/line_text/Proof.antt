@@ -26,25 +26,25 @@ module _ (s : tie.Start) where
   systems = flat_map system_text (systems_from whole 0 0)
 
   pieces : line_of (mask_of whole) ≡ line_front s.args.outline ++ text_from (systems_from whole 0 0)
-  pieces = line_pieces whole s.pre.0
+  pieces = line_pieces whole s.requires.0
 
   long : length (line_of (mask_of whole)) ≡ length (line_front s.args.outline) + (length systems + 1)
   long = ap length pieces ∙ simp length-append
 
-front-text-requires : tie.Need-front-text-requires
-front-text-requires c κs = omega (arith, long c.before.before)
+front_text-first-requires : tie.Need-front_text-first-requires
+front_text-first-requires c κs = omega (arith, long c.before.before)
 
-systems-text-requires : tie.Need-systems-text-requires
-systems-text-requires c κs =
+systems_text-second-requires : tie.Need-systems_text-second-requires
+systems_text-second-requires c κs =
     let f = c.before.before.before in
     let s = f.before.before.before in
-    (s.requires.0, omega (arith, long s, f.front_text_lem.ensures.0))
+    (s.requires.0, omega (arith, long s, f.front_text-first.ensures.0))
 
 put-requires : tie.Need-put-requires
 put-requires c κs =
     let t = c.before.before.before in
     let f = t.before.before.before.before in
-    omega (arith, long f.before.before.before, f.front_text_lem.ensures.0, t.systems-text.ensures.0)
+    omega (arith, long f.before.before.before, f.front_text-first.ensures.0, t.systems_text-second.ensures.0)
 
 returns : tie.Need-returns
 returns c =
@@ -53,7 +53,7 @@ returns c =
     let f = t.before.before.before.before in
     let s = f.before.before.before in
     rw (pieces s)
-    (told_first (then_wrote (wrote_first s.args.line.now (line_front s.args.outline) f.front_text_lem.ensures) (then_wrote (wrote _ (systems s) t.systems-text.ensures) (wrote _ (line_feed ∷ []) p.put.ensures))))
+    (told_first (then_wrote (wrote_first s.args.line.now (line_front s.args.outline) f.front_text-first.ensures) (then_wrote (wrote _ (systems s) t.systems_text-second.ensures) (wrote _ (line_feed ∷ []) p.put.ensures))))
 
-pub line-text-spec : {M : Type 1} → statement M
-line-text-spec = tie.close (tie.spec front-text-requires systems-text-requires put-requires (λ c. search rules) returns)
+pub line_text_spec : {M : Type 1} → statement M
+line_text_spec = tie.close (tie.spec front_text-first-requires systems_text-second-requires put-requires (λ c. search rules) returns)

@@ -14,49 +14,49 @@ use Rattle.saved.proofs.Compared.{StandsLeft, all_stands, part_stands, part_diff
 use Rattle.saved.proofs.line.stands.Statement.{statement}
 use Rattle.saved.proofs.line.stands.Tie as tie
 
-abbrev invariant-loop : tie.invariant-loop
-invariant-loop line at text i₀ i = StandsLeft line at text (at + i) (drop i text)
+abbrev invariant-loop-i : tie.invariant-loop-i
+invariant-loop-i line at text i₀ i = StandsLeft line at text (at + i) (drop i text)
 
-abbrev decreases-loop : tie.decreases-loop
-decreases-loop line at text i₀ i = length text - i
+abbrev decreases-loop-i : tie.decreases-loop-i
+decreases-loop-i line at text i₀ i = length text - i
 
 -- the next character comes first
-module _ (l : tie.At-loop invariant-loop decreases-loop) where
+module _ (l : tie.At-loop-i invariant-loop-i decreases-loop-i) where
   abbrev text : List ℕ
-  text = l.before.args.text.now
+  text = l.args.text.now
 
   abbrev char : List ℕ
-  char = get_or text l.loop.i 0 ∷ []
+  char = get_or text l.loop-i.i 0 ∷ []
 
   abbrev behind : List ℕ
-  behind = drop (l.loop.i + 1) text
+  behind = drop (l.loop-i.i + 1) text
 
-  next : l.loop.i < length text → drop l.loop.i text ≡ char ++ behind
-  next more = drop-cons text l.loop.i 0 more ∙ rw (add-one l.loop.i)
+  next : l.loop-i.i < length text → drop l.loop-i.i text ≡ char ++ behind
+  next more = drop-cons text l.loop-i.i 0 more ∙ rw (add-one l.loop-i.i)
 
-returns : tie.Need-returns invariant-loop decreases-loop
+returns-then-line-at : tie.Need-returns-then-line-at invariant-loop-i decreases-loop-i
 unfolding stands_at
-returns c =
+returns-then-line-at c =
     let l = c.before.before.before.before in
-    let x = l.before.args in
-    let other = ne_eqb (get_or (text l) l.loop.i 0) (get_or x.line.now (x.at + l.loop.i) 0) (λ e. omega arith) in
-    sym (part_differs l.loop.invariant (char l) (behind l) (next l (omega arith)) (rw other))
+    let x = l.args in
+    let other = ne_eqb (get_or (text l) l.loop-i.i 0) (get_or x.line.now (x.at + l.loop-i.i) 0) (λ e. omega arith) in
+    sym (part_differs l.loop-i.invariant (char l) (behind l) (next l (omega arith)) (rw other))
 
-loop-again : tie.Need-loop-preserved invariant-loop decreases-loop
+loop-again : tie.Need-loop-i-preserved invariant-loop-i decreases-loop-i
 unfolding stands_at
 loop-again c =
     let l = c.before.before.before.before in
-    let x = l.before.args in
-    let here = eq-eqb (get_or (text l) l.loop.i 0) (get_or x.line.now (x.at + l.loop.i) 0) (omega arith) in
-    part_stands l.loop.invariant (char l) (behind l) (next l (omega arith)) (rw here) (omega arith)
+    let x = l.args in
+    let here = eq-eqb (get_or (text l) l.loop-i.i 0) (get_or x.line.now (x.at + l.loop-i.i) 0) (omega arith) in
+    part_stands l.loop-i.invariant (char l) (behind l) (next l (omega arith)) (rw here) (omega arith)
 
-returns-2 : tie.Need-returns-2 invariant-loop decreases-loop
-returns-2 c =
+returns : tie.Need-returns invariant-loop-i decreases-loop-i
+returns c =
     let l = c.before in
-    let all : length (text l) ≤ l.loop.i = omega arith in
-    sym (all_stood l.loop.invariant (drop_of_length-le (text l) all))
+    let all : length (text l) ≤ l.loop-i.i = omega arith in
+    sym (all_stood l.loop-i.invariant (drop_of_length-le (text l) all))
 
-pub stands-spec : {M : Type 1} → statement M
-stands-spec =
+pub stands_spec : {M : Type 1} → statement M
+stands_spec =
     tie.close
-    (tie.spec invariant-loop decreases-loop (λ c. rw add-zero (all_stands c.args.line.now c.args.at c.args.text.now)) (λ c. search rules) (λ c. search rules) (λ c. search rules) returns (λ c. search rules) (λ c. search rules) loop-again returns-2)
+    (tie.spec invariant-loop-i decreases-loop-i (λ c. rw add-zero (all_stands c.args.line.now c.args.at c.args.text.now)) (λ c. search rules) (λ c. search rules) (λ c. search rules) returns-then-line-at (λ c. search rules) (λ c. search rules) loop-again returns)

@@ -13,34 +13,34 @@ use Rattle.saved.proofs.SlotsLeft.{LongLeft, none_long, one_long, all_long, long
 use Rattle.saved.proofs.line.systems_long.Statement.{statement}
 use Rattle.saved.proofs.line.systems_long.Tie as tie
 
-abbrev invariant-loop : tie.invariant-loop
-invariant-loop outline satellites long₀ i₀ long i = (strips : List ℕ) → sound (whole_of outline satellites strips) ≡ true → LongLeft (whole_of outline satellites strips) long i
+abbrev invariant-loop-i : tie.invariant-loop-i
+invariant-loop-i outline satellites long₀ i₀ long i = (strips : List ℕ) → sound (whole_of outline satellites strips) ≡ true → LongLeft (whole_of outline satellites strips) long i
 
-abbrev decreases-loop : tie.decreases-loop
-decreases-loop outline satellites long₀ i₀ long i = outline.count - i
+abbrev decreases-loop-i : tie.decreases-loop-i
+decreases-loop-i outline satellites long₀ i₀ long i = outline.count - i
 
 -- with some strips
-module _ (l : tie.At-loop invariant-loop decreases-loop) where
-  one : let x = l.before.args in LongLeft (whole_of x.outline x.satellites.now l.before.requires.strips) l.loop.long l.loop.i
-  one = l.loop.invariant l.before.requires.strips l.before.requires.sounds
+module _ (l : tie.At-loop-i invariant-loop-i decreases-loop-i) where
+  one : let x = l.args in LongLeft (whole_of x.outline x.satellites.now l.requires.strips) l.loop-i.long l.loop-i.i
+  one = l.loop-i.invariant l.requires.strips l.requires.sounds
 
-loop-again : tie.Need-loop-preserved invariant-loop decreases-loop
+loop-again : tie.Need-loop-i-preserved invariant-loop-i decreases-loop-i
 loop-again c strips sounds =
-    let l = c.before.before.before.before in
-    one_long (l.loop.invariant strips sounds) (omega arith) (c.system_long_lem.ensures.0 ∙ ap (λ (s : Slot). system_long s) c.before.slot-in.ensures) c.system_long_lem.ensures.1
+    let l = c in
+    one_long (l.loop-i.invariant strips sounds) (omega arith) (c.system_long-long.ensures.0 ∙ ap (λ (s : Slot). system_long s) c.slot_in.ensures) c.system_long-long.ensures.1
 
-pub systems-long-spec : {M : Type 1} → statement M
-systems-long-spec =
+pub systems_long_spec : {M : Type 1} → statement M
+systems_long_spec =
     tie.close
     (tie.spec
-    invariant-loop
-    decreases-loop
+    invariant-loop-i
+    decreases-loop-i
     (λ c strips sounds. none_long _ sounds)
     (λ c. search rules)
     (λ c κs. omega (arith, few_slots (one c.before.before).slots))
     (λ c κs. search rules)
-    (λ c. omega (arith, long_few (one c.before.before.before.before), c.system_long_lem.ensures.1))
+    (λ c. omega (arith, long_few (one c.before.before.before.before), c.system_long-long.ensures.1))
     (λ c. omega (arith, few_slots (one c.before.before.before.before).slots))
     (λ c. omega arith)
     loop-again
-    (λ c. (λ strips sounds. all_long (c.before.before.loop.invariant strips sounds) (omega arith), long_few (one c.before.before))))
+    (λ c. (λ strips sounds. all_long (c.loop-i.invariant strips sounds) (omega arith), long_few (one c.before.before))))

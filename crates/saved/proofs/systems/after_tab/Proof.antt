@@ -9,9 +9,9 @@ use Rattle.saved.proofs.systems.after_tab.Tie as tie
 returns : tie.Need-returns
 returns c =
     let n = c.before.before in
-    let p = n.before.before.before.before in
-    let x = p.before.before.before.args in
-    told (then_wrote (wrote x.line.now (tab ∷ []) p.put.ensures) (wrote _ (decimal x.n) n.number.ensures))
+    let p = n in
+    let x = p.args in
+    told (then_wrote (wrote x.line.now (tab ∷ []) p.put-from.ensures) (wrote _ (decimal x.n) n.number.ensures))
 
-pub after-tab-spec : {M : Type 1} → statement M
-after-tab-spec = tie.close (tie.spec (λ c κs. search rules) (λ c κs. search rules) (λ c. search rules) returns)
+pub after_tab_spec : {M : Type 1} → statement M
+after_tab_spec = tie.close (tie.spec (λ c κs. search rules) (λ c κs. search rules) (λ c. search rules) returns)

@@ -11,26 +11,26 @@ use Rattle.saved.proofs.systems.cell_count.Statement.{statement}
 use Rattle.saved.proofs.systems.cell_count.Tie as tie
 
 -- both masks are words
-few : (c : tie.After-count2) → c.before.before.count.result * c.count2.result ≤ 64 * 64
+few : (c : tie.After-count-2) → c.count.result * c.count-2.result ≤ 64 * 64
 few c =
-    let s = c.before.before.before.before.before.args.s in
-    let wide : s.satellites < 2 ^ 64 = omega (arith, c.before.struct-known2.given) in
-    let narrow : s.signals < 2 ^ 64 = omega (arith, c.before.struct-known2.given) in
-    let sats : c.before.before.count.result ≤ 64 = omega (arith, c.before.before.count.ensures, ones-le 64 s.satellites wide) in
-    let signals : c.count2.result ≤ 64 = omega (arith, c.count2.ensures, ones-le 64 s.signals narrow) in
+    let s = c.args.s in
+    let wide : s.satellites < 2 ^ 64 = omega (arith, c.struct_known-2-1.given) in
+    let narrow : s.signals < 2 ^ 64 = omega (arith, c.struct_known-2-1.given) in
+    let sats : c.count.result ≤ 64 = omega (arith, c.count.ensures, ones-le 64 s.satellites wide) in
+    let signals : c.count-2.result ≤ 64 = omega (arith, c.count-2.ensures, ones-le 64 s.signals narrow) in
     mul-le-mul sats signals
+
+returns-then-not-s : tie.Need-returns-then-not-s
+returns-then-not-s c =
+    let off : c.args.s.flag ≡ false = not-true _ c.if-not-s.true in
+    rw off (omega arith, omega arith)
 
 returns : tie.Need-returns
 returns c =
-    let off : c.before.before.args.s.flag ≡ false = not-true _ c.if1.true in
-    rw off (omega arith, omega arith)
+    let e = c in
+    let on : e.args.s.flag ≡ true = not-false _ e.if-not-s.false in
+    rw on (ap₂ ◌*◌ c.count.ensures c.count-2.ensures, few c)
 
-returns-2 : tie.Need-returns-2
-returns-2 c =
-    let e = c.before.before.before in
-    let on : e.before.before.args.s.flag ≡ true = not-false _ e.if1.false in
-    rw on (ap₂ ◌*◌ c.before.before.count.ensures c.count2.ensures, few c)
-
-pub cell-count-spec : {M : Type 1} → statement M
-cell-count-spec =
-    tie.close (tie.spec returns (λ c κs. search rules) (λ c. search rules) (λ c κs. search rules) (λ c. omega (arith, few c)) returns-2)
+pub cell_count_spec : {M : Type 1} → statement M
+cell_count_spec =
+    tie.close (tie.spec returns-then-not-s (λ c κs. search rules) (λ c. search rules) (λ c κs. search rules) (λ c. omega (arith, few c)) returns)

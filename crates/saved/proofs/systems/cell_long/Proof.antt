@@ -5,11 +5,11 @@ use borrow.Author.Tests.{eq-eqb, ne_eqb}
 use Rattle.saved.proofs.systems.cell_long.Statement.{statement}
 use Rattle.saved.proofs.systems.cell_long.Tie as tie
 
+returns-then-n-eq0 : tie.Need-returns-then-n-eq0
+returns-then-n-eq0 c = rw (eq-eqb c.args.n 0 c.if-n-eq0.true) (omega arith, omega arith)
+
 returns : tie.Need-returns
-returns c = rw (eq-eqb c.before.args.n 0 c.if1.true) (omega arith, omega arith)
+returns c = rw (ne_eqb c.args.n 0 c.if-n-eq0.false) (omega arith, omega arith)
 
-returns-2 : tie.Need-returns-2
-returns-2 c = rw (ne_eqb c.before.args.n 0 c.if1.false) (omega arith, omega arith)
-
-pub cell-long-spec : {M : Type 1} → statement M
-cell-long-spec = tie.close (tie.spec returns (λ c. search rules) returns-2)
+pub cell_long_spec : {M : Type 1} → statement M
+cell_long_spec = tie.close (tie.spec returns-then-n-eq0 (λ c. search rules) returns)

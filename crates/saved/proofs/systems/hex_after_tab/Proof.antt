@@ -10,16 +10,16 @@ use Rattle.saved.proofs.systems.hex_after_tab.Tie as tie
 
 hex-requires : tie.Need-hex-requires
 hex-requires c κs =
-    let p = c.before.before.before in
-    let x = p.before.before.before.args in
-    omega (arith, length_hex x.k x.word, p.put.ensures.0)
+    let p = c in
+    let x = p.args in
+    omega (arith, length_hex x.k x.word, p.put-from.ensures.0)
 
 returns : tie.Need-returns
 returns c =
     let h = c.before.before in
-    let p = h.before.before.before.before in
-    let x = p.before.before.before.args in
-    told (then_wrote (wrote x.line.now (tab ∷ []) p.put.ensures) (hex_wrote _ x.k x.word h.hex.ensures))
+    let p = h in
+    let x = p.args in
+    told (then_wrote (wrote x.line.now (tab ∷ []) p.put-from.ensures) (hex_wrote _ x.k x.word h.hex.ensures))
 
-pub hex-after-tab-spec : {M : Type 1} → statement M
-hex-after-tab-spec = tie.close (tie.spec (λ c κs. search rules) hex-requires (λ c. search rules) returns)
+pub hex_after_tab_spec : {M : Type 1} → statement M
+hex_after_tab_spec = tie.close (tie.spec (λ c κs. search rules) hex-requires (λ c. search rules) returns)

@@ -19,30 +19,30 @@ long c =
     let t = drop c.args.from c.args.strips.now in
     ap length (system_text_lem c.args.s t) ∙ length-append (front_text c.args.s) (tab ∷ cell_text (system_in c.args.s t).cells)
 
-front-requires : tie.Need-front-requires
-front-requires c κs = omega (arith, long c.before.before.before)
+front-first-requires : tie.Need-front-first-requires
+front-first-requires c κs = omega (arith, long c.before.before.before)
 
-put-requires : tie.Need-put-requires
-put-requires c κs =
+put-second-requires : tie.Need-put-second-requires
+put-second-requires c κs =
     let f = c.before.before.before in
-    omega (arith, long f.before.before.before.before, f.front.ensures.0)
+    omega (arith, long f.before.before.before.before, f.front-first.ensures.0)
 
-cell-text-requires : tie.Need-cell-text-requires
-cell-text-requires c κs =
+cell_text-requires : tie.Need-cell_text-requires
+cell_text-requires c κs =
     let p = c.before.before.before in
     let f = p.before.before.before.before in
     let s = f.before.before.before.before in
-    (s.requires.0, s.requires.1, omega (arith, long s, f.front.ensures.0, p.put.ensures.0))
+    (s.requires.0, s.requires.1, omega (arith, long s, f.front-first.ensures.0, p.put-second.ensures.0))
 
 returns : tie.Need-returns
 returns c =
     let t = c.before.before in
     let p = t.before.before.before.before in
-    let f = p.before.before.before.before in
-    let x = f.before.before.before.before.args in
+    let f = p in
+    let x = f.args in
     let strips = drop x.from x.strips.now in
     rw (system_text_lem x.s strips)
-    (told (then_wrote (wrote x.line.now (front_text x.s) f.front.ensures) (then_wrote (wrote _ (tab ∷ []) p.put.ensures) (wrote _ (cell_text (system_in x.s strips).cells) t.cell-text.ensures))))
+    (told (then_wrote (wrote x.line.now (front_text x.s) f.front-first.ensures) (then_wrote (wrote _ (tab ∷ []) p.put-second.ensures) (wrote _ (cell_text (system_in x.s strips).cells) t.cell_text.ensures))))
 
-pub system-spec : {M : Type 1} → statement M
-system-spec = tie.close (tie.spec front-requires put-requires cell-text-requires (λ c. search rules) returns)
+pub system_spec : {M : Type 1} → statement M
+system_spec = tie.close (tie.spec front-first-requires put-second-requires cell_text-requires (λ c. search rules) returns)
