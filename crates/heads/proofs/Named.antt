@@ -1,14 +1,13 @@
 -- What a view shows to a selection: the lines of those that it chooses, and whether it may name them, by their strips. Assumes nothing.
-use Rattle.bits.proofs.Words.{◌≡◌, refl, sym, ap, ◌∙◌, Bool, true, false, cond, List, ℕ, ◌+◌, ◌-◌, ◌^◌, ◌≤◌, arith, length, take}
+use Rattle.bits.proofs.Words.{◌≡◌, refl, sym, ap, ◌∙◌, Bool, true, false, cond, List, ℕ, ◌-◌, ◌^◌, ◌≤◌, arith, length, take}
 use Rattle.bits.specs.BitLists.{spell}
 use Rattle.bits.specs.Places.{field}
-use Rattle.format.specs.Masks.{Satellite, pick}
+use Rattle.format.specs.Masks.{pick}
 use Rattle.format.specs.Messages.{by_satellite, by_cell, nameable, lines_of}
 use Rattle.format.proofs.Picks.{pick_all, pick_front}
 use Rattle.heads.specs.Headings.{Shows, chosen_at}
 use Rattle.holding.specs.Held.{View, sky_in}
 use Rattle.rows.specs.Table.{shape_at}
-use Rattle.table.specs.declared.Keys.TheVariants.{Satellites, Cells}
 use Rattle.table.specs.declared.Layout.{Layout}
 use Rattle.table.specs.Bodies.{lines_over, all_set}
 use Rattle.table.specs.Kinds.{keys_for, keys_by}

@@ -1,5 +1,5 @@
 -- `heads::common` meets its contract. Assumes nothing.
-use Rattle.bits.proofs.Words.{sym, ◌∙◌, needs}
+use Rattle.bits.proofs.Words.{sym, ◌∙◌, rules}
 use Rattle.bits.specs.Short.{bits_of, widths_of}
 use Rattle.bits.proofs.Short.{field_short}
 use Rattle.format.proofs.Ends.{onward}
@@ -7,22 +7,19 @@ use Rattle.heads.proofs.Commons.{taken_whole, taken_short}
 use Rattle.heads.proofs.common.Statement.{statement}
 use Rattle.heads.proofs.common.Tie as tie
 
-returns : tie.Need-returns
-returns c =
-    let took = c.before.before.before.before in
-    λ bs opens. taken_whole (onward opens.within took.before.requires.1) 12 (sym (took.taken.ensures bs opens) ∙ c.before.before.taken2.given.1) c.parted.ensures
+returns-in-Whole : tie.Need-returns-in-Whole
+returns-in-Whole c =
+    λ bs opens. taken_whole (onward opens.within c.requires.1) 12 (sym (c.taken-taken.ensures bs opens) ∙ c.in-Whole.is) c.parted.ensures
 
-returns-2 : tie.Need-returns-2
+returns-in-Short : tie.Need-returns-in-Short
 unfolding widths_of
-returns-2 c =
-    let short = c.before.before.before in
-    let took = short.before.before in
-    λ bs opens. taken_short (onward opens.within took.before.requires.1) 12 (sym (took.taken.ensures bs opens) ∙ short.enum_told.given.1) c.short_by_lem.ensures
+returns-in-Short c =
+    λ bs opens. taken_short (onward opens.within c.requires.1) 12 (sym (c.taken-taken.ensures bs opens) ∙ c.in-Short.is) c.short_by.ensures
 
-pub common-spec : {M : Type 1} → statement M
+pub common_spec : {M : Type 1} → statement M
 unfolding bits_of widths_of
-common-spec =
+common_spec =
     tie.close
-    (tie.spec (λ c κs. search needs) (λ c. search needs) (λ c κs. search needs) (λ c. search needs) (λ c. search needs) (λ c. search needs)
-    (λ c κs. let short = c.before.before in let took = short.before.before in (field_short _ _ _ 21 _ (sym (took.taken.ensures _ took.before.requires.0.opens) ∙ short.enum_told.given.1)).0)
-    returns returns-2)
+    (tie.spec (λ c κs. search rules) (λ c. search rules) (λ c κs. search rules) (λ c. search rules) (λ c. search rules) (λ c. search rules)
+    (λ c κs. let short = c.before.before in let took = short in (field_short _ _ _ 21 _ (sym (took.taken-taken.ensures _ took.requires.0.opens) ∙ c.in-Short.is)).0)
+    returns-in-Whole returns-in-Short)

@@ -4,6 +4,6 @@ use Rattle.heads.specs.Heads.{head_from}
 use Rattle.heads.proofs.parted.Statement.{statement}
 use Rattle.heads.proofs.parted.Tie as tie
 
-pub parted-spec : {M : Type 1} → statement M
+pub parted_spec : {M : Type 1} → statement M
 unfolding head_from
-parted-spec = tie.close (tie.spec (λ c. search rules))
+parted_spec = tie.close (tie.spec (λ c. search rules))

@@ -1,5 +1,5 @@
 -- `heads::heading::by_flags` meets its contract. Assumes nothing.
-use Rattle.bits.proofs.Words.{◌≡◌, sym, ap, subst, ℕ, ◌+◌, ◌-◌, ◌/◌, ◌%◌, ◌^◌, ◌<◌, arith, needs, eqb, pos}
+use Rattle.bits.proofs.Words.{◌≡◌, sym, ap, subst, ℕ, ◌+◌, ◌-◌, ◌/◌, ◌%◌, ◌^◌, ◌<◌, arith, rules, eqb, pos}
 use mir.Facts.{to_z_pos}
 use mir.Syntax.{w32}
 use Rattle.bits.proofs.BitLists.{digit_eqb}
@@ -28,48 +28,48 @@ by_half shape flags small =
     rw (first, second) (ap (λ (i : ℕ). shape_at (shape + i)) (omega arith))
 
 -- the head that was made
-module _ (c : tie.After-head) where
+module _ (c : tie.After-head-numbers) where
   abbrev start : tie.Start
   start = c.before.before.before.before
 
-  made : c.head.result ≡ head_with start.args.under.subtype start.args.h (pos (start.args.flags / 4)) (pos (start.args.flags / 2 % 2)) absent
+  made : c.head-numbers.result ≡ head_with start.args.under.subtype start.args.h (pos (start.args.flags / 4)) (pos (start.args.flags / 2 % 2)) absent
   made =
       let flags = start.args.flags in
-      rw (to_z_pos w32 {n = flags / 4} (omega (arith, start.pre.5)), to_z_pos w32 {n = flags / 2 % 2} (omega arith)) at c.head.ensures
+      rw (to_z_pos w32 {n = flags / 4} (omega (arith, start.requires.5)), to_z_pos w32 {n = flags / 2 % 2} (omega arith)) at c.head-numbers.ensures
 
   -- its shape is one by two flags
   fits : (chosen : ℕ) → FitsKeys (keys_for start.args.under.layout.cells chosen) (start.args.under.layout.shape + start.args.flags / 2)
-  fits chosen = start.pre.3.of_flags start.pre.4 (start.args.flags / 2) (omega (arith, start.pre.5)) chosen
+  fits chosen = start.requires.3.of_flags start.requires.4 (start.args.flags / 2) (omega (arith, start.requires.5)) chosen
 
-returns : tie.Need-returns
+returns-then-flags-ne0 : tie.Need-returns-then-flags-ne0
 unfolding sky_in after_flags network_by rowed networked head_with head_of flagged_body
-returns c =
+returns-then-flags-ne0 c =
     let p = c.before.before in
     let s = start p in
     let x = s.args in
-    let one : x.flags % 2 ≡ 1 = omega (arith, c.before.if1.true) in
+    let one : x.flags % 2 ≡ 1 = omega (arith, c.if-flags-ne0.true) in
     let said = rw (made p) at c.selection.ensures.0 in (
-      λ v shows. rw (one, by_half x.under.layout.shape x.flags s.pre.5) (said v shows),
-      subst (λ (b : Body). Bodied b c.selection.result) (sym (rw (ne_eqb (x.flags % 2) 0 c.before.if1.true))) c.selection.ensures.1,
+      λ v shows. rw (one, by_half x.under.layout.shape x.flags s.requires.5) (said v shows),
+      subst (λ (b : Body). Bodied b c.selection.result) (sym (rw (ne_eqb (x.flags % 2) 0 c.if-flags-ne0.true))) c.selection.ensures.1,
     )
 
-returns-2 : tie.Need-returns-2
+returns : tie.Need-returns
 unfolding said_by FitsHeading HasBody flagged_body lines_in sky_in after_flags selection ◌>>=◌ head_with
-returns-2 c =
+returns c =
     let o = c.before in
     let p = o.before.before in
     let s = start p in
     let x = s.args in (
       λ v shows.
-          rw (made p, o.before.if1.false, by_half x.under.layout.shape x.flags s.pre.5, done_end, all_lines shows x.under.layout (x.under.layout.shape + x.flags / 2), o.over.ensures),
+          rw (made p, o.if-flags-ne0.false, by_half x.under.layout.shape x.flags s.requires.5, done_end, all_lines shows x.under.layout (x.under.layout.shape + x.flags / 2), o.over-keys.ensures),
       record {
-        fits = rw o.over.ensures (fits p (2 ^ 64 - 1));
-        this = rw (eq-eqb (x.flags % 2) 0 o.before.if1.false) (λ i. record { keys = o.over.ensures i; shape = x.under.layout.shape + x.flags / 2 });
+        fits = rw o.over-keys.ensures (fits p (2 ^ 64 - 1));
+        this = rw (eq-eqb (x.flags % 2) 0 o.if-flags-ne0.false) (λ i. record { keys = o.over-keys.ensures i; shape = x.under.layout.shape + x.flags / 2 });
       },
     )
 
-pub by-flags-spec : {M : Type 1} → statement M
-by-flags-spec =
+pub by_flags_spec : {M : Type 1} → statement M
+by_flags_spec =
     tie.close
-    (tie.spec (λ c. search needs) (λ c. search needs) (λ c. search needs) (λ c κs. search needs)
-    (λ c κs. let p = (start c.before).pre in (p.1, p.2, fits c.before, p.7, p.8)) returns (λ c κs. search needs) (λ c. search needs) returns-2)
+    (tie.spec (λ c. search rules) (λ c. search rules) (λ c. search rules) (λ c κs. search rules)
+    (λ c κs. let p = (start c.before).requires in (p.1, p.2, fits c.before, p.7, p.8)) returns-then-flags-ne0 (λ c κs. search rules) (λ c. search rules) returns)

@@ -1,5 +1,5 @@
 -- `heads::heading::flagged` meets its contract. Assumes nothing.
-use Rattle.bits.proofs.Words.{◌≡◌, sym, ap, subst, ◌∙◌, ℕ, ◌+◌, arith, needs}
+use Rattle.bits.proofs.Words.{◌≡◌, sym, ap, subst, ◌∙◌, ℕ, ◌+◌, arith, rules}
 use Rattle.bits.specs.declared.read.Taken.TheVariants.{Whole}
 use Rattle.bits.specs.Short.{taken_at, bits_of, widths_of}
 use Rattle.bits.proofs.Short.{field_whole, field_short}
@@ -13,35 +13,32 @@ use Rattle.heads.proofs.heading.flagged.Tie as tie
 use Rattle.holding.specs.Held.{sky_in}
 
 -- the three flags, where they are there
-module _ (c : tie.After-known-told) where
+module _ (c : tie.In-Whole) where
   abbrev s : tie.Start
-  s = c.before.before.before.before.before.before
+  s = c.before.before.before.before
 
-  there : taken_at s.args.bytes.now s.args.f.end (s.args.f.start + 37) 3 ≡ Whole c.before.taken2.given.0.0
-  there = sym (c.before.before.before.taken.ensures _ s.pre.7) ∙ c.before.taken2.given.1
+  there : taken_at s.args.bytes.now s.args.f.end (s.args.f.start + 37) 3 ≡ Whole c.in-Whole.flags
+  there = sym (c.taken-taken.ensures _ s.requires.7) ∙ c.in-Whole.is
 
-returns : tie.Need-returns
+returns-in-Short : tie.Need-returns-in-Short
 unfolding said_by FitsHeading HasBody widths_of
-returns c =
-    let short = c.before.before.before in
-    let took = short.before.before in
-    let s = took.before.before.before in
-    let e = sym (took.taken.ensures _ s.requires.7) ∙ short.enum_told.given.1 in
-    (λ v shows. ap (badly Refusal.Short) c.short_by_lem.ensures ∙ sym (flags_short s.requires.6 s.args.under s.args.h (sky_in v) e), record { fits = tt; this = tt })
+returns-in-Short c =
+    let e = sym (c.taken-taken.ensures _ c.requires.7) ∙ c.in-Short.is in
+    (λ v shows. ap (badly Refusal.Short) c.short_by.ensures ∙ sym (flags_short c.requires.6 c.args.under c.args.h (sky_in v) e), record { fits = tt; this = tt })
 
-returns-2 : tie.Need-returns-2
-returns-2 c =
+returns-in-Whole : tie.Need-returns-in-Whole
+returns-in-Whole c =
     let s = s c.before in
     let next : s.args.f.start + 40 ≡ s.args.f.start + 37 + 3 = omega arith in
     let said = rw next at c.by_flags.ensures.0 in
-    (λ v shows. said v shows ∙ sym (flags_there s.pre.6 s.args.under s.args.h (sky_in v) (there c.before)), subst (λ (flags : ℕ). Bodied (flagged_body s.args.bytes.now s.args.f.start s.args.under.n s.args.under.layout flags) c.by_flags.result) (field_whole _ _ _ 3 _ (there c.before)).1 c.by_flags.ensures.1)
+    (λ v shows. said v shows ∙ sym (flags_there s.requires.6 s.args.under s.args.h (sky_in v) (there c.before)), subst (λ (flags : ℕ). Bodied (flagged_body s.args.bytes.now s.args.f.start s.args.under.n s.args.under.layout flags) c.by_flags.result) (field_whole _ _ _ 3 _ (there c.before)).1 c.by_flags.ensures.1)
 
-pub flagged-spec : {M : Type 1} → statement M
+pub flagged_spec : {M : Type 1} → statement M
 unfolding bits_of widths_of
-flagged-spec =
+flagged_spec =
     tie.close
-    (tie.spec (λ c κs. search needs) (λ c. search needs) (λ c. search needs) (λ c. search needs)
-    (λ c κs. let short = c.before.before in let took = short.before.before in (field_short _ _ _ 3 _ (sym (took.taken.ensures _ took.before.before.before.requires.7) ∙ short.enum_told.given.1)).0)
-    (λ c. search needs)
-    (λ c κs. let p = (s c).requires in (p.0, p.1, p.2, p.3, p.4, fits p.6 3 (there c), p.5, onward p.6 (omega (arith, after_field p.6 3 (there c))), p.7)) returns
-    returns-2)
+    (tie.spec (λ c κs. search rules) (λ c. search rules) (λ c. search rules) (λ c. search rules)
+    (λ c κs. (field_short _ _ _ 3 _ (sym (c.taken-taken.ensures _ c.requires.7) ∙ c.in-Short.is)).0)
+    (λ c. search rules)
+    (λ c κs. let p = (s c).requires in (p.0, p.1, p.2, p.3, p.4, fits p.6 3 (there c), p.5, onward p.6 (omega (arith, after_field p.6 3 (there c))), p.7)) returns-in-Short
+    returns-in-Whole)

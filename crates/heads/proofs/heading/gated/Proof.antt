@@ -1,5 +1,5 @@
 -- `heads::heading::gated` meets its contract. Assumes nothing.
-use Rattle.bits.proofs.Words.{◌≡◌, sym, ap, subst, ◌∙◌, true, false, ℕ, ◌+◌, arith, needs}
+use Rattle.bits.proofs.Words.{◌≡◌, sym, ap, subst, ◌∙◌, true, false, ℕ, ◌+◌, arith, rules}
 use borrow.Author.Tests.{eq-eqb, ne_eqb, not-true, not-false}
 use Rattle.format.specs.Masks.{Sky}
 use Rattle.format.specs.Messages as Messages
@@ -36,46 +36,44 @@ behind_flags : (n : ℕ) (l : Layout) (sky : Sky) (h : Messages.Common) → l.fl
 unfolding program_by
 behind_flags n l sky h e = rw e
 
-returns-2 : tie.Need-returns-2
+returns-then-h-under : tie.Need-returns-then-h-under
 unfolding gated_by gate_by common_of require ◌>>◌ ◌>>=◌ said_by FitsHeading HasBody end_from run later
-returns-2 c =
-    let x = c.before.before.before.before.before.before.before.args in
-    (λ v shows. rw (not-false x.under.held c.before.before.before.if1.false, ne_eqb x.h.iod x.under.iod c.if2.true), record { fits = tt; this = tt })
+returns-then-h-under c =
+    let x = c.args in
+    (λ v shows. rw (not-false x.under.held c.if-not-under.false, ne_eqb x.h.iod x.under.iod c.if-h-under.true), record { fits = tt; this = tt })
 
-returns-3 : tie.Need-returns-3
+returns-then-under : tie.Need-returns-then-under
 unfolding masked_body
-returns-3 c =
-    let x = c.before.before.before.before.before.before.before.before.before.args in (
+returns-then-under c =
+    let x = c.args in (
       λ v shows.
           let program =
-          passed x.under x.h (sky_in v) (not-false x.under.held c.before.before.before.before.before.if1.false) c.before.before.if2.false
-          ∙ behind_flags x.under.subtype x.under.layout (sky_in v) (common_of x.h) c.before.if3.true in
+          passed x.under x.h (sky_in v) (not-false x.under.held c.if-not-under.false) c.if-h-under.false
+          ∙ behind_flags x.under.subtype x.under.layout (sky_in v) (common_of x.h) c.if-under.true in
           c.flagged.ensures.0 v shows ∙ ap (λ (p : Program Messages.Heading). end_from p x.bytes.now x.f.end (x.f.start + 37)) (sym program),
-      subst (λ (b : Body). Bodied b c.flagged.result) (sym (rw c.before.if3.true)) c.flagged.ensures.1,
+      subst (λ (b : Body). Bodied b c.flagged.result) (sym (rw c.if-under.true)) c.flagged.ensures.1,
     )
 
-returns-4 : tie.Need-returns-4
+returns : tie.Need-returns
 unfolding said_by FitsHeading HasBody masked_body lines_in rows_alone head_with
-returns-4 c =
-    let o = c.before in
-    let s = o.before.before.before.before.before.before.before.before.before.before in
-    let x = s.args in (
+returns c =
+    let x = c.args in (
       λ v shows.
           rw (
-            passed x.under x.h (sky_in v) (not-false x.under.held o.before.before.before.before.before.before.if1.false) o.before.before.before.if2.false,
-            alone x.under.subtype x.under.layout (sky_in v) (common_of x.h) o.before.before.if3.false,
-            o.before.head.ensures,
-            o.over.ensures,
+            passed x.under x.h (sky_in v) (not-false x.under.held c.if-not-under.false) c.if-h-under.false,
+            alone x.under.subtype x.under.layout (sky_in v) (common_of x.h) c.if-under.false,
+            c.head-numbers.ensures,
+            c.over-keys.ensures,
             alone_lines x.under.layout v (omega (arith, shows.count, shows.few)) (rw shows.strips shows.most),
             done_end,
           ),
-      record { fits = rw o.over.ensures (s.requires.3.fits _); this = rw o.before.before.if3.false (λ i. record { keys = o.over.ensures i; shape = x.under.layout.shape }) },
+      record { fits = rw c.over-keys.ensures (c.requires.3.fits _); this = rw c.if-under.false (λ i. record { keys = c.over-keys.ensures i; shape = x.under.layout.shape }) },
     )
 
-pub gated-spec : {M : Type 1} → statement M
+pub gated_spec : {M : Type 1} → statement M
 unfolding gated_by gate_by ◌>>◌ ◌>>=◌ said_by FitsHeading HasBody end_from run later
-gated-spec =
+gated_spec =
     tie.close
-    (tie.spec (λ c. let x = c.before.before.before.before.args in (λ v shows. rw (not-true x.under.held c.if1.true), record { fits = tt; this = tt })) (λ c. search needs) returns-2
-    (λ c κs. let s = c.before.before.before.before.before.before.before.before in (s.requires.0, s.requires.1, s.requires.2, s.requires.3, c.if3.true, s.requires.4, s.requires.5, s.requires.6))
-    returns-3 (λ c κs. search needs) (λ c κs. search needs) (λ c. search needs) returns-4)
+    (tie.spec (λ c. let x = c.args in (λ v shows. rw (not-true x.under.held c.if-not-under.true), record { fits = tt; this = tt })) (λ c. search rules) returns-then-h-under
+    (λ c κs. let p = c.requires in (p.0, p.1, p.2, p.3, c.if-under.true, p.4, p.5, p.6))
+    returns-then-under (λ c κs. search rules) (λ c κs. search rules) (λ c. search rules) returns)

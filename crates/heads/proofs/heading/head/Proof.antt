@@ -1,6 +1,6 @@
 -- `heads::heading::head` meets its contract.
 -- Assumes nothing.
-use Rattle.bits.proofs.Words.{arith, needs}
+use Rattle.bits.proofs.Words.{arith, rules}
 use mir.Facts.{to_z-of_z, to_z_pos}
 use mir.Syntax.{w32}
 use Rattle.format.specs.Messages.{head_of}
@@ -12,9 +12,9 @@ use Rattle.heads.proofs.heading.head.Tie as tie
 returns : tie.Need-returns
 unfolding head_with head_of common_of
 returns c =
-    let x = c.before.before.before.before.args in
-    let fits = c.before.before.before.before.ranges in
-    let small = c.before.before.before.before.requires.1 in
+    let x = c.args in
+    let fits = c.ranges in
+    let small = c.requires.1 in
     rw (
       to_z-of_z fits.a,
       to_z-of_z fits.b,
@@ -28,4 +28,4 @@ returns c =
 
 pub head_spec : {M : Type 1} → statement M
 head_spec = tie.close
-    (tie.spec (λ c. search needs) (λ c. search needs) (λ c. search needs) (λ c. search needs) (λ c. search needs) returns)
+    (tie.spec (λ c. search rules) (λ c. search rules) (λ c. search rules) (λ c. search rules) (λ c. search rules) returns)

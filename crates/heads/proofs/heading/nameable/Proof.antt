@@ -1,13 +1,12 @@
 -- `heads::heading::nameable` meets its contract. Assumes nothing.
-use Rattle.bits.proofs.Words.{sym, needs}
-use borrow.Author.Tests.{not-true, not-false}
+use Rattle.bits.proofs.Words.{sym, rules}
 use lib.Seq.{length-take-le}
 use Rattle.heads.proofs.heading.nameable.Statement.{statement}
 use Rattle.heads.proofs.heading.nameable.Tie as tie
 
-pub nameable-spec : {M : Type 1} → statement M
-nameable-spec =
+pub nameable_spec : {M : Type 1} → statement M
+nameable_spec =
     tie.close
-    (tie.spec (λ c. rw (not-true c.before.before.args.cells c.if1.true))
-    (λ c. sym (length-take-le _ _ c.before.before.before.requires)) (λ c κs. search needs)
-    (λ c. rw (not-false c.before.before.before.before.args.cells c.before.before.if1.false) c.celled.ensures))
+    (tie.spec (λ c. rw c.if-not-cells.true)
+    (λ c. sym (length-take-le _ _ c.requires)) (λ c κs. search rules)
+    (λ c. rw c.if-not-cells.false c.celled.ensures))

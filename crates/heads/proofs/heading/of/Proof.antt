@@ -19,8 +19,8 @@ unfolding said_by FitsHeading HasBody body_for heading_for end_from run later
 of_spec =
     tie.close
     (tie.spec (λ c. search rules) (λ c. search rules) (λ c. search rules)
-    (λ c κs. let p = c.before.before.before.before.requires in (record { bytes = _; opens = p.5 }, p.4.room)) (λ c. search rules)
-    (λ c κs. let pre = c.before.before.before.before.before.requires in let known = c.before.kind.given in (pre.0, pre.1, pre.2, laid known.0.0 (rw known.1 at pre.3), pre.4, pre.5))
-    (λ c. (λ v shows. rw c.enum_told.given.1, record { fits = tt; this = tt })) (λ c. (λ v shows. rw c.enum-told2.given.1, record { fits = tt; this = tt }))
-    (λ c. (λ v shows. rw c.before.enum-told3.given.1 (c.packet.ensures.0 _ c.before.before.before.before.before.requires.5 v), rw c.before.enum-told3.given.1 (c.packet.ensures.1 _ c.before.before.before.before.before.requires.5)))
-    (λ c. (λ v shows. rw c.before.before.kind.given.1 (c.masked.ensures.0 v shows), rw c.before.before.kind.given.1 c.masked.ensures.1)))
+    (λ c κs. let p = c.requires in (record { bytes = _; opens = p.5 }, p.4.room)) (λ c. search rules)
+    (λ c κs. let pre = c.requires in (pre.0, pre.1, pre.2, laid c.in-Masked.layout (rw c.in-Masked.is at pre.3), pre.4, pre.5))
+    (λ c. (λ v shows. rw c.in-Other.is, record { fits = tt; this = tt })) (λ c. (λ v shows. rw c.in-Mask.is, record { fits = tt; this = tt }))
+    (λ c. (λ v shows. rw c.in-Packet.is (c.packet.ensures.0 _ c.requires.5 v), rw c.in-Packet.is (c.packet.ensures.1 _ c.requires.5)))
+    (λ c. (λ v shows. rw c.in-Masked.is (c.masked.ensures.0 v shows), rw c.in-Masked.is c.masked.ensures.1)))

@@ -1,5 +1,5 @@
 -- `heads::heading::packet` meets its contract. Assumes nothing.
-use Rattle.bits.proofs.Words.{◌≡◌, refl, sym, ap, ◌∙◌, List, ℕ, ◌+◌, ◌/◌, ◌%◌, ◌<◌, add-one, arith, needs}
+use Rattle.bits.proofs.Words.{◌≡◌, refl, sym, ap, ◌∙◌, List, ℕ, ◌+◌, ◌/◌, ◌%◌, ◌<◌, add-one, arith, rules}
 use mir.Facts.{to_z_pos}
 use mir.Syntax.{w32}
 use Rattle.bits.specs.declared.read.Taken.{Taken}
@@ -19,41 +19,40 @@ use Rattle.table.specs.declared.Keys.TheVariants.{Parts}
 use Rattle.table.specs.Bodies.{lines_in, lines_over, FitsKeys}
 
 -- the six bits as they were taken, of any string with this front
-module _ (c : tie.After-taken) where
+module _ (c : tie.After-taken-taken) where
   abbrev start : tie.Start
   start = c.before.before
 
   module _ {bs : List ℕ} (opens : Opens bs start.args.f) where
     at : Within bs start.args.f.end (start.args.f.start + 16)
-    at = onward opens.within start.pre.1
+    at = onward opens.within start.requires.1
 
-    is : {t : Taken} → c.taken.result ≡ t → taken_at bs start.args.f.end (start.args.f.start + 16) 6 ≡ t
-    is e = sym (c.taken.ensures bs opens) ∙ e
+    is : {t : Taken} → c.taken-taken.result ≡ t → taken_at bs start.args.f.end (start.args.f.start + 16) 6 ≡ t
+    is e = sym (c.taken-taken.ensures bs opens) ∙ e
 
-returns : tie.Need-returns
+returns-in-Short : tie.Need-returns-in-Short
 unfolding said_by FitsHeading HasBody widths_of
-returns c =
-    let short = c.before.before in
-    let took = short.before.before in
-    (λ bs opens v. ap (badly Refusal.Short) c.short_by_lem.ensures ∙ sym (packet_short (at took opens) (is took opens short.enum_told.given.1)), λ bs opens. record { fits = tt; this = tt })
+returns-in-Short c =
+    let took = c.before.before.before in
+    (λ bs opens v. ap (badly Refusal.Short) c.short_by.ensures ∙ sym (packet_short (at took opens) (is took opens c.in-Short.is)), λ bs opens. record { fits = tt; this = tt })
 
 -- where they are there
-module _ (c : tie.After-known-told) where
-  abbrev took : tie.After-taken
-  took = c.before.before.before
+module _ (c : tie.In-Whole) where
+  abbrev took : tie.After-taken-taken
+  took = c.before
 
   abbrev n : ℕ
-  n = c.before.taken2.given.0.0
+  n = c.in-Whole.n
 
   small : n < 64
-  small = let o = (start took).pre.0.opens in fits (at took o) 6 (is took o c.before.taken2.given.1)
+  small = let o = (start took).requires.0.opens in fits (at took o) 6 (is took o c.in-Whole.is)
 
-returns-2 : tie.Need-returns-2
+returns-in-Whole : tie.Need-returns-in-Whole
 unfolding said_by FitsHeading HasBody packet_body FitsKeys lines_in lines_over packet_of packet_heading
-returns-2 c = (
+returns-in-Whole c = (
   λ bs opens v.
       rw (
-        packet_there (at (took c) opens) (is (took c) opens c.before.taken2.given.1),
+        packet_there (at (took c) opens) (is (took c) opens c.in-Whole.is),
         to_z_pos w32 {n = n c / 32} (omega (arith, small c)),
         to_z_pos w32 {n = n c / 4 % 8} (omega arith),
         to_z_pos w32 {n = n c % 4} (omega arith),
@@ -62,15 +61,15 @@ returns-2 c = (
   λ bs opens.
       record {
         fits = (omega arith, refl);
-        this = ap (λ (k : ℕ). record { keys = Parts (k % 4 + 1); shape = 7 }) (field_whole _ _ _ 6 _ (is (took c) opens c.before.taken2.given.1)).1;
+        this = ap (λ (k : ℕ). record { keys = Parts (k % 4 + 1); shape = 7 }) (field_whole _ _ _ 6 _ (is (took c) opens c.in-Whole.is)).1;
       },
 )
 
-pub packet-spec : {M : Type 1} → statement M
+pub packet_spec : {M : Type 1} → statement M
 unfolding bits_of widths_of
-packet-spec =
+packet_spec =
     tie.close
-    (tie.spec (λ c. search needs) (λ c κs. search needs) (λ c. search needs) (λ c. search needs)
-    (λ c κs. let took = c.before.before.before in (field_short _ _ _ 6 _ (is took (start took).requires.0.opens c.before.enum_told.given.1)).0)
-    (λ c. search needs) (λ c. record { sfits = omega (arith, small c) }) (λ c. search needs) (λ c. search needs) (λ c. search needs) (λ c. search needs) returns
-    returns-2)
+    (tie.spec (λ c. search rules) (λ c κs. search rules) (λ c. search rules) (λ c. search rules)
+    (λ c κs. let took = c.before.before in (field_short _ _ _ 6 _ (is took (start took).requires.0.opens c.in-Short.is)).0)
+    (λ c. search rules) (λ c. record { sfits = omega (arith, small c) }) (λ c. search rules) (λ c. search rules) (λ c. search rules) (λ c. search rules) returns-in-Short
+    returns-in-Whole)

@@ -8,8 +8,8 @@ use Rattle.heads.proofs.heading.with_network.Tie as tie
 returns : tie.Need-returns
 unfolding networked
 returns c =
-    let h = c.before.args.h in
-    let told = c.struct_told.given in
+    let h = c.args.h in
+    let told = c.struct_told-1.given in
     rw (
       to_z-of_z {w = w32} {z = h.subtype} (record { sfits = told.0.1 }),
       to_z-of_z {w = w32} {z = h.epoch} (record { sfits = told.1.0.1 }),
@@ -18,8 +18,8 @@ returns c =
       to_z-of_z {w = w32} {z = h.iod} (record { sfits = told.1.1.1.1.0.1 }),
       to_z-of_z {w = w32} {z = h.a} (record { sfits = told.1.1.1.1.1.0.1 }),
       to_z-of_z {w = w32} {z = h.b} (record { sfits = told.1.1.1.1.1.1.0.1 }),
-      to_z-of_z c.before.ranges.network,
+      to_z-of_z c.ranges.network,
     )
 
-pub with-network-spec : {M : Type 1} → statement M
-with-network-spec = tie.close (tie.spec returns)
+pub with_network_spec : {M : Type 1} → statement M
+with_network_spec = tie.close (tie.spec returns)
