@@ -104,8 +104,10 @@ module _ {numbers : List ℤ} {cells : Bool} {strips : List ℕ} {all : Told} wh
       → Telling numbers cells strips all ys (told_after numbers (owns_from cells strips t xs) xs t)
   unfolding told_after
   telling_all [] ys g = g
-  telling_all (x ∷ xs) ys g =
-      subst (λ (u : Told). Telling numbers cells strips all ys u) (sym (after_next cells g.tells (covers_first (x ∷ xs) ys g.covers))) (telling_all xs ys (telling_first g))
+  telling_all {t = t} (x ∷ xs) ys g =
+      let own : ℕ = own_at cells strips t.next in
+      subst (λ (u : Told). Telling numbers cells strips all ys u) (sym (after_next cells g.tells (covers_first (x ∷ xs) ys g.covers)))
+      (telling_all {t = told_by (has_row numbers t.at own x) own t} xs ys (telling_first g))
 
 module _ {numbers : List ℤ} {cells : Bool} {strips : List ℕ} {all : Told} {left : List Satellite} {t : Told} (g : Telling numbers cells strips all left t) where
   -- one satellite

@@ -15,11 +15,11 @@ module _ (s : tie.Start) where
   known = raises s.args.c s.args.v s.requires.0 s.requires.1
 
   half_small : s.args.c.half < 2 ^ 16
-  half_small = omega (arith, (bounded s.args.c s.pre.0).half)
+  half_small = omega (arith, (bounded s.args.c s.requires.0).half)
 
   -- the sum, as code has it
   sum : to_z w32 (of_z w32 s.args.v) +ℤ to_z w32 s.args.c.half ≡ pos (raised s.args.c.half s.args.v)
-  sum = let h : s.args.c.half < 2 ^ 31 = omega (arith, half_small) in rw (to_z-of_z s.fits.v, to_z_pos w32 h) known.sum
+  sum = let h : s.args.c.half < 2 ^ 31 = omega (arith, half_small) in rw (to_z-of_z s.ranges.v, to_z_pos w32 h) known.sum
 
   -- which is a number of code
   low : raised s.args.c.half s.args.v < 2 ^ 31
@@ -29,20 +29,20 @@ module _ (s : tie.Start) where
   masked_small : (mask : ℕ) → bit_and (raised s.args.c.half s.args.v + s.args.c.half) mask < 2 ^ 64
   masked_small mask = let h = s.args.c.half in omega (arith, low, half_small, and_le_l (raised h s.args.v + h) mask)
 
-cast-raised-2 : tie.Need-overflow-cast-raised-2
-cast-raised-2 c = let s = c.before in rw (sum s, to_z_pos w32 (low s)) (tt, omega (arith, low s))
+overflow_cast-raised-2 : tie.Need-overflow_cast-raised-2
+overflow_cast-raised-2 c = let s = c.before in rw (sum s, to_z_pos w32 (low s)) (tt, omega (arith, low s))
 
-add-result : tie.Need-overflow-add-result
-add-result c = let s = c.before.before in rw (sum s, to_z_pos w32 (low s)) (record { fits = omega (arith, low s, half_small s) })
+overflow_add-result : tie.Need-overflow_add-result
+overflow_add-result c = let s = c.before.before in rw (sum s, to_z_pos w32 (low s)) (record { fits = omega (arith, low s, half_small s) })
 
-cast-result : tie.Need-overflow-cast-result
-cast-result c = let s = c.before.before.before in rw (sum s, to_z_pos w32 (low s)) (record { fits = masked_small s _ })
+overflow_cast-result : tie.Need-overflow_cast-result
+overflow_cast-result c = let s = c.before.before.before in rw (sum s, to_z_pos w32 (low s)) (record { fits = masked_small s _ })
 
 returns : tie.Need-returns
 returns c = let s = c.before.before.before in rw (sum s, to_z_pos w32 (low s)) (known s).bits
 
-pub column-bits-spec : {M : Type 1} → statement M
-column-bits-spec =
+pub column_bits_spec : {M : Type 1} → statement M
+column_bits_spec =
     tie.close
     (tie.spec (λ c. record { sfits = omega (arith, half_small c.before) }) (λ c. rw (sum c.before) (record { sfits = omega (arith, low c.before) }))
-    cast-raised-2 add-result cast-result returns)
+    overflow_cast-raised-2 overflow_add-result overflow_cast-result returns)

@@ -4,16 +4,16 @@ use Rattle.putting.proofs.row.paired.Statement.{statement}
 use Rattle.putting.proofs.row.paired.Tie as tie
 use Rattle.putting.specs.Putting.{pairs}
 
+returns-then-s : tie.Need-returns-then-s
+unfolding pairs
+returns-then-s c = rw c.if-s.true
+
 returns : tie.Need-returns
 unfolding pairs
-returns c = rw c.if1.true
+returns c = rw c.if-s.false
 
-returns-2 : tie.Need-returns-2
-unfolding pairs
-returns-2 c = rw c.before.before.if1.false
-
-pub paired-spec : {M : Type 1} → statement M
-paired-spec =
+pub paired_spec : {M : Type 1} → statement M
+paired_spec =
     tie.close
-    (tie.spec returns (λ c. let f = c.before.before.requires in record { fits = omega (arith, f.third.narrow, f.fourth.narrow) })
-    (λ c. let f = c.before.before.before.requires in record { fits = omega (arith, f.third.narrow, f.fourth.narrow, f.fifth.narrow) }) returns-2)
+    (tie.spec returns-then-s (λ c. let f = c.requires in record { fits = omega (arith, f.third.narrow, f.fourth.narrow) })
+    (λ c. let f = c.requires in record { fits = omega (arith, f.third.narrow, f.fourth.narrow, f.fifth.narrow) }) returns)

@@ -1,5 +1,5 @@
 -- `putting::row::put_last` meets its contract. Assumes nothing.
-use Rattle.bits.proofs.Words.{[], ◌∷◌, needs}
+use Rattle.bits.proofs.Words.{[], ◌∷◌, rules}
 use Rattle.pens.proofs.Pens.{Inks}
 use Rattle.putting.proofs.RowPens.{ends_shape, front_none, row_inks, push_ready, push_inks, pass_inks, inks_done}
 use Rattle.putting.proofs.row.put_last.Statement.{statement}
@@ -18,7 +18,7 @@ returns c =
     let l = q.before in
     inks_done (push_inks (passed l.before.before.before) l.last.ensures q.push.ensures.0 q.push.ensures.1)
 
-pub put-last-spec : {M : Type 1} → statement M
-put-last-spec =
+pub put_last_spec : {M : Type 1} → statement M
+put_last_spec =
     tie.close
-    (tie.spec (λ c κs. c.before.before.requires.1.valued) (λ c κs. push_ready (passed c.before.before.before) c.last.ensures) (λ c. search needs) returns)
+    (tie.spec (λ c κs. c.requires.1.valued) (λ c κs. push_ready (passed c.before.before.before) c.last.ensures) (λ c. search rules) returns)

@@ -1,37 +1,37 @@
 -- `putting::row::put_pairs` meets its contract. The loop's invariant: the rows that are left, from what stands. Assumes nothing.
-use Rattle.bits.proofs.Words.{List, ◌-◌, needs, ℤ}
+use Rattle.bits.proofs.Words.{List, ◌-◌, rules, ℤ}
 use Rattle.putting.proofs.OwnColumns.{Own, own_bare}
 use Rattle.putting.proofs.RowLoops.{Going, going_start, going_row, going_next, going_end, row_part}
 use Rattle.putting.proofs.RowPens.{pair_shape}
 use Rattle.putting.proofs.row.put_pairs.Statement.{statement}
 use Rattle.putting.proofs.row.put_pairs.Tie as tie
 
-abbrev invariant-loop : tie.invariant-loop
-invariant-loop bytes₀ rows count s p₀ i₀ bytes p i = Going s rows count p₀ bytes₀ i p bytes
+abbrev invariant-loop-i : tie.invariant-loop-i
+invariant-loop-i bytes₀ rows count s p₀ i₀ bytes p i = Going s rows count p₀ bytes₀ i p bytes
 
-abbrev decreases-loop : tie.decreases-loop
-decreases-loop bytes₀ rows count s p₀ i₀ bytes p i = count - i
+abbrev decreases-loop-i : tie.decreases-loop-i
+decreases-loop-i bytes₀ rows count s p₀ i₀ bytes p i = count - i
 
-own : (s : tie.Start invariant-loop decreases-loop) {row : List ℤ} → Own s.args.s row s.args.s
+own : (s : tie.Start invariant-loop-i decreases-loop-i) {row : List ℤ} → Own s.args.s row s.args.s
 own s = own_bare s.args.s s.requires.1.formed (pair_shape s.args.s s.requires.0).bare
 
-put-pair-requires : tie.Need-put-pair-requires invariant-loop decreases-loop
-put-pair-requires c κs =
+put_pair-p-requires : tie.Need-put_pair-p-requires invariant-loop-i decreases-loop-i
+put_pair-p-requires c κs =
     let t = c.before.before in
     let l = t.before in
     let s = l.before.before in
-    (s.requires.0, going_row l.loop.invariant t.loop-test.true (row_part s.args.rows.now l.loop.i) (own s))
+    (s.requires.0, going_row l.loop-i.invariant t.loop-i-test.true (row_part s.args.rows.now l.loop-i.i) (own s))
 
-loop-again : tie.Need-loop-preserved invariant-loop decreases-loop
+loop-again : tie.Need-loop-i-preserved invariant-loop-i decreases-loop-i
 loop-again c =
     let r = c.before.before in
     let t = r.before.before.before in
     let l = t.before in
     let s = l.before.before in
-    going_next l.loop.invariant t.loop-test.true (row_part s.args.rows.now l.loop.i) (own s) r.put-pair.ensures.0 r.put-pair.ensures.1
+    going_next l.loop-i.invariant t.loop-i-test.true (row_part s.args.rows.now l.loop-i.i) (own s) r.put_pair-p.ensures.0 r.put_pair-p.ensures.1
 
-pub put-pairs-spec : {M : Type 1} → statement M
-put-pairs-spec =
+pub put_pairs_spec : {M : Type 1} → statement M
+put_pairs_spec =
     tie.close
-    (tie.spec invariant-loop decreases-loop (λ c. going_start c.before.requires.1) (λ c. search needs) (λ c. search needs) (λ c. search needs) (λ c. search needs) (λ c. search needs) (λ c. search needs) put-pair-requires
-    (λ c. search needs) (λ c. search needs) loop-again (λ c. c.before.loop.invariant.inks.same) (λ c. going_end c.before.loop.invariant c.loop-test.false))
+    (tie.spec invariant-loop-i decreases-loop-i (λ c. going_start c.requires.1) (λ c. search rules) (λ c. search rules) (λ c. search rules) (λ c. search rules) (λ c. search rules) (λ c. search rules) put_pair-p-requires
+    (λ c. search rules) (λ c. search rules) loop-again (λ c. c.loop-i.invariant.inks.same) (λ c. going_end c.loop-i.invariant c.loop-i-test.false))

@@ -5,13 +5,13 @@ use Rattle.putting.proofs.OwnColumns.{galileo_key, other_key}
 use Rattle.putting.proofs.size.longer.Statement.{statement}
 use Rattle.putting.proofs.size.longer.Tie as tie
 
-returns : tie.Need-returns
+returns-then-system-eq-GALILEO : tie.Need-returns-then-system-eq-GALILEO
 unfolding iode_width
-returns c = let s = c.before in (sym (galileo_key s.args.system s.ranges.system c.if1.true), omega arith)
+returns-then-system-eq-GALILEO c = let s = c in (sym (galileo_key s.args.system s.ranges.system c.if-system-eq-GALILEO.true), omega arith)
 
-returns-2 : tie.Need-returns-2
+returns-else-system-eq-GALILEO : tie.Need-returns-else-system-eq-GALILEO
 unfolding iode_width
-returns-2 c = (sym (other_key c.before.args.system c.if1.false), omega arith)
+returns-else-system-eq-GALILEO c = (sym (other_key c.args.system c.if-system-eq-GALILEO.false), omega arith)
 
-pub longer-spec : {M : Type 1} → statement M
-longer-spec = tie.close (tie.spec returns returns-2)
+pub longer_spec : {M : Type 1} → statement M
+longer_spec = tie.close (tie.spec returns-then-system-eq-GALILEO returns-else-system-eq-GALILEO)

@@ -1,5 +1,5 @@
 -- `putting::values::pair` meets its contract. Assumes nothing.
-use Rattle.bits.proofs.Words.{[], ◌∷◌, ℕ, ◌+◌, ◌≤◌, arith, needs, get_or, ℤ, pos}
+use Rattle.bits.proofs.Words.{[], ◌∷◌, ℕ, ◌+◌, ◌≤◌, arith, rules, get_or, ℤ, pos}
 use Rattle.format.specs.Rows.{Column, shape_width}
 use Rattle.rows.proofs.Columns.{width_of_lem}
 use Rattle.rows.specs.Shapes.{column_of}
@@ -23,24 +23,24 @@ module _ (s : tie.Start) where
   at k = get_or s.args.row.now k (pos 0)
 
   each : FourFit first second (column_of s.args.s.v3) (column_of s.args.s.v4) (at 3) (at 4) (at 5) (at 6)
-  each = four_fit s.args.row.now s.pre.1.eight first second _ _ (front_fits s.pre.1)
+  each = four_fit s.args.row.now s.requires.1.eight first second _ _ (front_fits s.requires.1)
 
   room : shape_width (first ∷ []) + s.args.s.v2.width ≤ 56
   unfolding shape_width
-  room = omega (arith, s.pre.1.formed.window, width_of_lem s.args.s.v1)
+  room = omega (arith, s.requires.1.formed.window, width_of_lem s.args.s.v1)
 
-one : (c : tie.After-column-bits) → let s = c.before.before.before in Joined (first s ∷ []) (at s 3 ∷ []) c.column-bits.result
+one : (c : tie.After-column_bits) → let s = c.before.before.before in Joined (first s.before ∷ []) (at s.before 3 ∷ []) c.column_bits.result
 one c =
     let s = c.before.before.before in
-    joined_one s.args.s.v1 (at s 3) (each s).first (rw (value_read (at s 3) c.before.column-bits-arg.given) at c.column-bits.ensures)
+    joined_one s.args.s.v1 (at s.before 3) (each s.before).first (rw (value_read (at s.before 3) c.column_bits-arg-1.given) at c.column_bits.ensures)
 
 -- both, in front of two gaps
 module _ (c : tie.After-with) where
   abbrev start : tie.Start
-  start = c.before.before.before.before.before
+  start = c.before.before.before.before.before.before.before
 
   both : Joined (first start ∷ second start ∷ []) (at start 3 ∷ at start 4 ∷ []) c.with.result
-  both = joined_more (one c.before.before) start.args.s.v2 (at start 4) (each start).second (rw (value_read (at start 4) c.before.with-arg.given) at c.with.ensures)
+  both = joined_more (one c.before.before.before) start.args.s.v2 (at start 4) (each start).second (rw (value_read (at start 4) c.with-arg-1.given) at c.with.ensures)
 
   all : Joined (four_columns start.args.s) (at start 3 ∷ at start 4 ∷ at start 5 ∷ at start 6 ∷ []) c.with.result
   all =
@@ -54,8 +54,8 @@ returns c =
 pub pair_spec : {M : Type 1} → statement M
 pair_spec =
     tie.close
-    (tie.spec (λ c. search needs) (λ c. search needs)
-    (λ c κs. let s = c.before.before in (s.requires.1.formed.first, fits_read (at s 3) c.column-bits-arg.given (first s) (each s).first))
-    (λ c. search needs)
-    (λ c κs. let s = c.before.before.before.before in (joined_room (one c.before) s.args.s.v2.width (room s), s.requires.1.formed.second, fits_read (at s 4) c.with-arg.given (second s) (each s).second))
+    (tie.spec (λ c. search rules) (λ c. search rules)
+    (λ c κs. let s = c.before.before in (s.requires.1.formed.first, fits_read (at s.before 3) c.column_bits-arg-1.given (first s.before) (each s.before).first))
+    (λ c. search rules)
+    (λ c κs. let s = c.before.before.before.before in (joined_room (one c.before.before) s.args.s.v2.width (room s.before.before), s.requires.1.formed.second, fits_read (at s.before.before 4) c.with-arg-1.given (second s.before.before) (each s.before.before).second))
     returns)
