@@ -4,7 +4,6 @@ use Rattle.bits.proofs.Words.{◌≡◌, refl, sym, ap, ◌∙◌, subst, Bool, 
 use mathlib.Core.Bool.{false≢true}
 use lib.Seq.{drop-drop, take-take, take-add, drop_at, length-take-le}
 use lib.ListN.{length-drop}
-use denote.Enum.Declared.{tag_of}
 use borrow.Author.Tests.{leb-true, leb-false, le-leb, lt-leb, eq-eqb, ne_eqb}
 use Rattle.format.specs.Rows.{Line}
 use Rattle.format.specs.Writing.{rows_in}
@@ -13,16 +12,10 @@ use Rattle.matching.specs.declared.fits.Matched.{Matched}
 use Rattle.matching.specs.declared.fits.Matched.TheVariants.{Not, To}
 use Rattle.fitting.specs.Fits.{row_fits, rows_fit}
 use Rattle.matching.specs.Matching.{matched_at}
-use Rattle.matching.specs.contracts.fits.Matched as Declared
 
 -- whether a row is there from the k-th number on, and fits a line
 abbrev pub fits_at : Line → List ℤ → ℕ → Bool
 fits_at n numbers k = leb (k + 8) (length numbers) && row_fits n (take 8 (drop k numbers))
-
--- not all fit, by the tag that code tests
-pub is_not : (far : Matched) → tag_of Declared.the_type far ≡ 0 → far ≡ Not
-is_not Not e = refl
-is_not (To k) e = absurd (omega arith)
 
 row_there : (n : Line) (numbers : List ℤ) (k : ℕ) → fits_at n numbers k ≡ true → k + 8 ≤ length numbers
 row_there n numbers k there = leb-true (k + 8) (length numbers) (and_true (leb (k + 8) (length numbers)) _ there).0

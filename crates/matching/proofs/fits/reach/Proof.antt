@@ -1,5 +1,5 @@
 -- `matching::fits::reach` meets its contract. Assumes nothing.
-use Rattle.bits.proofs.Words.{◌≡◌, ap, ◌∙◌, List, needs}
+use Rattle.bits.proofs.Words.{◌≡◌, ap, ◌∙◌, List, rules}
 use Rattle.body.proofs.Bodies.{satellites_fit, cells_fit, parts_fit_lem, lines_known, by_satellites, by_cells}
 use Rattle.body.specs.Lent.{view_by}
 use Rattle.format.specs.Rows.{Line}
@@ -22,7 +22,7 @@ module _ (s : tie.Start) where
   body = s.args.shaped.body
 
   abbrev made : s.args.shaped.shape ≡ shape_for body.shape
-  made = s.pre.1.made
+  made = s.requires.1.made
 
   -- how far the rows fit the lines of known keys is how far they fit the body's
   abbrev far : List Line → Matched
@@ -33,34 +33,28 @@ module _ (s : tie.Start) where
 
 reach-requires : tie.Need-reach-requires
 reach-requires c κs =
-    let k = c.before in
-    let s = k.before.before.before.before.before.before.before in
-    (s.requires.0.slots, made_formed 0 _ (made s), rw (made s) (satellites_fit (body s) s.requires.1.fits k.keys.given.1))
+    let s = c.before.before.before.before.before.before in
+    (s.requires.0.slots, made_formed 0 _ (made s), rw (made s) (satellites_fit (body s) s.requires.1.fits c.in-Satellites.is))
 
-reach-requires-2 : tie.Need-reach-requires-2
-reach-requires-2 c κs =
-    let k = c.before in
-    let s = k.before.before.before.before.before.before.before in
-    (s.requires.0.slots, s.requires.0.covered, made_formed 0 _ (made s), rw (made s) (cells_fit (body s) s.requires.1.fits k.keys2.given.1).0)
+reach-requires-in-Cells : tie.Need-reach-requires-in-Cells
+reach-requires-in-Cells c κs =
+    let s = c.before.before.before.before.before.before in
+    (s.requires.0.slots, s.requires.0.covered, made_formed 0 _ (made s), rw (made s) (cells_fit (body s) s.requires.1.fits c.in-Cells.is).0)
 
-returns : tie.Need-returns
-returns c =
-    let k = c.before.before in
-    let s = k.before.before.before.before.before.before.before in
-    let known = k.keys.given in
-    (rw (made s) at c.reach.ensures) ∙ ap (far s) (by_satellites (view s) known.0.0 (body s).shape) ∙ whole s known.1
+returns-in-Satellites : tie.Need-returns-in-Satellites
+returns-in-Satellites c =
+    let s = c.before.before.before.before.before.before.before in
+    (rw (made s) at c.reach.ensures) ∙ ap (far s) (by_satellites (view s) c.in-Satellites.chosen (body s).shape) ∙ whole s c.in-Satellites.is
 
-returns-2 : tie.Need-returns-2
-returns-2 c =
-    let k = c.before.before in
-    let s = k.before.before.before.before.before.before.before in
-    let known = k.keys2.given in
-    (rw (made s) at c.reach2.ensures) ∙ ap (far s) (by_cells (view s) known.0.0 (body s).shape) ∙ whole s known.1
+returns-in-Cells : tie.Need-returns-in-Cells
+returns-in-Cells c =
+    let s = c.before.before.before.before.before.before.before in
+    (rw (made s) at c.reach-in-Cells.ensures) ∙ ap (far s) (by_cells (view s) c.in-Cells.chosen (body s).shape) ∙ whole s c.in-Cells.is
 
-pub reach-spec : {M : Type 1} → statement M
+pub reach_spec : {M : Type 1} → statement M
 unfolding lines_over
-reach-spec =
+reach_spec =
     tie.close
-    (tie.spec (λ c. search needs) reach-requires (λ c. search needs) reach-requires-2 (λ c. search needs)
-    (λ c κs. let k = c.before in let s = k.before.before.before.before.before.before.before in (parts_fit_lem (body s) s.requires.1.fits k.keys3.given.1).0) returns returns-2
-    (λ c. let k = c.before.before in c.reach3.ensures ∙ whole k.before.before.before.before.before.before.before k.keys3.given.1))
+    (tie.spec (λ c. search rules) reach-requires (λ c. search rules) reach-requires-in-Cells (λ c. search rules)
+    (λ c κs. let s = c.before.before.before.before.before.before in (parts_fit_lem (body s) s.requires.1.fits c.in-Parts.is).0) returns-in-Satellites returns-in-Cells
+    (λ c. c.reach-in-Parts.ensures ∙ whole c.before.before.before.before.before.before.before c.in-Parts.is))

@@ -1,6 +1,6 @@
 -- `matching::fits::line::cell_fits` meets its contract. Assumes nothing.
-use Rattle.bits.proofs.Words.{◌≡◌, sym, ap, ◌∙◌, true, List, ℕ, ◌+◌, ◌-◌, arith, needs, leb, length, take, drop, ℤ}
-use borrow.Author.Tests.{not-true, not-false, le-leb, lt-leb}
+use Rattle.bits.proofs.Words.{◌≡◌, sym, ap, ◌∙◌, true, List, ℕ, ◌+◌, ◌-◌, arith, rules, leb, length, take, drop, ℤ}
+use borrow.Author.Tests.{le-leb, lt-leb}
 use lib.ListN.{length-drop}
 use lib.Seq.{length-take-le}
 use Rattle.body.proofs.Going.{lent}
@@ -15,7 +15,7 @@ many : (s : tie.Start) → length (take (length s.args.rows.now - s.args.k) (dro
 many s = ap length (lent s.args.k s.args.rows.now) ∙ length-drop s.args.k s.args.rows.now
 
 -- the row is there
-module _ (c : tie.Else1) where
+module _ (c : tie.Else-rest-lt8) where
   abbrev start : tie.Start
   start = c.before.before
 
@@ -26,32 +26,32 @@ module _ (c : tie.Else1) where
   k = start.args.k
 
   there : leb (k + 8) (length numbers) ≡ true
-  there = le-leb (k + 8) (length numbers) (omega (arith, c.if1.false, many start, start.pre.0))
+  there = le-leb (k + 8) (length numbers) (omega (arith, c.if-rest-lt8.false, many start, start.requires.0))
 
   -- and is what was lent
   same : take 8 (take (length numbers - k) (drop k numbers)) ≡ take 8 (drop k numbers)
   same = ap (take 8) (lent k numbers)
 
   eight : length (take 8 (take (length numbers - k) (drop k numbers))) ≡ 8
-  eight = length-take-le 8 (take (length numbers - k) (drop k numbers)) c.if1.false
+  eight = length-take-le 8 (take (length numbers - k) (drop k numbers)) c.if-rest-lt8.false
 
-keys : (c : tie.After-keyed) → let e = c.before.before in c.keyed.result ≡ same_list sameℤ (take 3 (take 8 (drop (k e) (numbers e)))) (keys_of (start e).args.key)
-keys c = let e = c.before.before in c.keyed.ensures ∙ ap (λ (r : List ℤ). same_list sameℤ (take 3 r) (keys_of (start e).args.key)) (same e)
+keys : (c : tie.After-keyed) → let e = c.before in c.keyed.result ≡ same_list sameℤ (take 3 (take 8 (drop (k e) (numbers e)))) (keys_of (start e).args.key)
+keys c = let e = c.before in c.keyed.ensures ∙ ap (λ (r : List ℤ). same_list sameℤ (take 3 r) (keys_of (start e).args.key)) (same e)
 
-returns-2 : tie.Need-returns-2
+returns-then-not-keyed : tie.Need-returns-then-not-keyed
 unfolding row_fits
-returns-2 c = rw (there c.before.before.before, sym (keys c.before) ∙ not-true _ c.if2.true)
+returns-then-not-keyed c = rw (there c.before.before, sym (keys c.before) ∙ c.if-not-keyed.true)
 
-returns-3 : tie.Need-returns-3
+returns : tie.Need-returns
 unfolding row_fits
-returns-3 c =
+returns c =
     let f = c.before in
-    let e = f.before.before.before in
-    rw (there e, sym (keys f.before) ∙ not-false _ f.if2.false, ← (same e)) c.cell-valued.ensures
+    let e = f.before.before in
+    rw (there e, sym (keys f.before) ∙ f.if-not-keyed.false, ← (same e)) c.cell_valued.ensures
 
-pub cell-fits-spec : {M : Type 1} → statement M
-cell-fits-spec =
+pub cell_fits_spec : {M : Type 1} → statement M
+cell_fits_spec =
     tie.close
-    (tie.spec (λ c. search needs) (λ c. search needs) (λ c. search needs) (λ c. search needs)
-    (λ c. let s = c.before.before in rw (lt-leb (s.args.k + 8) (length s.args.rows.now) (omega (arith, c.if1.true, many s, s.requires.0)))) (λ c. sym (eight c.before))
-    (λ c κs. eight c.before) returns-2 (λ c κs. let e = c.before.before.before in (eight e, (start e).requires.1, (start e).requires.2, (start e).requires.3)) returns-3)
+    (tie.spec (λ c. search rules) (λ c. search rules) (λ c. search rules) (λ c. search rules)
+    (λ c. let s = c.before.before in rw (lt-leb (s.args.k + 8) (length s.args.rows.now) (omega (arith, c.if-rest-lt8.true, many s, s.requires.0)))) (λ c. sym (eight c))
+    (λ c κs. eight c) returns-then-not-keyed (λ c κs. let e = c.before.before in (eight e, (start e).requires.1, (start e).requires.2, (start e).requires.3)) returns)

@@ -13,9 +13,9 @@ by : (s : tie.Start) {f : ℕ → List Column} → f ≡ columns_in s.args.s
     → rows_valued f (rows_in s.args.count s.args.rows.now) ≡ rows_valued (columns_in s.args.s) (rows_in s.args.count s.args.rows.now)
 by s e = ap (λ (g : ℕ → List Column). rows_valued g (rows_in s.args.count s.args.rows.now)) e
 
-pub values-fit-spec : {M : Type 1} → statement M
-values-fit-spec =
+pub values_fit_spec : {M : Type 1} → statement M
+values_fit_spec =
     tie.close
-    (tie.spec (λ c κs. let s = c.before in (s.requires.1, s.requires.0.fifth))
-    (λ c. let t = c.before in let s = t.before in c.orbits.ensures ∙ by s (sym (orbit_alike s.args.s.v1.width s.args.s.v5) ∙ ap columns_in (sym (s.requires.0.orbit t.if1.true))))
-    (λ c κs. let s = c.before in (s.requires.1, s.requires.0.fifth)) (λ c. let e = c.before in let s = e.before in c.lasts.ensures ∙ by s (ap columns_in (sym (s.requires.0.last e.if1.false)))))
+    (tie.spec (λ c κs. (c.requires.1, c.requires.0.fifth))
+    (λ c. let s = c.before.before.before in c.orbits.ensures ∙ by s (sym (orbit_alike s.args.s.v1.width s.args.s.v5) ∙ ap columns_in (sym (s.requires.0.orbit c.if-s.true))))
+    (λ c κs. (c.requires.1, c.requires.0.fifth)) (λ c. let s = c.before.before.before in c.lasts.ensures ∙ by s (ap columns_in (sym (s.requires.0.last c.if-s.false)))))
