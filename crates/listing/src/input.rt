@@ -3,10 +3,10 @@ ghost use Rattle.std.specs.Prelude.{◌+◌, ◌≤◌, length};
 ghost use Rattle.lines.specs.Records.{message_room};
 ghost use Rattle.lister.specs.Steps.{Good};
 
-use crate::output::{Sink, first_failure};
+use crate::output::Sink;
 use crate::pour::pour;
+use crate::streams::Streams;
 use lister::State;
-use std::io;
 use std::io::{Read, Write};
 
 // The state after a piece, where text waits, and whether there may be more input.
@@ -18,9 +18,8 @@ pub struct Progress {
 }
 
 // Reads once and lists what came; at the input's end, what is left. A reading that fails ends the input, too.
-fn read_some(
-    from: &mut impl Read,
-    to: &mut impl Write,
+fn read_some<R: Read, W: Write>(
+    streams: &mut Streams<R, W>,
     state: State,
     line: &mut [u8],
     rows: &mut [i32],
@@ -32,30 +31,19 @@ fn read_some(
     ensures good { Good result.state line.new rows.new }
     ensures message_room_in_bounds { result.sink.waiting + message_room ≤ length out.new }
 {
-    let (n, got) = match from.read(input) {
-        Ok(n) => (n, Ok(())),
-        Err(error) => (0, Err(error)),
-    };
-    let poured = pour(to, state, line, rows, &input[..n], out, sink);
-    let after = poured.state;
-    let left = poured.sink;
-    let failure = first_failure(left.failure, got);
+    let n = streams.read_once(input);
+    let poured = pour(streams, state, line, rows, &input[..n], out, sink);
     Progress {
-        state: after,
-        sink: Sink {
-            waiting: left.waiting,
-            shown: left.shown,
-            failure,
-        },
-        more: n > 0 && failure.is_none(),
+        state: poured.state,
+        sink: poured.sink,
+        more: n > 0 && streams.failure.is_none(),
     }
 }
 
 // Lists the whole input. A proved loop has to end, and nothing says that an input does: so the loop has a number of
 // turns that no run uses up.
-pub fn list(
-    from: &mut impl Read,
-    to: &mut impl Write,
+pub fn list<R: Read, W: Write>(
+    streams: &mut Streams<R, W>,
     state: State,
     line: &mut [u8],
     rows: &mut [i32],
@@ -74,7 +62,7 @@ pub fn list(
         if !more {
             break;
         }
-        let made = read_some(from, to, after, line, rows, input, out, left);
+        let made = read_some(streams, after, line, rows, input, out, left);
         after = made.state;
         left = made.sink;
         more = made.more;

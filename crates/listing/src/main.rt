@@ -7,10 +7,12 @@ mod asked;
 mod input;
 mod output;
 mod pour;
+mod streams;
 
 use crate::asked::arguments;
 use crate::input::list;
-use crate::output::{Sink, first_failure, flush, print_mask};
+use crate::output::{Sink, flush, print_mask};
+use crate::streams::Streams;
 use format::ROOM;
 use lister::{LINE_ROOM, State, Work};
 
@@ -39,22 +41,22 @@ fn main(rt: HostRuntime) {
     let sink = Sink {
         waiting: 0,
         shown: start.shown,
-        failure: None,
     };
-    let mut from = rt.stdin();
-    let mut to = rt.stdout();
+    let mut streams = Streams::new(rt.stdin(), rt.stdout());
     let end = list(
-        &mut from, &mut to, state, &mut line, &mut rows, &mut input, &mut out, sink,
+        &mut streams,
+        state,
+        &mut line,
+        &mut rows,
+        &mut input,
+        &mut out,
+        sink,
     );
-    let left = flush(&mut to, &out, end.sink);
-    let after = end.state;
-    let held = after.holding;
-    let printed = if start.shown {
-        Ok(())
-    } else {
-        print_mask(&mut to, held, &mut out)
-    };
-    if let Some(error) = first_failure(left.failure, printed) {
+    flush(&mut streams, &out, end.sink);
+    if !start.shown {
+        print_mask(&mut streams, end.state.holding, &mut out);
+    }
+    if let Some(error) = streams.failure {
         let _ = eprintln!(rt; "listing: {error}");
     }
 }

@@ -4,8 +4,9 @@ ghost use Rattle.lines.specs.Records.{message_room};
 ghost use Rattle.lister.specs.Steps.{Good};
 
 use crate::output::{Sink, make_room};
+use crate::streams::Streams;
 use lister::{State, Work, advance};
-use std::io::Write;
+use std::io::{Read, Write};
 
 // The state after a step, how many bytes of the piece it took, where its text waits.
 #[derive(Clone, Copy)]
@@ -16,8 +17,8 @@ pub struct Turn {
 }
 
 // One step.
-fn make(
-    to: &mut impl Write,
+fn make<R: Read, W: Write>(
+    streams: &mut Streams<R, W>,
     state: State,
     line: &mut [u8],
     rows: &mut [i32],
@@ -36,12 +37,11 @@ fn make(
     let more = Sink {
         waiting: waiting + step.given,
         shown: sink.shown,
-        failure: sink.failure,
     };
     Turn {
         state: after,
         taken: step.taken,
-        sink: make_room(to, out, more),
+        sink: make_room(streams, out, more),
     }
 }
 
@@ -57,8 +57,8 @@ fn waits(state: State, taken: usize, count: usize) -> bool {
 }
 
 // Steps until all of a piece is taken, and all is listed that it brought. No piece says that the input has ended.
-pub fn pour(
-    to: &mut impl Write,
+pub fn pour<R: Read, W: Write>(
+    streams: &mut Streams<R, W>,
     state: State,
     line: &mut [u8],
     rows: &mut [i32],
@@ -77,7 +77,7 @@ pub fn pour(
         if waits(after, taken, piece.len()) {
             break;
         }
-        let made = make(to, after, line, rows, &piece[taken..], out, waiting);
+        let made = make(streams, after, line, rows, &piece[taken..], out, waiting);
         after = made.state;
         taken += made.taken;
         waiting = made.sink;

@@ -7,7 +7,7 @@ use Rattle.listing.proofs.output.print_mask.Goals as goal
 pub slice_bounds-write_all-end : goal.slice_bounds-write_all-end
 slice_bounds-write_all-end g c =
     let fits : c.in-Saved.n ≤ length c.args.out.now =
-        saved_fits (lent_by c.args.holding) c.args.out.now _ (sym c.save-saving.ensures.value ∙ c.in-Saved.is) in
+    saved_fits (lent_by c.args.holding) c.args.out.now _ (sym c.save-saving.ensures.value ∙ c.in-Saved.is) in
     omega (arith, fits, c.save-saving.auto.line)
 
 pub slice_bounds-write_all-end-2 : goal.slice_bounds-write_all-end-2
