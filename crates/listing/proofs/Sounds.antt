@@ -10,7 +10,7 @@ use borrow.Author.Tests.{leb-true}
 use Rattle.format.specs.declared.Refusal.TheVariants.{Room, Value}
 use Rattle.format.specs.Good.{good}
 use Rattle.format.specs.Masks.{nothing, Lent, held_in}
-use Rattle.format.specs.Saved.{Loaded, loaded, unloaded, load, Saved, saved, unsaved, saving, line_of}
+use Rattle.format.specs.Saved.{Loaded, loaded, unloaded, load, saved, unsaved, saving, line_of}
 use Rattle.format.specs.Tests.{verdict}
 use Rattle.format.proofs.SavedForm.{line_load}
 use Rattle.holding.specs.declared.Holding.{Holding}

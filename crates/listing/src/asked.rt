@@ -4,6 +4,8 @@ ghost use Rattle.holding.specs.Pictures.{sound};
 
 use holding::Holding;
 use saved::LoadAnswer;
+use std::env::FillError;
+use std::rt::Env;
 use text::LINE_FEED;
 
 // Whether the listing is shown, whether the arguments are good, and the holding to start from.
@@ -41,19 +43,31 @@ fn from_line(buffer: &mut [u8], n: usize, shown: bool) -> Asked
     }
 }
 
-// The arguments, read into a buffer.
-pub fn arguments(buffer: &mut [u8]) -> Asked
+// Whether the first argument asks for the listing: it does unless it begins as `save` does, and where it is missing,
+// empty or longer than the buffer.
+fn asks_listing(env: &impl Env, buffer: &mut [u8]) -> bool {
+    match env.arg(1, buffer) {
+        Ok(n) => n == 0 || buffer[0] != b's',
+        Err(_) => true,
+    }
+}
+
+// The arguments, bytes of any kind, read into a buffer. A saved line that is longer than the buffer is none.
+pub fn arguments(env: &impl Env, buffer: &mut [u8]) -> Asked
     ensures { sound result.holding ≡ true }
 {
-    let word = os::arg(1, buffer);
-    let shown = word == 0 || buffer[0] != b's';
-    let n = os::arg(2, buffer);
-    if os::errno() == libc::EINVAL {
-        return Asked {
+    let shown = asks_listing(env, buffer);
+    match env.arg(2, buffer) {
+        Ok(n) => from_line(buffer, n, shown),
+        Err(FillError::NotPresent) => Asked {
             shown,
             fine: true,
             holding: Holding::empty(),
-        };
+        },
+        Err(FillError::TooLong) => Asked {
+            shown,
+            fine: false,
+            holding: Holding::empty(),
+        },
     }
-    from_line(buffer, n, shown)
 }

@@ -5,8 +5,9 @@ ghost use Rattle.lister.specs.Steps.{Good};
 
 use crate::output::Sink;
 use crate::pour::pour;
-use libc::STDIN_FILENO;
+use crate::streams::Streams;
 use lister::State;
+use std::io::{Read, Write};
 
 // The state after a piece, where text waits, and whether there may be more input.
 #[derive(Clone, Copy)]
@@ -17,7 +18,8 @@ pub struct Progress {
 }
 
 // Reads once and lists what came; at the input's end, what is left. A reading that fails ends the input, too.
-fn read_some(
+fn read_some<R: Read, W: Write>(
+    streams: &mut Streams<R, W>,
     state: State,
     line: &mut [u8],
     rows: &mut [i32],
@@ -29,26 +31,19 @@ fn read_some(
     ensures good { Good result.state line.new rows.new }
     ensures message_room_in_bounds { result.sink.waiting + message_room ≤ length out.new }
 {
-    let got = libc::read(STDIN_FILENO, input);
-    let n = io::count(got, input);
-    let poured = pour(state, line, rows, &input[..n], out, sink);
-    let after = poured.state;
-    let left = poured.sink;
-    let fine = left.fine && got >= 0;
+    let n = streams.read_once(input);
+    let poured = pour(streams, state, line, rows, &input[..n], out, sink);
     Progress {
-        state: after,
-        sink: Sink {
-            waiting: left.waiting,
-            shown: left.shown,
-            fine,
-        },
-        more: n > 0 && fine,
+        state: poured.state,
+        sink: poured.sink,
+        more: n > 0 && streams.failure.is_none(),
     }
 }
 
-// Lists the whole input. A proved loop has to end, and nothing says that an input does: so the loop counts its turns
-// down, from a number that no run uses up.
-pub fn list(
+// Lists the whole input. A proved loop has to end, and nothing says that an input does: so the loop has a number of
+// turns that no run uses up.
+pub fn list<R: Read, W: Write>(
+    streams: &mut Streams<R, W>,
     state: State,
     line: &mut [u8],
     rows: &mut [i32],
@@ -63,13 +58,14 @@ pub fn list(
     let mut after = state;
     let mut left = sink;
     let mut more = true;
-    let mut turns = u64::MAX;
-    while turns > 0 && more {
-        let made = read_some(after, line, rows, input, out, left);
+    for _ in 0..u64::MAX {
+        if !more {
+            break;
+        }
+        let made = read_some(streams, after, line, rows, input, out, left);
         after = made.state;
         left = made.sink;
         more = made.more;
-        turns -= 1;
     }
     Progress {
         state: after,

@@ -7,25 +7,30 @@ mod asked;
 mod input;
 mod output;
 mod pour;
+mod streams;
 
 use crate::asked::arguments;
 use crate::input::list;
 use crate::output::{Sink, flush, print_mask};
+use crate::streams::Streams;
 use format::ROOM;
 use lister::{LINE_ROOM, State, Work};
 
 // The number of the first line.
 const FIRST: u64 = 1;
 
-fn main() {
+// How many bytes of input come at once at most, and how many of text wait.
+const BUFFER: usize = 65536;
+
+fn main(rt: HostRuntime) {
     let mut line = [0u8; LINE_ROOM];
     let mut rows = [0i32; ROOM];
-    let mut input = io::large_buffer();
-    let mut out = io::large_buffer();
-    let start = arguments(&mut input);
+    let mut input = [0u8; BUFFER];
+    let mut out = [0u8; BUFFER];
+    let start = arguments(&rt, &mut input);
     let holding = start.holding;
     if !start.fine {
-        io::write_all(libc::STDERR_FILENO, b"12: no saved mask\n");
+        let _ = eprintln!(rt; "12: no saved mask");
         return;
     }
     let state = State {
@@ -36,14 +41,22 @@ fn main() {
     let sink = Sink {
         waiting: 0,
         shown: start.shown,
-        fine: true,
     };
-    let end = list(state, &mut line, &mut rows, &mut input, &mut out, sink);
-    let left = flush(&out, end.sink);
-    let after = end.state;
-    let held = after.holding;
-    let printed = start.shown || print_mask(held, &mut out);
-    if !left.fine || !printed {
-        os::fail(b"listing");
+    let mut streams = Streams::new(rt.stdin(), rt.stdout());
+    let end = list(
+        &mut streams,
+        state,
+        &mut line,
+        &mut rows,
+        &mut input,
+        &mut out,
+        sink,
+    );
+    flush(&mut streams, &out, end.sink);
+    if !start.shown {
+        print_mask(&mut streams, end.state.holding, &mut out);
+    }
+    if let Some(error) = streams.failure {
+        let _ = eprintln!(rt; "listing: {error}");
     }
 }

@@ -4,59 +4,51 @@ ghost use Rattle.format.specs.Saved.{saving, buffer_after};
 ghost use Rattle.holding.specs.Pictures.{mask_of, lent_by};
 ghost use Rattle.lines.specs.Records.{message_room};
 
+use crate::streams::Streams;
 use holding::Holding;
-use libc::STDOUT_FILENO;
 use lines::records::MESSAGE_ROOM;
 use saved::Saving;
+use std::io;
+use std::io::{Read, Write};
 
-// How many bytes of the buffer wait to be written, whether text is shown at all, and whether all went well so far.
+// How many bytes of the buffer wait to be written, and whether text is shown at all.
 #[derive(Clone, Copy)]
 pub struct Sink {
     pub waiting: usize,
     pub shown: bool,
-    pub fine: bool,
 }
 
 // Writes what waits.
-pub fn flush(out: &[u8], sink: Sink) -> Sink
+pub fn flush<R: Read, W: Write>(streams: &mut Streams<R, W>, out: &[u8], sink: Sink) -> Sink
     requires { sink.waiting ≤ length out.now }
     ensures { result.waiting ≡ 0 }
 {
     let shown = sink.shown;
-    let before = sink.fine;
-    if !shown {
-        return Sink {
-            waiting: 0,
-            shown,
-            fine: before,
-        };
+    if shown {
+        streams.write_all(&out[..sink.waiting]);
     }
-    let written = io::write_all(STDOUT_FILENO, &out[..sink.waiting]);
-    Sink {
-        waiting: 0,
-        shown,
-        fine: before && written,
-    }
+    Sink { waiting: 0, shown }
 }
 
 // Sees to room for a message.
-pub fn make_room(out: &[u8], sink: Sink) -> Sink
+pub fn make_room<R: Read, W: Write>(streams: &mut Streams<R, W>, out: &[u8], sink: Sink) -> Sink
     requires { (sink.waiting ≤ length out.now) × (message_room ≤ length out.now) }
     ensures { result.waiting + message_room ≤ length out.now }
 {
     if out.len() - sink.waiting < MESSAGE_ROOM {
-        return flush(out, sink);
+        return flush(streams, out, sink);
     }
     sink
 }
 
-// The mask that is held, as a saved line that the buffer then begins with; whether it was written.
-pub fn print_mask(holding: Holding, out: &mut [u8]) -> bool
+// Writes the mask that is held, as a saved line that the buffer then begins with.
+pub fn print_mask<R: Read, W: Write>(streams: &mut Streams<R, W>, holding: Holding, out: &mut [u8])
     ensures { out.new ≡ buffer_after (saving (lent_by holding) out.old) (mask_of holding) out.old }
 {
     let saving = saved::save(holding, out);
     let Saving::Saved(n) = saving else {
-        return false;
+        streams.note(io::Error::other("no mask to save"));
+        return;
     };
-    io::write_all(STDOUT_FILENO, &out[..n])
+    streams.write_all(&out[..n]);
 }

@@ -4,7 +4,9 @@ ghost use Rattle.lines.specs.Records.{message_room};
 ghost use Rattle.lister.specs.Steps.{Good};
 
 use crate::output::{Sink, make_room};
+use crate::streams::Streams;
 use lister::{State, Work, advance};
+use std::io::{Read, Write};
 
 // The state after a step, how many bytes of the piece it took, where its text waits.
 #[derive(Clone, Copy)]
@@ -15,7 +17,8 @@ pub struct Turn {
 }
 
 // One step.
-fn make(
+fn make<R: Read, W: Write>(
+    streams: &mut Streams<R, W>,
     state: State,
     line: &mut [u8],
     rows: &mut [i32],
@@ -34,12 +37,11 @@ fn make(
     let more = Sink {
         waiting: waiting + step.given,
         shown: sink.shown,
-        fine: sink.fine,
     };
     Turn {
         state: after,
         taken: step.taken,
-        sink: make_room(out, more),
+        sink: make_room(streams, out, more),
     }
 }
 
@@ -55,7 +57,8 @@ fn waits(state: State, taken: usize, count: usize) -> bool {
 }
 
 // Steps until all of a piece is taken, and all is listed that it brought. No piece says that the input has ended.
-pub fn pour(
+pub fn pour<R: Read, W: Write>(
+    streams: &mut Streams<R, W>,
     state: State,
     line: &mut [u8],
     rows: &mut [i32],
@@ -70,13 +73,14 @@ pub fn pour(
     let mut after = state;
     let mut taken = 0;
     let mut waiting = sink;
-    let mut turns = u64::MAX;
-    while turns > 0 && !waits(after, taken, piece.len()) {
-        let made = make(after, line, rows, &piece[taken..], out, waiting);
+    for _ in 0..u64::MAX {
+        if waits(after, taken, piece.len()) {
+            break;
+        }
+        let made = make(streams, after, line, rows, &piece[taken..], out, waiting);
         after = made.state;
         taken += made.taken;
         waiting = made.sink;
-        turns -= 1;
     }
     Turn {
         state: after,
