@@ -3,11 +3,8 @@ use Rattle.std.specs.Prelude.{◌≡◌, Bool, cond, List, [], ℕ, ◌+◌, ◌
 use Rattle.std.specs.Int.Count.{ones}
 use Rattle.adoption.specs.declared.cells.Masks.{Masks}
 use Rattle.adoption.specs.declared.cells.System.{System}
-use Rattle.adoption.specs.declared.cells.System.TheVariants as System
 use Rattle.adoption.specs.declared.stages.Masked.{Masked}
-use Rattle.adoption.specs.declared.stages.Masked.TheVariants as Masked
 use Rattle.adoption.specs.declared.stages.Named.{Named}
-use Rattle.adoption.specs.declared.stages.Named.TheVariants as Named
 use Rattle.bits.specs.BitLists.{spell}
 use Rattle.bits.specs.Places.{field}
 use Rattle.format.specs.declared.Head.{Head}

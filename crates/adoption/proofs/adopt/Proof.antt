@@ -1,5 +1,5 @@
 -- `adoption::adopt` meets its contract. Assumes nothing.
-use Rattle.bits.proofs.Words.{sym, ap, ◌∙◌, List, ℕ, arith, needs}
+use Rattle.bits.proofs.Words.{sym, ap, ◌∙◌, List, ℕ, arith, rules}
 use Rattle.adoption.proofs.StageEnds.{opens_at}
 use Rattle.adoption.specs.Adoptions.{Made, made, made_by}
 use Rattle.adoption.specs.declared.Adoption.{Adoption}
@@ -18,41 +18,40 @@ use Rattle.adoption.proofs.adopt.Statement.{statement}
 use Rattle.adoption.proofs.adopt.Tie as tie
 
 -- the front is the message's
-module _ (c : tie.After-front-at) where
+module _ (c : tie.After-front_at-f) where
   abbrev bs : List ℕ
-  bs = c.before.before.args.bytes.now
+  bs = c.args.bytes.now
 
-  opens : Opens bs c.Front-at.result
-  opens = opens_at c.before.before.requires.0 c.Front-at.ensures
+  opens : Opens bs c.front_at-f.result
+  opens = opens_at c.requires.0 c.front_at-f.ensures
 
   -- what is made where its program ends so
   abbrev over : Ended Adopted → Made
-  over e = let x = c.before.before.args in made_by (whole_of x.held x.satellites.now x.strips.now) e
+  over e = let x = c.args in made_by (whole_of x.held x.satellites.now x.strips.now) e
 
   abbrev answer : Front → Made
   answer f = over (end_from mask_message bs f.end f.start)
 
 -- the common head, where it is there
-module _ (c : tie.After-known-told2) where
-  abbrev t : tie.After-front-at
-  t = c.before.before.before.before
+module _ (c : tie.In-Whole) where
+  abbrev t : tie.After-front_at-f
+  t = c.before.before
 
-  read : Read (opens t).within 20 c.before.h.given.0.0
-  read = common_whole (opens t).within 20 (omega arith) (sym (c.before.before.before.head.ensures (bs t) (opens t)) ∙ c.before.h.given.1)
+  read : Read (opens t).within 20 c.in-Whole.h
+  read = common_whole (opens t).within 20 (omega arith) (sym (c.head.ensures (bs t) (opens t)) ∙ c.in-Whole.is)
 
-returns : tie.Need-returns
+returns-in-Short : tie.Need-returns-in-Short
 unfolding mask_message made_by
-returns c =
-    let p = c.before.before.before.before in
-    let t = p.before in
-    let cut = common_short (opens t).within 20 (sym (p.head.ensures (bs t) (opens t)) ∙ c.before.before.missing.given.1) in
-    let x = t.before.before.args in
-    ap (λ (a : Adoption). made x.held a x.satellites.now x.strips.now) c.keeping.ensures ∙ ap (over t) (sym (then_badly (opens t).within (common 20) _ cut)) ∙ ap (answer t) t.Front-at.ensures
+returns-in-Short c =
+    let t = c.before.before.before in
+    let cut = common_short (opens t).within 20 (sym (c.head.ensures (bs t) (opens t)) ∙ c.in-Short.is) in
+    let x = t.args in
+    ap (λ (a : Adoption). made x.held a x.satellites.now x.strips.now) c.keeping.ensures ∙ ap (over t) (sym (then_badly (opens t).within (common 20) _ cut)) ∙ ap (answer t) t.front_at-f.ensures
 
-pub adopt-spec : {M : Type 1} → statement M
+pub adopt_spec : {M : Type 1} → statement M
 unfolding mask_message after_common_head with_systems head_with common_of
-adopt-spec =
+adopt_spec =
     tie.close
-    (tie.spec (λ c κs. search needs) (λ c κs. record { bytes = bs c; opens = opens c }) (λ c. search needs) (λ c κs. search needs) (λ c. search needs)
-    (λ c κs. let k = c.before.before in ((read k).small, (read k).after, opens (t k), (t k).before.before.requires.1)) returns
-    (λ c. let k = c.before.before.before in let t = t k in c.after-head.ensures ∙ ap (over t) (sym (then_well (opens t).within (common 20) _ (read k).ran)) ∙ ap (answer t) t.Front-at.ensures))
+    (tie.spec (λ c κs. search rules) (λ c κs. record { bytes = bs c; opens = opens c }) (λ c. search rules) (λ c κs. search rules) (λ c. search rules)
+    (λ c κs. let k = c.before.before in ((read k).small, (read k).after, opens (t k), (t k).requires.1)) returns-in-Short
+    (λ c. let k = c.before.before.before in let t = t k in c.after_head.ensures ∙ ap (over t) (sym (then_well (opens t).within (common 20) _ (read k).ran)) ∙ ap (answer t) t.front_at-f.ensures))

@@ -1,5 +1,5 @@
 -- `adoption::head_at` meets its contract. Assumes nothing.
-use Rattle.bits.proofs.Words.{◌≡◌, ap, ◌∙◌, ℕ, ◌+◌, ◌/◌, ◌%◌, ◌^◌, ◌<◌, arith, needs, ℤ}
+use Rattle.bits.proofs.Words.{◌≡◌, ap, ◌∙◌, ℕ, ◌+◌, ◌/◌, ◌%◌, ◌^◌, ◌<◌, arith, rules, ℤ}
 use native.Mathlib.Nat.{add-zero}
 use lib.IntN.{pos}
 use mir.Facts.{to_z_pos}
@@ -22,8 +22,8 @@ unfolding head_from
 small n fit = record { epoch = omega arith; interval = omega arith; indicator = omega arith; iod = omega arith }
 
 -- both parts are fields of the string
-module _ (c : tie.After-cut2) where
-  abbrev q : tie.After-parted
+module _ (c : tie.After-cut-n) where
+  abbrev q : tie.After-parted-h
   q = c.before
 
   abbrev s : tie.Start
@@ -35,16 +35,16 @@ module _ (c : tie.After-cut2) where
   abbrev count : ℕ
   count = field s.args.bytes.now (s.args.place + 29) 4
 
-  head_is : q.parted.result ≡ head_from first
+  head_is : q.parted-h.result ≡ head_from first
   head_is =
-      q.parted.ensures
+      q.parted-h.ensures
       ∙ ap head_from
-      (q.before.cut.ensures ∙ ap (λ (b : ℕ). b / 2 ^ 27 % 2 ^ 29) q.before.before.read-field.ensures ∙ in_field _ s.args.place 56 0 29 27 (omega arith) ∙ ap (λ (p : ℕ). field s.args.bytes.now p 29) (add-zero _))
+      (q.cut.ensures ∙ ap (λ (b : ℕ). b / 2 ^ 27 % 2 ^ 29) q.read_field-front.ensures ∙ in_field _ s.args.place 56 0 29 27 (omega arith) ∙ ap (λ (p : ℕ). field s.args.bytes.now p 29) (add-zero _))
 
-  count_is : c.cut2.result ≡ count
-  count_is = c.cut2.ensures ∙ ap (λ (b : ℕ). b / 2 ^ 23 % 2 ^ 4) q.before.before.read-field.ensures ∙ in_field _ s.args.place 56 29 4 23 (omega arith)
+  count_is : c.cut-n.result ≡ count
+  count_is = c.cut-n.ensures ∙ ap (λ (b : ℕ). b / 2 ^ 23 % 2 ^ 4) q.read_field-front.ensures ∙ in_field _ s.args.place 56 29 4 23 (omega arith)
 
-  few : c.cut2.result < 16
+  few : c.cut-n.result < 16
   few = omega (arith, count_is, field_lt s.args.bytes.now (s.args.place + 29) 4)
 
 returns : tie.Need-returns
@@ -52,11 +52,11 @@ unfolding head_at
 returns c =
     let k = c.before in
     c.head.ensures
-    ∙ ap (λ (z : ℤ). head_with mask_type (q k).parted.result z absent absent) (to_z_pos w32 {n = k.cut2.result} (omega (arith, few k)) ∙ ap pos (count_is k))
+    ∙ ap (λ (z : ℤ). head_with mask_type (q k).parted-h.result z absent absent) (to_z_pos w32 {n = k.cut-n.result} (omega (arith, few k)) ∙ ap pos (count_is k))
     ∙ ap (λ (h : CommonHead). head_with mask_type h (pos (count k)) absent absent) (head_is k)
 
-pub head-at-spec : {M : Type 1} → statement M
-head-at-spec =
+pub head_at_spec : {M : Type 1} → statement M
+head_at_spec =
     tie.close
-    (tie.spec (λ c κs. search needs) (λ c κs. search needs) (λ c κs. search needs) (λ c. search needs) (λ c κs. search needs) (λ c. record { sfits = omega (arith, few c) })
+    (tie.spec (λ c κs. search rules) (λ c κs. search rules) (λ c κs. search rules) (λ c. search rules) (λ c κs. search rules) (λ c. record { sfits = omega (arith, few c) })
     (λ c κs. (omega arith, rw (head_is c) (small (first c) (field_lt (s c).args.bytes.now (s c).args.place 29)))) returns)

@@ -9,8 +9,8 @@ use Rattle.adoption.proofs.keeping.Tie as tie
 
 returns : tie.Need-returns
 returns c =
-    let x = c.before.before.args in
-    ap (λ (o : Outline). record { ending = x.ending; kept = true; outline = o }) (c.outline.ensures ∙ ap outline_of c.before.empty.ensures)
+    let x = c.args in
+    ap (λ (o : Outline). record { ending = x.ending; kept = true; outline = o }) (c.outline.ensures ∙ ap outline_of c.empty-empty.ensures)
 
-pub keeping-spec : {M : Type 1} → statement M
-keeping-spec = tie.close (tie.spec (λ c κs. search rules) (λ c κs. search rules) returns)
+pub keeping_spec : {M : Type 1} → statement M
+keeping_spec = tie.close (tie.spec (λ c κs. search rules) (λ c κs. search rules) returns)

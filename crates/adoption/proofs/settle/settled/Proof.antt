@@ -1,7 +1,7 @@
 -- `adoption::settle::settled` meets its contract. Assumes nothing.
-use Rattle.bits.proofs.Words.{◌≡◌, sym, ap, ◌∙◌, true, false, needs}
+use Rattle.bits.proofs.Words.{◌≡◌, sym, ap, ◌∙◌, true, false, not, rules}
 use mathlib.Core.Logic.{⊎_elim}
-use borrow.Author.Tests.{not-true, not-false}
+use borrow.Author.Tests.{not-true, not-false, eq-eqb, ne_eqb}
 use Rattle.adoption.proofs.Offered.{settles_free, settles_other, settles_same, settles_changed}
 use Rattle.adoption.specs.Adoptions.{made}
 use Rattle.adoption.specs.declared.Adoption.{Adoption}
@@ -15,40 +15,40 @@ use Rattle.adoption.proofs.settle.settled.Statement.{statement}
 use Rattle.adoption.proofs.settle.settled.Tie as tie
 
 -- another issue, or none
-returns : tie.Need-returns
-returns c =
-    let x = c.before.before.before.before.before.args in
+returns-then-not-held : tie.Need-returns-then-not-held
+returns-then-not-held c =
+    let x = c.args in
     ⊎_elim
-    (λ free. settles_free x.held x.satellites.now x.strips.now x.offer x.masks.now x.cells.now (not-true x.held.held free.taken))
-    (λ other. settles_other x.held x.satellites.now x.strips.now x.offer x.masks.now x.cells.now other.3.taken)
-    c.before.before.if1.branch
+    (λ free. settles_free x.held x.satellites.now x.strips.now x.offer x.masks.now x.cells.now (not-true x.held.held free))
+    (λ other. settles_other x.held x.satellites.now x.strips.now x.offer x.masks.now x.cells.now (ap not (ne_eqb _ _ other.1)))
+    c.then-not-held.either
 
 -- the held one's: compared
 module _ (c : tie.After-same) where
-  abbrev e : tie.Else2
-  e = c.before.before.before
+  abbrev e : tie.Else-new-held
+  e = c.before
 
   abbrev s : tie.Start
   s = e.before.before.before.before.before.before
 
   held : s.args.held.held ≡ true
-  held = not-false s.args.held.held e.before.before.before.if1.left
+  held = not-false s.args.held.held e.if-not-held.false
 
-returns-2 : tie.Need-returns-2
-returns-2 c =
+returns-then-same : tie.Need-returns-then-same
+returns-then-same c =
     let k = c.before.before in
     let x = (s k).args in
     ap (λ (a : Adoption). made x.held a x.satellites.now x.strips.now) c.keeping.ensures
-    ∙ settles_same x.held x.satellites.now x.strips.now x.offer x.masks.now x.cells.now (held k) (e k).if2.false (sym k.same.ensures ∙ c.before.if3.true)
+    ∙ settles_same x.held x.satellites.now x.strips.now x.offer x.masks.now x.cells.now (held k) (ap not (eq-eqb _ _ (e k).if-new-held.false)) (sym k.same.ensures ∙ c.if-same.true)
 
-returns-3 : tie.Need-returns-3
+returns : tie.Need-returns
 unfolding picture_of
-returns-3 c =
+returns c =
     let f = c.before.before.before.before in
     let k = f.before in
     let x = (s k).args in
-    ap (λ (o : Outline). made x.held (record { ending = Refused Changed 0; kept = false; outline = o }) (picture_of nothing).satellites (picture_of nothing).strips) (c.outline.ensures ∙ ap outline_of c.before.empty.ensures)
-    ∙ settles_changed x.held x.satellites.now x.strips.now x.offer x.masks.now x.cells.now (held k) (e k).if2.false (sym k.same.ensures ∙ f.if3.false)
+    ap (λ (o : Outline). made x.held (record { ending = Refused Changed 0; kept = false; outline = o }) (picture_of nothing).satellites (picture_of nothing).strips) (c.outline.ensures ∙ ap outline_of c.empty-empty.ensures)
+    ∙ settles_changed x.held x.satellites.now x.strips.now x.offer x.masks.now x.cells.now (held k) (ap not (eq-eqb _ _ (e k).if-new-held.false)) (sym k.same.ensures ∙ f.if-same.false)
 
-pub settled-spec : {M : Type 1} → statement M
-settled-spec = tie.close (tie.spec returns (λ c κs. search needs) (λ c κs. search needs) returns-2 (λ c κs. search needs) (λ c κs. search needs) returns-3)
+pub settled_spec : {M : Type 1} → statement M
+settled_spec = tie.close (tie.spec returns-then-not-held (λ c κs. search rules) (λ c κs. search rules) returns-then-same (λ c κs. search rules) (λ c κs. search rules) returns)

@@ -1,5 +1,5 @@
 -- `adoption::stages::read_id` meets its contract. Assumes nothing.
-use Rattle.bits.proofs.Words.{◌≡◌, sym, ◌∙◌, true, cond, ◌&&◌, not, List, ℕ, ◌+◌, ◌<◌, arith, needs, take}
+use Rattle.bits.proofs.Words.{◌≡◌, sym, ◌∙◌, true, cond, ◌&&◌, not, List, ℕ, ◌+◌, ◌<◌, arith, rules, take}
 use borrow.Author.Tests.{le-leb, lt-leb}
 use Rattle.format.proofs.Ends.{fits, number_short}
 use Rattle.adoption.proofs.StageEnds.{first_taken, id_end}
@@ -16,29 +16,29 @@ use Rattle.adoption.proofs.stages.read_id.Statement.{statement}
 use Rattle.adoption.proofs.stages.read_id.Tie as tie
 
 -- the ID, where its bits are there
-module _ (c : tie.After-known-told2) where
+module _ (c : tie.In-Whole) where
   abbrev s : tie.Start
-  s = c.before.before.before.before.before
+  s = c.before.before.before
 
   abbrev id : ℕ
-  id = c.before.taken3.given.0.0
+  id = c.in-Whole.n
 
   abbrev ids : List ℕ
   ids = take s.args.count s.args.ids.now
 
   there : {bs : List ℕ} → Opens bs s.args.f → taken_at bs s.args.f.end s.args.f.start 4 ≡ Whole id
-  there opens = first_taken opens 4 c.before.before.before.taken.ensures c.before.taken3.given.1
+  there opens = first_taken opens 4 c.taken-taken.ensures c.in-Whole.is
 
   low : id < 16
-  low = let o = s.pre.1.opens in fits o.within 4 (there o)
+  low = let o = s.requires.1.opens in fits o.within 4 (there o)
 
   ends : {bs : List ℕ} → Opens bs s.args.f
       → end_from (system_id ids) bs s.args.f.end s.args.f.start ≡ cond (known id && not (named id ids)) (well id (s.args.f.start + 4)) (badly System 0)
   ends opens = id_end opens.within ids (there opens)
 
 -- a known one, by whether it is named
-module _ (c : tie.After-named-in) where
-  abbrev p : tie.After-known-told2
+module _ (c : tie.After-named_in) where
+  abbrev p : tie.In-Whole
   p = c.before.before
 
   is_named : named (id p) (ids p) ≡ c.named_in.result
@@ -46,14 +46,14 @@ module _ (c : tie.After-named-in) where
 
   is_known : known (id p) ≡ true
   unfolding known
-  is_known = le-leb (id p) 4 (omega (arith, c.before.if1.false))
+  is_known = le-leb (id p) 4 (omega (arith, c.if-id-ge-SYSTEMS.false))
 
-pub read-id-spec : {M : Type 1} → statement M
+pub read_id_spec : {M : Type 1} → statement M
 unfolding end_named known system_id
-read-id-spec =
+read_id_spec =
     tie.close
-    (tie.spec (λ c κs. (c.before.requires.1, omega arith, omega (arith, c.before.requires.1.opens.within))) (λ c. search needs) (λ c. search needs)
-    (λ c. omega (arith, low c)) (λ c. search needs) (λ c bs opens. sym (ends c.before opens ∙ rw (lt-leb (id c.before) 4 c.if1.true)))
-    (λ c κs. search needs) (λ c bs opens. sym (ends (p c.before) opens ∙ rw (is_known c.before, is_named c.before ∙ c.if2.true)))
-    (λ c. let took = c.before.before.before in λ bs opens. sym (number_short opens.within 4 (first_taken opens 4 took.taken.ensures c.before.taken2.given.1) _))
-    (λ c bs opens. sym (ends (p c.before) opens ∙ rw (is_known c.before, is_named c.before ∙ c.if2.false))))
+    (tie.spec (λ c κs. (c.requires.1, omega arith, omega (arith, c.requires.1.opens.within))) (λ c. search rules) (λ c. search rules)
+    (λ c. omega (arith, low c)) (λ c. search rules) (λ c bs opens. sym (ends c.before opens ∙ rw (lt-leb (id c.before) 4 c.if-id-ge-SYSTEMS.true)))
+    (λ c κs. search rules) (λ c bs opens. sym (ends (p c.before) opens ∙ rw (is_known c.before, is_named c.before ∙ c.if-named_in.true)))
+    (λ c bs opens. sym (number_short opens.within 4 (first_taken opens 4 c.taken-taken.ensures c.in-Short.is) _))
+    (λ c bs opens. sym (ends (p c.before) opens ∙ rw (is_known c.before, is_named c.before ∙ c.if-named_in.false))))

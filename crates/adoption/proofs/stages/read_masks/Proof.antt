@@ -1,6 +1,6 @@
 -- `adoption::stages::read_masks` meets its contract. Assumes nothing.
-use Rattle.bits.proofs.Words.{◌≡◌, sym, ap, ◌∙◌, subst, true, cond, ℕ, ◌+◌, ◌^◌, ◌≤◌, ◌<◌, arith, needs, leb}
-use borrow.Author.Tests.{le-leb, lt-leb, not-true, not-false}
+use Rattle.bits.proofs.Words.{◌≡◌, sym, ap, ◌∙◌, subst, true, cond, ℕ, ◌+◌, ◌^◌, ◌≤◌, ◌<◌, arith, rules, leb}
+use borrow.Author.Tests.{le-leb, lt-leb}
 use lib.Count.{ones, ones-le}
 use Rattle.format.proofs.Ends.{after_field, fits, bits_short}
 use Rattle.adoption.proofs.StageEnds.{opens_at, satellites_end}
@@ -19,67 +19,67 @@ use Rattle.adoption.proofs.stages.read_masks.Statement.{statement}
 use Rattle.adoption.proofs.stages.read_masks.Tie as tie
 
 -- the satellite mask, where its bits are there
-module _ (c : tie.After-known-told2) where
+module _ (c : tie.In-Whole) where
   abbrev s : tie.Start
-  s = c.before.before.before.before.before
+  s = c.before.before.before
 
   abbrev sats : ℕ
-  sats = c.before.taken3.given.0.0
+  sats = c.in-Whole.satellites
 
   there : taken_at s.args.bytes.now s.args.f.end (s.args.f.start + 4) 40 ≡ Whole sats
-  there = sym (c.before.before.before.taken.ensures _ s.pre.3) ∙ c.before.taken3.given.1
+  there = sym (c.taken-taken.ensures _ s.requires.3) ∙ c.in-Whole.is
 
   low : sats < 2 ^ 40
-  low = fits s.pre.2 40 there
+  low = fits s.requires.2 40 there
 
   after : Within s.args.bytes.now s.args.f.end (s.args.f.start + 4 + 40)
-  after = after_field s.pre.2 40 there
+  after = after_field s.requires.2 40 there
 
   ends :
       end_from (system_masks s.args.n s.args.id) s.args.bytes.now s.args.f.end (s.args.f.start + 4)
       ≡ cond (assigned satellite_places s.args.id (spell 40 sats))
       (cond (leb (s.args.n + ones sats) 64) (end_from (system_signals s.args.id (spell 40 sats)) s.args.bytes.now s.args.f.end (s.args.f.start + 4 + 40)) (badly Size 0)) (badly Reserved 0)
-  ends = satellites_end s.pre.2 s.args.n s.args.id there
+  ends = satellites_end s.requires.2 s.args.n s.args.id there
 
 -- how many satellites there are
 module _ (c : tie.After-count) where
-  abbrev p : tie.After-known-told2
+  abbrev p : tie.In-Whole
   p = c.before.before.before
 
   few : c.count.result ≤ 40
   few = omega (arith, c.count.ensures, ones-le 40 (sats p) (low p))
 
   on : assigned satellite_places (s p).args.id (spell 40 (sats p)) ≡ true
-  on = sym c.before.before.satellites-assigned.ensures ∙ not-false _ c.before.if1.false
+  on = sym c.satellites_assigned.ensures ∙ c.if-not-satellites_assigned.false
 
 -- the front of the signal mask
-module _ (c : tie.After-front-at) where
-  abbrev k : tie.After-known-told2
+module _ (c : tie.After-front_at) where
+  abbrev k : tie.In-Whole
   k = p c.before.before.before
 
-  opens : Opens (s k).args.bytes.now c.Front-at.result
-  opens = opens_at (after k) c.Front-at.ensures
+  opens : Opens (s k).args.bytes.now c.front_at.result
+  opens = opens_at (after k) c.front_at.ensures
 
-returns-4 : tie.Need-returns-4
-returns-4 c =
+returns-else-n-count-gt-SATELLITES : tie.Need-returns-else-n-count-gt-SATELLITES
+returns-else-n-count-gt-SATELLITES c =
     let count = c.before.before.before.before in
     let at = p count in
     let x = (s at).args in
-    let fit = le-leb (x.n + ones (sats at)) 64 (omega (arith, count.count.ensures, c.before.before.before.if2.false)) in
-    let front = c.before.Front-at.ensures in
-    let read = c.read-signals.ensures in
+    let fit = le-leb (x.n + ones (sats at)) 64 (omega (arith, count.count.ensures, c.if-n-count-gt-SATELLITES.false)) in
+    let front = c.front_at.ensures in
+    let read = c.read_signals.ensures in
     let same = ap (λ (g : Front). end_from (system_signals x.id (spell 40 (sats at))) x.bytes.now g.end g.start) front in
-    (read.0 x.bytes.now (opens c.before) ∙ same ∙ sym (ends at ∙ rw (on count, fit)), subst (λ (g : Front). FitsMasked x.bytes.now g.end c.read-signals.result) front (read.1 x.bytes.now (opens c.before)))
+    (read.0 x.bytes.now (opens c.before) ∙ same ∙ sym (ends at ∙ rw (on count, fit)), subst (λ (g : Front). FitsMasked x.bytes.now g.end c.read_signals.result) front (read.1 x.bytes.now (opens c.before)))
 
-pub read-masks-spec : {M : Type 1} → statement M
+pub read_masks_spec : {M : Type 1} → statement M
 unfolding end_masked FitsMasked system_masks
-read-masks-spec =
+read_masks_spec =
     tie.close
-    (tie.spec (λ c κs. (record { bytes = _; opens = c.before.requires.3 }, omega arith, c.before.requires.2.room)) (λ c. search needs) (λ c. search needs)
-    (λ c κs. (search needs, low c)) (λ c. (sym (ends c.before.before ∙ rw (sym c.before.satellites-assigned.ensures ∙ not-true _ c.if1.true)), tt))
-    (λ c κs. search needs) (λ c. omega (arith, few c))
-    (λ c. let at = p c.before in (sym (ends at ∙ rw (on c.before, lt-leb ((s at).args.n + ones (sats at)) 64 (omega (arith, c.before.count.ensures, c.if2.true)))), tt))
-    (λ c. search needs) (λ c. omega (arith, after (p c.before.before))) (λ c κs. search needs)
-    (λ c κs. (search needs, low (k c), record { bytes = _; opens = opens c }))
-    (λ c. let took = c.before.before.before in (sym (bits_short took.before.before.requires.2 40 (sym (took.taken.ensures _ took.before.before.requires.3) ∙ c.before.taken2.given.1) _), tt))
-    returns-4)
+    (tie.spec (λ c κs. (record { bytes = _; opens = c.requires.3 }, omega arith, c.requires.2.room)) (λ c. search rules) (λ c. search rules)
+    (λ c κs. (search rules, low c)) (λ c. (sym (ends c.before.before ∙ rw (sym c.satellites_assigned.ensures ∙ c.if-not-satellites_assigned.true)), tt))
+    (λ c κs. search rules) (λ c. omega (arith, few c))
+    (λ c. let at = p c.before in (sym (ends at ∙ rw (on c.before, lt-leb ((s at).args.n + ones (sats at)) 64 (omega (arith, c.count.ensures, c.if-n-count-gt-SATELLITES.true)))), tt))
+    (λ c. search rules) (λ c. omega (arith, after (p c.before.before))) (λ c κs. search rules)
+    (λ c κs. (search rules, low (k c), record { bytes = _; opens = opens c }))
+    (λ c. (sym (bits_short c.requires.2 40 (sym (c.taken-taken.ensures _ c.requires.3) ∙ c.in-Short.is) _), tt))
+    returns-else-n-count-gt-SATELLITES)

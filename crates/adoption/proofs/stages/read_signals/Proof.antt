@@ -1,6 +1,5 @@
 -- `adoption::stages::read_signals` meets its contract. Assumes nothing.
-use Rattle.bits.proofs.Words.{◌≡◌, refl, sym, ◌∙◌, List, ℕ, ◌^◌, ◌<◌, arith, needs}
-use borrow.Author.Tests.{not-true, not-false}
+use Rattle.bits.proofs.Words.{◌≡◌, refl, sym, ◌∙◌, List, ℕ, ◌^◌, ◌<◌, arith, rules}
 use Rattle.format.specs.Messages.{system_signals}
 use Rattle.format.proofs.Ends.{fits, bits_short}
 use Rattle.adoption.proofs.StageEnds.{first_taken, signals_end}
@@ -13,38 +12,38 @@ use Rattle.adoption.proofs.stages.read_signals.Statement.{statement}
 use Rattle.adoption.proofs.stages.read_signals.Tie as tie
 
 -- the mask, where its bits are there
-module _ (c : tie.After-known-told2) where
-  abbrev took : tie.After-taken
-  took = c.before.before.before
+module _ (c : tie.In-Whole) where
+  abbrev took : tie.After-taken-taken
+  took = c.before
 
   abbrev s : tie.Start
   s = took.before
 
-  there : {bs : List ℕ} → Opens bs s.args.f → taken_at bs s.args.f.end s.args.f.start 16 ≡ Whole c.before.taken3.given.0.0
-  there opens = first_taken opens 16 took.taken.ensures c.before.taken3.given.1
+  there : {bs : List ℕ} → Opens bs s.args.f → taken_at bs s.args.f.end s.args.f.start 16 ≡ Whole c.in-Whole.signals
+  there opens = first_taken opens 16 took.taken-taken.ensures c.in-Whole.is
 
-  low : c.before.taken3.given.0.0 < 2 ^ 16
-  low = let o = s.pre.2.opens in fits o.within 16 (there o)
+  low : c.in-Whole.signals < 2 ^ 16
+  low = let o = s.requires.2.opens in fits o.within 16 (there o)
 
-returns : tie.Need-returns
+returns-then-not-signals_assigned : tie.Need-returns-then-not-signals_assigned
 unfolding end_masked FitsMasked
-returns c =
+returns-then-not-signals_assigned c =
     let p = c.before.before in
     let x = (s p).args in
-    (λ bs opens. sym (signals_end opens.within x.id (spell 40 x.satellites) (there p opens) ∙ rw (sym c.before.signals-assigned.ensures ∙ not-true _ c.if1.true)), λ bs opens. tt)
+    (λ bs opens. sym (signals_end opens.within x.id (spell 40 x.satellites) (there p opens) ∙ rw (sym c.signals_assigned.ensures ∙ c.if-not-signals_assigned.true)), λ bs opens. tt)
 
-returns-3 : tie.Need-returns-3
+returns-else-not-signals_assigned : tie.Need-returns-else-not-signals_assigned
 unfolding end_masked FitsMasked
-returns-3 c =
+returns-else-not-signals_assigned c =
     let p = c.before.before in
     let x = (s p).args in
-    (λ bs opens. sym (signals_end opens.within x.id (spell 40 x.satellites) (there p opens) ∙ rw (sym c.before.signals-assigned.ensures ∙ not-false _ c.if1.false)), λ bs opens. ((s p).requires.1, opens, refl))
+    (λ bs opens. sym (signals_end opens.within x.id (spell 40 x.satellites) (there p opens) ∙ rw (sym c.signals_assigned.ensures ∙ c.if-not-signals_assigned.false)), λ bs opens. ((s p).requires.1, opens, refl))
 
-pub read-signals-spec : {M : Type 1} → statement M
+pub read_signals_spec : {M : Type 1} → statement M
 unfolding end_masked FitsMasked system_signals
-read-signals-spec =
+read_signals_spec =
     tie.close
-    (tie.spec (λ c κs. (c.requires.2, omega arith, omega (arith, c.requires.2.opens.within))) (λ c. search needs) (λ c. search needs) (λ c κs. (search needs, low c))
-    returns (λ c. omega (arith, low c.before.before))
-    (λ c. let took = c.before.before.before in (λ bs opens. sym (bits_short opens.within 16 (first_taken opens 16 took.taken.ensures c.before.taken2.given.1) _), λ bs opens. tt))
-    returns-3)
+    (tie.spec (λ c κs. (c.requires.2, omega arith, omega (arith, c.requires.2.opens.within))) (λ c. search rules) (λ c. search rules) (λ c κs. (search rules, low c))
+    returns-then-not-signals_assigned (λ c. omega (arith, low c.before.before))
+    (λ c. (λ bs opens. sym (bits_short opens.within 16 (first_taken opens 16 c.taken-taken.ensures c.in-Short.is) _), λ bs opens. tt))
+    returns-else-not-signals_assigned)

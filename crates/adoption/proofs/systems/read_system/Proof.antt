@@ -1,5 +1,5 @@
 -- `adoption::systems::read_system` meets its contract: the parts one after the other. Assumes nothing.
-use Rattle.bits.proofs.Words.{◌≡◌, sym, ap, ◌∙◌, List, ℕ, ◌+◌, ◌^◌, ◌≤◌, ◌<◌, arith, needs, take}
+use Rattle.bits.proofs.Words.{◌≡◌, sym, ap, ◌∙◌, List, ℕ, ◌+◌, ◌^◌, ◌≤◌, ◌<◌, arith, rules, take}
 use borrow.Author.Tests.{leb-true}
 use lib.Count.{ones}
 use Rattle.adoption.proofs.StageEnds.{opens_at, masks_fit_lem}
@@ -19,7 +19,7 @@ use Rattle.adoption.proofs.systems.read_system.Statement.{statement}
 use Rattle.adoption.proofs.systems.read_system.Tie as tie
 
 -- the front is the system's
-module _ (c : tie.After-front-at) where
+module _ (c : tie.After-front_at-f) where
   abbrev s : tie.Start
   s = c.before.before.before
 
@@ -27,10 +27,10 @@ module _ (c : tie.After-front-at) where
   bs = s.args.bytes.now
 
   abbrev f : Front
-  f = c.Front-at.result
+  f = c.front_at-f.result
 
   opens : Opens bs f
-  opens = opens_at s.pre.2 c.Front-at.ensures
+  opens = opens_at s.requires.2 c.front_at-f.ensures
 
   -- where a program ends from a place on
   abbrev ends : {A : Type 0} → Program A → ℕ → Ended A
@@ -44,30 +44,29 @@ module _ (c : tie.After-front-at) where
   all = untested (take s.args.count s.args.ids.now) s.args.nsat
 
   same : ends all f.start ≡ end_from all bs s.args.end s.args.place
-  same = ap (λ (g : Front). end_from all bs g.end g.start) c.Front-at.ensures
+  same = ap (λ (g : Front). end_from all bs g.end g.start) c.front_at-f.ensures
 
 -- a refused ID
-returns : tie.Need-returns
+returns-in-Refused : tie.Need-returns-in-Refused
 unfolding end_named end_system FitsSystem untested
-returns c =
-    let p = c.before.before.before in
-    let t = p.before in
-    (sym (then_badly (opens t).within (first t) _ (sym (p.read-id.ensures (bs t) (opens t)) ∙ ap (end_named (f t).start) c.before.r.given.1)) ∙ same t, tt)
+returns-in-Refused c =
+    let t = c.before.before in
+    (sym (then_badly (opens t).within (first t) _ (sym (c.read_id.ensures (bs t) (opens t)) ∙ ap (end_named (f t).start) c.in-Refused.is)) ∙ same t, tt)
 
 -- after an ID
-module _ (c : tie.After-known-told2) where
-  abbrev t : tie.After-front-at
-  t = c.before.before.before.before
+module _ (c : tie.In-Fine) where
+  abbrev t : tie.After-front_at-f
+  t = c.before.before
 
   abbrev id : ℕ
-  id = c.before.id.given.0.0
+  id = c.in-Fine.id
 
   abbrev next : ℕ
   next = (f t).start + 4
 
   fine : ends t (first t) (f t).start ≡ well id next
   unfolding end_named
-  fine = sym (c.before.before.before.read-id.ensures (bs t) (opens t)) ∙ ap (end_named (f t).start) c.before.id.given.1
+  fine = sym (c.read_id.ensures (bs t) (opens t)) ∙ ap (end_named (f t).start) c.in-Fine.is
 
   there : Within (bs t) (f t).end next
   there = ended_at_lem (opens t).within (first t) fine
@@ -82,34 +81,33 @@ module _ (c : tie.After-known-told2) where
   after = sym (same t) ∙ then_well (opens t).within (first t) _ fine
 
 -- refused masks
-returns-2 : tie.Need-returns-2
+returns-in-Refused-read_masks : tie.Need-returns-in-Refused-read_masks
 unfolding end_masked end_system FitsSystem
-returns-2 c =
-    let q = c.before.before.before in
-    let p = q.before in
-    (sym (after p ∙ then_badly (there p) (system_masks (s (t p)).args.nsat (id p)) _ (sym q.read-masks.ensures.0 ∙ ap end_masked c.before.r2.given.1)), tt)
+returns-in-Refused-read_masks c =
+    let p = c.before.before in
+    (sym (after p ∙ then_badly (there p) (system_masks (s (t p)).args.nsat (id p)) _ (sym c.read_masks.ensures.0 ∙ ap end_masked c.in-Refused-read_masks.is)), tt)
 
 -- after the masks
-module _ (c : tie.After-known-told4) where
-  abbrev p : tie.After-known-told2
-  p = c.before.before.before.before
+module _ (c : tie.In-Fine-read_masks) where
+  abbrev p : tie.In-Fine
+  p = c.before.before
 
   abbrev sats : ℕ
-  sats = c.before.satellites.given.0.0
+  sats = c.in-Fine-read_masks.satellites
 
   abbrev g : Front
-  g = c.before.satellites.given.0.1.1.0
+  g = c.in-Fine-read_masks.next
 
   abbrev masks : BothMasks
-  masks = masks_by sats c.before.satellites.given.0.1.0
+  masks = masks_by sats c.in-Fine-read_masks.signals
 
   both : ends (t p) (system_masks (s (t p)).args.nsat (id p)) (next p) ≡ well masks (g.start + 16)
   unfolding end_masked
-  both = sym c.before.before.before.read-masks.ensures.0 ∙ ap end_masked c.before.satellites.given.1
+  both = sym c.read_masks.ensures.0 ∙ ap end_masked c.in-Fine-read_masks.is
 
   fit : (sats < 2 ^ 40) × Opens (bs (t p)) g × (g.end ≡ (f (t p)).end)
   unfolding FitsMasked
-  fit = rw c.before.satellites.given.1 at c.before.before.before.read-masks.ensures.1
+  fit = rw c.in-Fine-read_masks.is at c.read_masks.ensures.1
 
   room : g.start + 16 ≤ g.end
   room = omega (arith, fit.2, ended_at_lem (there p) (system_masks (s (t p)).args.nsat (id p)) both)
@@ -117,16 +115,16 @@ module _ (c : tie.After-known-told4) where
   few : (s (t p)).args.nsat + ones sats ≤ 64
   few = rw (ones_places 40 sats 0 fit.0) (leb-true _ 64 (gave (there p) (system_masks (s (t p)).args.nsat (id p)) (masks_give (s (t p)).args.nsat (id p)) both).1.0.few)
 
-returns-3 : tie.Need-returns-3
-returns-3 c =
+returns-in-Fine-read_masks : tie.Need-returns-in-Fine-read_masks
+returns-in-Fine-read_masks c =
     let q = c.before in
     let t = t (p q) in
     let n = (s t).args.nsat in
-    let last = c.read-flag.ensures.0 (bs t) (fit q).1 ∙ ap (λ (e : ℕ). end_from (with_cells (id (p q)) (masks q)) (bs t) e ((g q).start + 16)) (fit q).2 in
-    (last ∙ sym (after (p q) ∙ then_well (there (p q)) (system_masks n (id (p q))) _ (both q)), masks_fit_lem _ n c.read-flag.result c.read-flag.ensures.1 (fit q).0 (few q))
+    let last = c.read_flag.ensures.0 (bs t) (fit q).1 ∙ ap (λ (e : ℕ). end_from (with_cells (id (p q)) (masks q)) (bs t) e ((g q).start + 16)) (fit q).2 in
+    (last ∙ sym (after (p q) ∙ then_well (there (p q)) (system_masks n (id (p q))) _ (both q)), masks_fit_lem _ n c.read_flag.result c.read_flag.ensures.1 (fit q).0 (few q))
 
-pub read-system-spec : {M : Type 1} → statement M
-read-system-spec =
+pub read_system_spec : {M : Type 1} → statement M
+read_system_spec =
     tie.close
-    (tie.spec (λ c κs. search needs) (λ c κs. (search needs, record { bytes = bs c; opens = opens c })) (λ c. search needs) (λ c. search needs) (λ c κs. (search needs, new c, there c, opens (t c))) (λ c. search needs) (λ c. search needs)
-    (λ c κs. ((fit c).0, record { bytes = _; opens = (fit c).1 }, room c)) returns returns-2 returns-3)
+    (tie.spec (λ c κs. search rules) (λ c κs. (search rules, record { bytes = bs c; opens = opens c })) (λ c. search rules) (λ c. search rules) (λ c κs. (search rules, new c, there c, opens (t c))) (λ c. search rules) (λ c. search rules)
+    (λ c κs. ((fit c).0, record { bytes = _; opens = (fit c).1 }, room c)) returns-in-Refused returns-in-Refused-read_masks returns-in-Fine-read_masks)
