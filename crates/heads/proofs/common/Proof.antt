@@ -21,5 +21,5 @@ unfolding bits_of widths_of
 common_spec =
     tie.close
     (tie.spec (λ c κs. search rules) (λ c. search rules) (λ c κs. search rules) (λ c. search rules) (λ c. search rules) (λ c. search rules)
-    (λ c κs. let short = c.before.before in let took = short in (field_short _ _ _ 21 _ (sym (took.taken-taken.ensures _ took.requires.0.opens) ∙ c.in-Short.is)).0)
+    (λ c κs. (field_short _ _ _ 21 _ (sym (c.taken-taken.ensures _ c.requires.0.opens) ∙ c.in-Short.is)).0)
     returns-in-Whole returns-in-Short)
