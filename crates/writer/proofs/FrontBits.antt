@@ -1,5 +1,5 @@
 -- The bits of a message's front: what a head's numbers spell, gathered. Assumes nothing.
-use Rattle.bits.proofs.Words.{◌≡◌, refl, sym, ap, ap₂, ◌∙◌, Bool, true, false, List, ◌++◌, ℕ, ◌+◌, ◌*◌, ◌^◌, ◌≤◌, ◌<◌, arith, ℤ, pos}
+use Rattle.bits.proofs.Words.{◌≡◌, refl, sym, ap, ap₂, ◌∙◌, Bool, true, List, ◌++◌, ℕ, ◌+◌, ◌*◌, ◌^◌, ◌≤◌, ◌<◌, arith, ℤ, pos}
 use mathlib.Core.Bool.{false≢true}
 use mathlib.Core.List.{append-nil, append_assoc}
 use native.Mathlib.Nat.{lt_of_lt_of_le}

@@ -1,5 +1,5 @@
 -- What a plan comes to is what head and rows come to: whether they fit, and their bits. Under the mask, with rows alone after the common head. Assumes nothing.
-use Rattle.bits.proofs.Words.{◌≡◌, refl, sym, ap, ap₂, ◌∙◌, Bool, true, false, cond, ◌&&◌, List, ◌++◌, ℕ, ◌+◌, ◌≤◌, arith, length, ℤ, pos}
+use Rattle.bits.proofs.Words.{◌≡◌, refl, sym, ap, ap₂, ◌∙◌, Bool, true, false, cond, ◌&&◌, List, ◌++◌, ℕ, ◌≤◌, arith, length, ℤ, pos}
 use mathlib.Core.Bool.{false≢true}
 use borrow.Author.Tests.{lt-ltb}
 use Rattle.bits.specs.BitLists.{spell}

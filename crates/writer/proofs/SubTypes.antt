@@ -1,18 +1,16 @@
 -- The sub types as the code has them are those of crate format's table. Assumes nothing.
-use Rattle.bits.proofs.Words.{◌≡◌, refl, sym, ap, ◌∙◌, Bool, true, false, List, [], ◌∷◌, map, ℕ, zero, suc, ◌-◌, ◌^◌, ◌<◌, arith, eqb, ℤ, pos, get_or}
+use Rattle.bits.proofs.Words.{◌≡◌, refl, sym, ap, ◌∙◌, Bool, true, false, List, [], ◌∷◌, map, ℕ, zero, suc, ◌-◌, ◌^◌, ◌<◌, arith, ℤ, pos, get_or}
 use native.Mathlib.Nat.{zero-add}
 use lib.IntN.{negsuc}
 use mir.Syntax.{w32}
 use mir.Val.{SFits}
 use Rattle.bits.specs.Signed.{unsigned}
 use Rattle.format.proofs.Tables.{Each, end, then, each_at, NoneOf}
-use Rattle.format.specs.Masks.{nothing}
 use Rattle.format.specs.Messages.{combined_shape, orbit_shape, over_satellites, over_cells}
 use Rattle.format.specs.Same.{sameℤ}
-use Rattle.format.specs.Table as Table
 use Rattle.format.specs.Writing.{has_network}
 use Rattle.rows.specs.Table.{shapes, listed, shape_at}
-use Rattle.table.proofs.Tabled.{combined_shapes, bias_shapes, unlisted_other, ours}
+use Rattle.table.proofs.Tabled.{combined_shapes, bias_shapes, unlisted_other}
 use Rattle.table.specs.declared.Kind.{Kind}
 use Rattle.table.specs.declared.Kind.TheVariants.{Other, Mask, Packet, Masked}
 use Rattle.table.specs.Kinds.{code_kinds, kind_for, over_by, keys_by}

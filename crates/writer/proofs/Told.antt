@@ -21,7 +21,7 @@ use Rattle.format.specs.Spelling.{rows_for, marks, chosen_by}
 use Rattle.format.specs.Table.{spelled}
 use Rattle.holding.proofs.Sounds.{Sounds, few_held, held_distinct}
 use Rattle.holding.specs.declared.Holding.{Holding}
-use Rattle.holding.specs.Held.{is_held, issue_of, satellites_held, cells_held, View, sky_in, slots_of, view_of, strip_cells}
+use Rattle.holding.specs.Held.{is_held, issue_of, satellites_held, cells_held, View, sky_in, view_of, strip_cells}
 use Rattle.rows.specs.Shapes.{columns_in}
 use Rattle.rows.specs.Table.{shape_for}
 use Rattle.table.proofs.Strips.{own_counts}

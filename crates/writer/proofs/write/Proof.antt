@@ -1,8 +1,5 @@
 -- `writer::write` meets its contract. Assumes nothing.
-use Rattle.bits.proofs.Words.{◌≡◌, refl, sym, ap, ap₂, subst, ◌∙◌, Bool, true, false, ℕ, ◌≤◌, arith, needs}
-use mathlib.Core.Logic.{◌⊎◌, inl, inr}
-use borrow.Author.Tests.{not-true, not-false}
-use denote.Enum.Declared.{tag_of}
+use Rattle.bits.proofs.Words.{◌≡◌, refl, sym, ap, ap₂, subst, ◌∙◌, Bool, true, false, ℕ, ◌≤◌, arith, rules}
 use Rattle.format.specs.Writing.{Written, limit, writing, bytes_after}
 use Rattle.holding.proofs.Sounds.{sounds}
 use Rattle.holding.specs.declared.Holding.{Holding}
@@ -10,7 +7,6 @@ use Rattle.holding.specs.declared.Outline.{Outline}
 use Rattle.holding.specs.Held.{is_held, issue_of}
 use Rattle.holding.specs.Outlines.{whole_of}
 use Rattle.holding.specs.Pictures.{sound, lent_by, mask_of}
-use Rattle.table.specs.contracts.Kind.{the_type}
 use Rattle.table.specs.declared.Kind.{Kind}
 use Rattle.table.specs.declared.Kind.TheVariants as Kinds
 use Rattle.writer.specs.declared.gate.Gate.TheVariants.{Open}
@@ -30,65 +26,57 @@ use Rattle.writer.proofs.WholeOrder.{stray_writing, sound_writing}
 use Rattle.writer.proofs.write.Statement.{statement}
 use Rattle.writer.proofs.write.Tie as tie
 
-not_mask : (k : Kind) → (tag_of the_type k ≡ 0) ⊎ ((tag_of the_type k ≡ 2) ⊎ (tag_of the_type k ≡ 3)) → k ≡ Kinds.Mask → ⊥
-not_mask k keys e = go (rw e at keys)
-  where
-    go : (tag_of the_type Kinds.Mask ≡ 0) ⊎ ((tag_of the_type Kinds.Mask ≡ 2) ⊎ (tag_of the_type Kinds.Mask ≡ 3)) → ⊥
-    go (inl x) = omega arith
-    go (inr (inl x)) = omega arith
-    go (inr (inr x)) = omega arith
-
-inside : (c : tie.Else1) → c.before.before.before.before.args.start ≤ limit c.before.before.before.before.args.bytes.now
-inside c = omega (arith, c.if1.false, c.before.limit.ensures.0)
+inside : (c : tie.Else-start-limit) → c.args.start ≤ limit c.args.bytes.now
+inside c = omega (arith, c.if-start-limit.false, c.limit.ensures.0)
 
 -- the test of the holding, in parts
-module _ (c : tie.After-is-sound) where
-  abbrev one : tie.Else1
+module _ (c : tie.After-is_sound) where
+  abbrev one : tie.Else-start-limit
   one = c.before.before.before.before.before.before
 
   abbrev s : tie.Start
-  s = one.before.before.before.before
+  s = one.before.before.before
 
-  abbrev parts : tie.After-outline
+  abbrev parts : tie.After-outline-outline
   parts = c.before.before.before
 
   abbrev whole : Holding
-  whole = whole_of parts.outline.result s.args.holding.satellites s.args.holding.strips
+  whole = whole_of parts.outline-outline.result s.args.holding.satellites s.args.holding.strips
 
   together : whole ≡ s.args.holding
-  together = ap (λ (o : Outline). whole_of o s.args.holding.satellites s.args.holding.strips) parts.outline.ensures
+  together = ap (λ (o : Outline). whole_of o s.args.holding.satellites s.args.holding.strips) parts.outline-outline.ensures
 
-  tested : c.is-sound.result ≡ sound s.args.holding
-  tested = c.is-sound.ensures ∙ ap (λ (h : Holding). sound h) together
+  tested : c.is_sound.result ≡ sound s.args.holding
+  tested = c.is_sound.ensures ∙ ap (λ (h : Holding). sound h) together
 
-returns-2 : tie.Need-returns-2
+returns-then-not-is_sound : tie.Need-returns-then-not-is_sound
 unfolding answered bytes_after
-returns-2 c =
+returns-then-not-is_sound c =
     let t = c.before in
     let x = (s t).args in
-    let not : sound x.holding ≡ false = sym (tested t) ∙ not-true _ c.if2.true in
+    let not : sound x.holding ≡ false = sym (tested t) ∙ c.if-not-is_sound.true in
     rw (stray_writing x.holding x.head x.rows.now x.count x.bytes.now x.start (inside (one t)) not) (refl, refl)
 
 -- the holding is one
-module _ (c : tie.After-of) where
-  abbrev two : tie.Else2
+module _ (c : tie.After-of-gate) where
+  abbrev two : tie.Else-not-is_sound
   two = c.before.before.before
 
   abbrev st : tie.Start
   st = s two.before
 
   on : sound st.args.holding ≡ true
-  on = sym (tested two.before) ∙ not-false _ two.if2.left
+  on = sym (tested two.before) ∙ two.if-not-is_sound.false
 
   in_parts : sound (whole two.before) ≡ true
-  in_parts = sym two.before.is-sound.ensures ∙ not-false _ two.if2.left
+  in_parts = sym two.is_sound.ensures ∙ two.if-not-is_sound.false
 
-  kind : c.before.kind-in.result ≡ kind_at st.args.head.subtype
-  kind = of_struct kind_at _ c.before.before.struct_told.given.0.1 c.before.kind-in.ensures
+  kind : c.kind_in-kind.result ≡ kind_at st.args.head.subtype
+  kind = of_struct kind_at _ c.struct_told-1.given.0.1 c.kind_in-kind.ensures
 
-  gate : c.of.result ≡ gate_by (kind_at st.args.head.subtype) st.args.holding.held st.args.holding.iod st.args.head
+  gate : c.of-gate.result ≡ gate_by (kind_at st.args.head.subtype) st.args.holding.held st.args.holding.iod st.args.head
   gate =
-      c.of.ensures ∙ ap₂ (λ (k : Kind) (o : Outline). gate_by k o.held o.iod st.args.head) kind (parts two.before).outline.ensures
+      c.of-gate.ensures ∙ ap₂ (λ (k : Kind) (o : Outline). gate_by k o.held o.iod st.args.head) kind (parts two.before).outline-outline.ensures
 
   abbrev asked : Asked
   asked = record { kind = kind_at st.args.head.subtype; head = st.args.head; count = st.args.count; start = st.args.start }
@@ -97,20 +85,19 @@ module _ (c : tie.After-of) where
       ≡ by_gate (gate_by (kind_at st.args.head.subtype) st.args.holding.held st.args.holding.iod st.args.head) (past_gate st.args.holding asked st.args.rows.now st.args.bytes.now)
   all = sound_writing st.args.holding st.args.head st.args.rows.now st.args.count st.args.bytes.now st.args.start (inside (one two.before)) on
 
-returns-3 : tie.Need-returns-3
+returns-in-Shut : tie.Need-returns-in-Shut
 unfolding by_gate answered bytes_after
-returns-3 c =
-    let g = c.before in
-    let o = g.before.before in
-    rw (all o, sym (gate o) ∙ g.gate.given.1) (refl, refl)
+returns-in-Shut c =
+    let o = c.before in
+    rw (all o, sym (gate o) ∙ c.in-Shut.is) (refl, refl)
 
 -- the gate is open
-module _ (c : tie.After-enum-told) where
-  abbrev o : tie.After-of
-  o = c.before.before
+module _ (c : tie.In_default) where
+  abbrev o : tie.After-of-gate
+  o = c.before
 
   opened : gate_by (kind_at (st o).args.head.subtype) (st o).args.holding.held (st o).args.holding.iod (st o).args.head ≡ Open
-  opened = sym (gate o) ∙ c.enum_told.given.1
+  opened = sym (gate o) ∙ c.in_default.is
 
   open_held : (k : Kind) → kind_at (st o).args.head.subtype ≡ k → gate_by k (is_held (mask_of (st o).args.holding)) (issue_of (mask_of (st o).args.holding)) (st o).args.head ≡ Open
   open_held k e =
@@ -119,20 +106,20 @@ module _ (c : tie.After-enum-told) where
       (sym (ap₂ (λ (b : Bool) (n : ℕ). gate_by (kind_at (st o).args.head.subtype) b n (st o).args.head) t.held t.iod) ∙ opened)
 
 -- a mask
-module _ (c : tie.After-enum-told2) where
-  abbrev through : tie.After-enum-told
-  through = c.before.before
+module _ (c : tie.In-Mask) where
+  abbrev through : tie.In_default
+  through = c.before
 
   known : Kinds.Mask ≡ kind_at (st (o through)).args.head.subtype
-  known = sym c.enum-told2.given.1 ∙ kind (o through)
+  known = sym c.in-Mask.is ∙ kind (o through)
 
   typed : number_fits 4 (st (o through)).args.head.subtype ≡ true
   unfolding is_other
   typed = let h = (st (o through)).args.head in let t = typed_as h Kinds.Mask refl known in small_type t.number Kinds.Mask h t.row refl t.typed
 
-returns-4 : tie.Need-returns-4
+returns-in-Mask : tie.Need-returns-in-Mask
 unfolding by_gate
-returns-4 c =
+returns-in-Mask c =
     let m = c.before.before in
     let e = m.before.before.before.before in
     let x = st (o (through e)) in
@@ -141,14 +128,14 @@ returns-4 c =
     (m.of_mask.ensures.0 ∙ ap (answered x.args.start) same, m.of_mask.ensures.1 ∙ ap (λ (d : Written). bytes_after d x.args.bytes.now x.args.start) same)
 
 -- any other
-module _ (c : tie.At-match2-keys2) where
-  abbrev gone : tie.After-enum-told
+module _ (c : tie.In_default-kind) where
+  abbrev gone : tie.In_default
   gone = c.before
 
   abbrev x : tie.Start
   x = st (o gone)
 
-  same : past_gate (whole (two (o gone)).before) (record { kind = (o gone).before.kind-in.result; head = x.args.head; count = x.args.count; start = x.args.start }) x.args.rows.now x.args.bytes.now
+  same : past_gate (whole (two (o gone)).before) (record { kind = (o gone).kind_in-kind.result; head = x.args.head; count = x.args.count; start = x.args.start }) x.args.rows.now x.args.bytes.now
       ≡ past_gate x.args.holding (asked (o gone)) x.args.rows.now x.args.bytes.now
   same =
       ap₂ (λ (h : Holding) (k : Kind). past_gate h (record { kind = k; head = x.args.head; count = x.args.count; start = x.args.start }) x.args.rows.now x.args.bytes.now)
@@ -159,13 +146,13 @@ past-requires c κs =
     let k = c.before.before.before in
     let g = gone k in (
       in_parts (o g),
-      record { known = kind (o g); other = not_mask (o g).before.kind-in.result k.match2.keys2; opens = sym (o g).of.ensures ∙ g.enum_told.given.1 },
+      record { known = kind (o g); other = k.in_default-kind.not-Mask; opens = sym (o g).of-gate.ensures ∙ g.in_default.is },
       inside (one (two (o g)).before),
     )
 
-returns-5 : tie.Need-returns-5
+returns : tie.Need-returns
 unfolding by_gate
-returns-5 c =
+returns c =
     let p = c.before.before in
     let k = p.before.before.before.before in
     rw (all (o (gone k)), opened (gone k)) (
@@ -177,9 +164,9 @@ pub write_spec : {M : Type 1} → statement M
 unfolding answered bytes_after
 write_spec =
     tie.close
-    (tie.spec (λ c κs. search needs) (λ c. search needs)
-    (λ c. let y = c.before.before.before.before.args in rw (out_of_place (lent_by y.holding) y.head y.rows.now y.count y.bytes.now y.start (omega (arith, c.if1.true, c.before.limit.ensures.0))) (refl, refl))
-    (λ c κs. search needs) (λ c κs. search needs) (λ c. search needs) returns-2 (λ c κs. search needs) (λ c κs. search needs) (λ c. search needs) (λ c. search needs) returns-3 (λ c. search needs) (λ c. search needs)
-    (λ c κs. let e = c.before.before.before in (in_parts (o (through e)), typed e, inside (one (two (o (through e))).before))) (λ c. search needs) returns-4
+    (tie.spec (λ c κs. search rules) (λ c. search rules)
+    (λ c. let y = c.args in rw (out_of_place (lent_by y.holding) y.head y.rows.now y.count y.bytes.now y.start (omega (arith, c.if-start-limit.true, c.limit.ensures.0))) (refl, refl))
+    (λ c κs. search rules) (λ c κs. search rules) (λ c. search rules) returns-then-not-is_sound (λ c κs. search rules) (λ c κs. search rules) (λ c. search rules) (λ c. search rules) returns-in-Shut (λ c. search rules) (λ c. search rules)
+    (λ c κs. let e = c.before.before.before in (in_parts (o (through e)), typed e, inside (one (two (o (through e))).before))) (λ c. search rules) returns-in-Mask
     (λ c. let k = c.before in sym (sounds (x k).args.holding (on (o (gone k)))).shaped.satellites) (λ c. let k = c.before.before in sym (sounds (x k).args.holding (on (o (gone k)))).shaped.strips)
-    past-requires (λ c. search needs) returns-5)
+    past-requires (λ c. search rules) returns)

@@ -1,5 +1,5 @@
 -- `writer::gate::kind_in` meets its contract. Assumes nothing.
-use Rattle.bits.proofs.Words.{◌≡◌, ap, ◌∙◌, needs}
+use Rattle.bits.proofs.Words.{◌≡◌, ap, ◌∙◌, rules}
 use mir.Facts.{to_z-of_z}
 use Rattle.table.specs.Kinds.{kind_for}
 use Rattle.pens.specs.Numbers.{word_of}
@@ -9,9 +9,9 @@ use Rattle.writer.proofs.gate.kind_in.Tie as tie
 
 returns : tie.Need-returns
 returns c =
-    let s = c.before.before in
-    let found : c.before.word.result ≡ word_of s.args.subtype = rw (to_z-of_z s.ranges.subtype) at c.before.word.ensures.0 in
-    c.kind-of.ensures ∙ ap kind_for found ∙ kind_word s.args.subtype s.ranges.subtype
+    let s = c in
+    let found : c.word.result ≡ word_of s.args.subtype = rw (to_z-of_z s.ranges.subtype) at c.word.ensures.0 in
+    c.kind_of.ensures ∙ ap kind_for found ∙ kind_word s.args.subtype s.ranges.subtype
 
-pub kind-in-spec : {M : Type 1} → statement M
-kind-in-spec = tie.close (tie.spec (λ c κs. search needs) (λ c κs. search needs) returns)
+pub kind_in_spec : {M : Type 1} → statement M
+kind_in_spec = tie.close (tie.spec (λ c κs. search rules) (λ c κs. search rules) returns)

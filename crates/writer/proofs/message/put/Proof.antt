@@ -1,5 +1,5 @@
 -- `writer::message::put` meets its contract. Assumes nothing.
-use Rattle.bits.proofs.Words.{◌≡◌, ap, ◌∙◌, List, ◌++◌, ℕ, ℤ, needs}
+use Rattle.bits.proofs.Words.{◌≡◌, ap, ◌∙◌, List, ◌++◌, ℕ, ℤ, rules}
 use Rattle.bits.proofs.Windows.{Bytes}
 use Rattle.rows.proofs.Table.{formed}
 use Rattle.rows.specs.declared.shape.Shape.{Shape}
@@ -27,7 +27,7 @@ module _ (s : tie.Start) where
 
   begins : Begins s.args.plan.pen (selected ++ rowed) s.args.bytes.now
   unfolding plan_fields
-  begins = s.pre.1.begins
+  begins = s.requires.1.begins
 
   abbrev begun : Pen
   begun = begun_by s.args.bytes.now s.args.plan.pen
@@ -36,74 +36,74 @@ module _ (s : tie.Start) where
   ready = ready_begun begins
 
 -- the selection is put out by the pen that has begun
-module _ (c : tie.After-select) where
-  abbrev known : tie.After-slice-known
+module _ (c : tie.After-select-selected) where
+  abbrev known : tie.After-slice_known-1
   known = c.before.before.before.before
 
   abbrev first : tie.Start
   first = known.before
 
-  pen_begun : c.before.before.begin.result ≡ begun first
-  pen_begun = c.before.before.begin.ensures
+  pen_begun : c.begin-begun.result ≡ begun first
+  pen_begun = c.begin-begun.ensures
 
-  selected_pen : c.select.result ≡ pen_after (begun first) (selected first)
-  selected_pen = c.select.ensures.0 ∙ ap (λ (p : Pen). pen_after p (selected first)) pen_begun
+  selected_pen : c.select-selected.result ≡ pen_after (begun first) (selected first)
+  selected_pen = c.select-selected.ensures.0 ∙ ap (λ (p : Pen). pen_after p (selected first)) pen_begun
 
-  selected_ink : c.select.new.0 ≡ ink_after (begun first) (selected first) first.args.bytes.now
-  selected_ink = c.select.ensures.1 ∙ ap (λ (p : Pen). ink_after p (selected first) first.args.bytes.now) pen_begun
+  selected_ink : c.select-selected.new.bytes ≡ ink_after (begun first) (selected first) first.args.bytes.now
+  selected_ink = c.select-selected.ensures.1 ∙ ap (λ (p : Pen). ink_after p (selected first) first.args.bytes.now) pen_begun
 
 -- rows can be put out by what is the same
 puts_same : (rows : List ℤ) (count : ℕ) {s s' : Shape} {p p' : Pen} {bytes bytes' : List ℕ} → s ≡ s' → p ≡ p' → bytes ≡ bytes' → PutsRows s' rows count p' bytes' → PutsRows s rows count p bytes
 puts_same rows count shape pen ink puts = rw (shape, pen, ink) puts
 
-put-rows-requires : tie.Need-put-rows-requires
-put-rows-requires c κs =
+put_rows-last-requires : tie.Need-put_rows-last-requires
+put_rows-last-requires c κs =
     let t = c.before.before.before in
     let s = first t in
-    puts_same s.args.rows.now s.args.count s.pre.0 (selected_pen t) (selected_ink t)
+    puts_same s.args.rows.now s.args.count s.requires.0 (selected_pen t) (selected_ink t)
     (record {
       formed = formed s.args.plan.body.shape;
       orbit = orbit_for s.args.plan.body.shape;
       triple = triple_for s.args.plan.body.shape;
-      whole = s.pre.1.whole;
-      fitting = s.pre.1.fitting;
+      whole = s.requires.1.whole;
+      fitting = s.requires.1.fitting;
       ready = ready_behind (selected s) (rowed s) (begun s) s.args.bytes.now (ready s);
     })
 
 -- what the rows leave
-module _ (c : tie.After-put-rows) where
-  abbrev t : tie.After-select
+module _ (c : tie.After-put_rows-last) where
+  abbrev t : tie.After-select-selected
   t = c.before.before.before.before
 
   abbrev start : tie.Start
   start = first t
 
   same_shape : row_fields start.args.s (rows_in start.args.count start.args.rows.now) ≡ rowed start
-  same_shape = ap (λ (x : Shape). row_fields x (rows_in start.args.count start.args.rows.now)) start.pre.0
+  same_shape = ap (λ (x : Shape). row_fields x (rows_in start.args.count start.args.rows.now)) start.requires.0
 
-  pens : c.put-rows.result ≡ pen_after (begun start) (selected start ++ rowed start)
+  pens : c.put_rows-last.result ≡ pen_after (begun start) (selected start ++ rowed start)
   pens =
       both_pens (selected start) (rowed start) (begun start) start.args.bytes.now (selected_pen t) (selected_ink t)
-      (c.put-rows.ensures.0 ∙ ap (pen_after t.select.result) same_shape)
+      (c.put_rows-last.ensures.0 ∙ ap (pen_after t.select-selected.result) same_shape)
 
-  inks : c.put-rows.new.0 ≡ ink_after (begun start) (selected start ++ rowed start) start.args.bytes.now
+  inks : c.put_rows-last.new.bytes ≡ ink_after (begun start) (selected start ++ rowed start) start.args.bytes.now
   inks =
       both_inks (selected start) (rowed start) (begun start) start.args.bytes.now (selected_pen t) (selected_ink t)
-      (c.put-rows.ensures.1 ∙ ap (λ (fs : List Field). ink_after t.select.result fs t.select.last.0) same_shape)
+      (c.put_rows-last.ensures.1 ∙ ap (λ (fs : List Field). ink_after t.select-selected.result fs t.select-selected.new.bytes) same_shape)
 
 returns : tie.Need-returns
 unfolding plan_fields
 returns c =
     let p = c.before.before.before.before.before.before in
     let s = start p in
-    let small : Bytes s.args.bytes.now = λ k. ((known (t p)).slice-known.given k).fits in
-    all_set_lem (selected s ++ rowed s) s.args.plan.pen s.args.bytes.now (begins s) small (pens p) (inks p) c.before.before.set.ensures
+    let small : Bytes s.args.bytes.now = λ k. ((known (t p)).slice_known-1.given k).fits in
+    all_set_lem (selected s ++ rowed s) s.args.plan.pen s.args.bytes.now (begins s) small (pens p) (inks p) c.set.ensures
 
 pub put_spec : {M : Type 1} → statement M
 put_spec =
     tie.close
     (tie.spec (λ c κs. begins_alone (begins c.before.before))
-    (λ c κs. let b = c.before in let s = b.before.before.before in (s.requires.1.marked, rw b.begin.ensures (ready_first (selected s) (rowed s) (begun s) s.args.bytes.now (ready s))))
-    put-rows-requires
+    (λ c κs. let b = c.before in let s = b.before.before.before in (s.requires.1.marked, rw b.begin-begun.ensures (ready_first (selected s) (rowed s) (begun s) s.args.bytes.now (ready s))))
+    put_rows-last-requires
     (λ c κs. let p = c.before.before.before in let s = start p in ready_last (selected s ++ rowed s) (begun s) s.args.bytes.now (ready s) (pens p) (inks p))
-    (λ c. search needs) returns)
+    (λ c. search rules) returns)

@@ -1,5 +1,5 @@
 -- `writer::message::rows_right` meets its contract. Assumes nothing.
-use Rattle.bits.proofs.Words.{◌≡◌, sym, ap, ◌∙◌, ℕ, ◌*◌, ◌/◌, ◌≤◌, ◌&&◌, arith, eqb, length, needs}
+use Rattle.bits.proofs.Words.{sym, ap, ◌∙◌, ℕ, ◌*◌, ◌/◌, ◌≤◌, ◌&&◌, arith, eqb, length, rules}
 use Rattle.body.proofs.Bodies.{counted, prefix, lends}
 use Rattle.holding.specs.declared.Holding.{Holding}
 use Rattle.holding.specs.Outlines.{whole_of}
@@ -21,16 +21,16 @@ module _ (s : tie.Start) where
   whole : 8 * count ≤ length s.args.rows.now
   whole = omega arith
 
-returns : tie.Need-returns
-returns c =
+returns-then-plan : tie.Need-returns-then-plan
+returns-then-plan c =
     let s = c.before.before.before.before in
-    c.values-right.ensures
+    c.values_right.ensures
     ∙ ap (λ (k : ℕ). eqb s.args.plan.told (8 * k) && rows_valued (columns_in (shape_for s.args.plan.body.shape)) (rows_of s.args.rows.now)) (sym (length_rows (count s) s.args.rows.now))
-    ∙ sym (s.requires.2.rest c.before.if1.true)
+    ∙ sym (s.requires.2.rest c.if-plan.true)
 
-pub rows-right-spec : {M : Type 1} → statement M
-rows-right-spec =
+pub rows_right_spec : {M : Type 1} → statement M
+rows_right_spec =
     tie.close
-    (tie.spec (λ c κs. let s = c.before.before.before in (s.requires.2.four c.if1.true, s.requires.3, whole s)) returns (λ c. search needs)
+    (tie.spec (λ c κs. let s = c.before.before.before in (s.requires.2.four c.if-plan.true, s.requires.3, whole s)) returns-then-plan (λ c. search rules)
     (λ c. let s = c.before.before.before.before.before.before in counted (holding s) s.requires.0) (λ c. let s = c.before.before.before.before.before.before.before in prefix (holding s) s.requires.0)
     (λ c κs. let s = c.before.before.before.before.before.before.before in (lends (holding s) s.requires.0, record { fits = s.requires.1.body; made = s.requires.3 }, whole s)) (λ c. c.rows_fit.ensures))

@@ -1,5 +1,5 @@
 -- `writer::plan::flagged_fits` meets its contract: its tests, each as the head has the number. Assumes nothing.
-use Rattle.bits.proofs.Words.{◌&&◌, needs}
+use Rattle.bits.proofs.Words.{◌&&◌, rules}
 use Rattle.fitting.specs.FitHeads.{number_fits, network_fits}
 use Rattle.writer.specs.Plans.{flagged_head}
 use Rattle.pens.proofs.Numbers.{of_struct}
@@ -11,12 +11,11 @@ unfolding flagged_head
 returns c =
     let t3 = c.before.before in
     let t2 = t3.before.before in
-    let t1 = t2.before.before in
-    let h = t1.before.args.head in
-    let a = of_struct (number_fits 1) h.a t2.before.struct_told.given.1.1.1.1.1.0.1 t2.fits2.ensures in
-    let b = of_struct (number_fits 1) h.b t3.before.struct-told2.given.1.1.1.1.1.1.0.1 t3.fits3.ensures in
-    let d = of_struct network_fits h.c c.before.struct-told3.given.1.1.1.1.1.1.1.0.1 c.network_fits_lem.ensures in
-    λ i. t1.common-fits.ensures i && (a i && (b i && d i))
+    let h = c.args.head in
+    let a = of_struct (number_fits 1) h.a t2.struct_told-1.given.1.1.1.1.1.0.1 t2.fits.ensures in
+    let b = of_struct (number_fits 1) h.b t3.struct_told-2-1.given.1.1.1.1.1.1.0.1 t3.fits-2.ensures in
+    let d = of_struct network_fits h.c c.struct_told-3-1.given.1.1.1.1.1.1.1.0.1 c.network_fits.ensures in
+    λ i. c.common_fits.ensures i && (a i && (b i && d i))
 
-pub flagged-fits-spec : {M : Type 1} → statement M
-flagged-fits-spec = tie.close (tie.spec (λ c κs. search needs) (λ c κs. search needs) (λ c κs. search needs) (λ c κs. search needs) returns)
+pub flagged_fits_spec : {M : Type 1} → statement M
+flagged_fits_spec = tie.close (tie.spec (λ c κs. search rules) (λ c κs. search rules) (λ c κs. search rules) (λ c κs. search rules) returns)

@@ -1,5 +1,5 @@
 -- `writer::planning::of` meets its contract. Assumes nothing.
-use Rattle.bits.proofs.Words.{needs}
+use Rattle.bits.proofs.Words.{rules}
 use Rattle.table.specs.declared.Kind.TheVariants.{Masked}
 use Rattle.table.specs.declared.Layout.{Layout}
 use Rattle.table.specs.Kinds.{LaidOut, OfTable}
@@ -15,6 +15,6 @@ pub of_spec : {M : Type 1} → statement M
 unfolding plan_for
 of_spec =
     tie.close
-    (tie.spec (λ c. search needs) (λ c. search needs) (λ c. search needs) (λ c κs. search needs) (λ c. search needs)
-    (λ c κs. let s = c.before.before.before.before.before in let known = c.before.kind.given in (s.requires.0, laid known.0.0 (rw known.1 at s.requires.1), s.requires.2))
-    (λ c. rw c.enum_told.given.1) (λ c. rw c.enum-told2.given.1) (λ c. rw c.before.enum-told3.given.1 c.packet.ensures) (λ c. rw c.before.before.kind.given.1 c.masked.ensures))
+    (tie.spec (λ c. search rules) (λ c. search rules) (λ c. search rules) (λ c κs. search rules) (λ c. search rules)
+    (λ c κs. let known = c.in-Masked in (c.requires.0, laid known.layout (rw known.is at c.requires.1), c.requires.2))
+    (λ c. rw c.in-Other.is) (λ c. rw c.in-Mask.is) (λ c. rw c.in-Packet.is c.packet.ensures) (λ c. rw c.in-Masked.is c.masked.ensures))

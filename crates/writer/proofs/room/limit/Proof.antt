@@ -1,9 +1,9 @@
 -- `writer::room::limit` meets its contract. Assumes nothing.
-use Rattle.bits.proofs.Words.{arith, needs}
+use Rattle.bits.proofs.Words.{arith, rules}
 use Rattle.format.specs.Writing.{limit}
 use Rattle.writer.proofs.room.limit.Statement.{statement}
 use Rattle.writer.proofs.room.limit.Tie as tie
 
-pub limit-spec : {M : Type 1} → statement M
+pub limit_spec : {M : Type 1} → statement M
 unfolding limit
-limit-spec = tie.close (tie.spec (λ c. (omega arith, omega arith)) (λ c. search needs) (λ c. (omega arith, omega arith)))
+limit_spec = tie.close (tie.spec (λ c. (omega arith, omega arith)) (λ c. search rules) (λ c. (omega arith, omega arith)))
