@@ -1,5 +1,6 @@
 // Text on its way to standard output.
-ghost use Rattle.std.specs.Prelude.{◌≡◌, ◌+◌, ◌≤◌, length};
+ghost use Rattle.std.specs.Prelude.{◌≡◌, ◌+◌, ◌≤◌, IsNone, [], cond, length, take};
+ghost use Rattle.std.specs.Io.KnownBytes.{Appends};
 ghost use Rattle.format.specs.Saved.{saving, buffer_after};
 ghost use Rattle.holding.specs.Pictures.{mask_of, lent_by};
 ghost use Rattle.lines.specs.Records.{message_room};
@@ -21,7 +22,11 @@ pub struct Sink {
 // Writes what waits.
 pub fn flush<R: Read, W: Write>(streams: &mut Streams<R, W>, out: &[u8], sink: Sink) -> Sink
     requires { sink.waiting ≤ length out.now }
-    ensures { result.waiting ≡ 0 }
+    ensures none_waits { result.waiting ≡ 0 }
+    ensures shown { result.shown ≡ sink.shown }
+    ensures bytes { IsNone streams.new.failure → Appends (W.contents streams.old.output) (W.contents streams.new.output) (cond sink.shown (take sink.waiting out.now) []) }
+    ensures input { streams.new.input ≡ streams.old.input }
+    ensures fine { IsNone streams.new.failure → IsNone streams.old.failure }
 {
     let shown = sink.shown;
     if shown {
