@@ -15,7 +15,6 @@ use Rattle.format.specs.Table.{Message, opening}
 use Rattle.format.proofs.Ends.{by_end, ended_at_lem}
 use Rattle.format.proofs.Selections.{Distinct}
 use Rattle.format.proofs.Stops.{settles}
-use Rattle.heads.specs.declared.heading.Heading.{Heading}
 use Rattle.heads.specs.declared.Opening.TheVariants.{SubType}
 use Rattle.heads.specs.declared.Opening.TheVariants as Openings
 use Rattle.heads.specs.Heads.{opening_by}
@@ -27,7 +26,7 @@ use Rattle.holding.specs.declared.Holding.{Holding}
 use Rattle.holding.specs.Held.{sky_in, view_of}
 use Rattle.holding.specs.Pictures.{mask_of, sound}
 use Rattle.holding.proofs.Sounds.{sounds, held_distinct}
-use Rattle.reader.specs.declared.message.Found.TheVariants.{Mask, Answered}
+use Rattle.reader.specs.declared.message.Found.TheVariants.{Answered}
 use Rattle.reader.specs.Readings.{read_at, read_as, unopened_at, found_as, found_by, found_at, Begins}
 use Rattle.reader.specs.contracts.message.Found.{the_type}
 use Rattle.table.specs.declared.Kind.{Kind}

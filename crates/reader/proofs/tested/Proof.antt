@@ -1,31 +1,31 @@
 -- `reader::tested` meets its contract.
 -- Assumes nothing.
-use Rattle.bits.proofs.Words.{refl, sym, ◌∙◌, arith, needs}
-use borrow.Author.Tests.{lt-leb, le-leb, not-true, not-false}
+use Rattle.bits.proofs.Words.{refl, sym, ◌∙◌, arith, rules}
+use borrow.Author.Tests.{lt-leb, le-leb}
 use Rattle.format.specs.Reading.{lent_tests}
 use Rattle.format.specs.Tests.{verdict}
 use Rattle.reader.specs.Readings.{tested_by}
 use Rattle.reader.proofs.tested.Statement.{statement}
 use Rattle.reader.proofs.tested.Tie as tie
 
-returns-3 : tie.Need-returns-3
+returns-then-not-held : tie.Need-returns-then-not-held
 unfolding tested_by lent_tests verdict
-returns-3 c =
-    let x = c.before.before.before.before.before.args in
-    let inside = sym c.before.before.is_placed.ensures ∙ not-false _ c.before.if2.false in
-    rw (le-leb 2048 x.room (omega arith), inside, not-true x.held c.if3.true) refl
+returns-then-not-held c =
+    let x = c.args in
+    let inside = sym c.is_placed.ensures ∙ c.if-not-is_placed.false in
+    rw (le-leb 2048 x.room (omega arith), inside, c.if-not-held.true) refl
 
-returns-4 : tie.Need-returns-4
+returns : tie.Need-returns
 unfolding tested_by lent_tests verdict
-returns-4 c =
-    let x = c.before.before.before.before.before.args in
-    let inside = sym c.before.before.is_placed.ensures ∙ not-false _ c.before.if2.false in
-    rw (le-leb 2048 x.room (omega arith), inside, not-false x.held c.if3.false) refl
+returns c =
+    let x = c.args in
+    let inside = sym c.is_placed.ensures ∙ c.if-not-is_placed.false in
+    rw (le-leb 2048 x.room (omega arith), inside, c.if-not-held.false) refl
 
-pub tested-spec : {M : Type 1} → statement M
+pub tested_spec : {M : Type 1} → statement M
 unfolding tested_by lent_tests verdict
-tested-spec =
+tested_spec =
     tie.close
-    (tie.spec (λ c. rw (lt-leb 2048 c.before.before.args.room c.if1.true) refl) (λ c κs. search needs)
-    (λ c. let x = c.before.before.before.before.args in let out = sym c.before.is_placed.ensures ∙ not-true _ c.if2.true in rw (le-leb 2048 x.room (omega arith), out) refl)
-    returns-3 returns-4)
+    (tie.spec (λ c. rw (lt-leb 2048 c.args.room c.if-room-lt-ROOM.true) refl) (λ c κs. search rules)
+    (λ c. let x = c.args in let out = sym c.is_placed.ensures ∙ c.if-not-is_placed.true in rw (le-leb 2048 x.room (omega arith), out) refl)
+    returns-then-not-held returns)

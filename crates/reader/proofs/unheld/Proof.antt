@@ -1,6 +1,6 @@
 -- `reader::unheld` meets its contract.
 -- Assumes nothing.
-use Rattle.bits.proofs.Words.{◌≡◌, refl, sym, ◌∙◌, Bool, true, false, List, [], ◌∷◌, ℕ, arith, needs}
+use Rattle.bits.proofs.Words.{◌≡◌, refl, sym, ◌∙◌, Bool, true, false, List, [], ◌∷◌, ℕ, arith, rules}
 use Rattle.format.specs.declared.Refusal.{Refusal}
 use Rattle.format.specs.declared.Refusal.TheVariants.{Room, Place, Value}
 use Rattle.format.specs.Reading.{lent_tests}
@@ -28,13 +28,13 @@ only_that true true e = refl
 only_that true false e = absurd (let z : ◌≡◌ {A = ℕ} 0 1 = cc in omega arith)
 only_that false inside e = absurd (let z : ◌≡◌ {A = ℕ} 0 1 = cc in omega arith)
 
-returns : tie.Need-returns
+returns-in-Refused : tie.Need-returns-in-Refused
 unfolding lent_tests
-returns c = as_with _ _ (sym c.before.before.before.tested.ensures ∙ c.before.verdict.given.1)
+returns-in-Refused c = as_with _ _ (sym c.tested-verdict.ensures ∙ c.in-Refused.is)
 
-returns-2 : tie.Need-returns-2
+returns-in-Good : tie.Need-returns-in-Good
 unfolding lent_tests
-returns-2 c = only_that _ _ (sym c.before.before.tested.ensures ∙ c.enum_told.given.1)
+returns-in-Good c = only_that _ _ (sym c.tested-verdict.ensures ∙ c.in-Good.is)
 
-pub unheld-spec : {M : Type 1} → statement M
-unheld-spec = tie.close (tie.spec (λ c κs. search needs) (λ c. search needs) (λ c. search needs) returns returns-2)
+pub unheld_spec : {M : Type 1} → statement M
+unheld_spec = tie.close (tie.spec (λ c κs. search rules) (λ c. search rules) (λ c. search rules) returns-in-Refused returns-in-Good)

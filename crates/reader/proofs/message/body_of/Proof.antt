@@ -1,5 +1,5 @@
 -- `reader::message::body_of` meets its contract. Assumes nothing.
-use Rattle.bits.proofs.Words.{◌≡◌, refl, sym, ap, ◌∙◌, subst, List, ℕ, ◌+◌, ◌-◌, ◌≤◌, arith, needs, length}
+use Rattle.bits.proofs.Words.{◌≡◌, refl, sym, ap, ◌∙◌, subst, List, ℕ, ◌+◌, ◌-◌, ◌≤◌, arith, rules, length}
 use mathlib.Core.List.{flatten}
 use Rattle.body.proofs.Bodies.{few_in, lent_view, lent_well, lent_sizes}
 use Rattle.body.specs.declared.Placed.{Placed}
@@ -30,15 +30,15 @@ abbrev hold : tie.Start → Holding
 hold s = whole_of s.args.outline s.args.masks.now s.args.strips.now
 
 -- rows begin at a place
-module _ (c : tie.After-heading2) where
+module _ (c : tie.In-Rows) where
   abbrev s : tie.Start
-  s = c.before.before.before.before.before.before
+  s = c.before.before.before.before.before
 
   abbrev body : Body
-  body = c.heading2.given.0.1.0
+  body = c.in-Rows.body
 
   abbrev at : ℕ
-  at = c.heading2.given.0.1.1.0
+  at = c.in-Rows.at
 
   abbrev lines : List Line
   lines = lines_in (view_of (hold s)) body
@@ -48,73 +48,73 @@ module _ (c : tie.After-heading2) where
 
   fits : Fits body
   unfolding FitsHeading
-  fits = rw c.heading2.given.1 at s.pre.2
+  fits = rw c.in-Rows.is at s.requires.2
 
   begins : at ≤ s.args.end
   unfolding said_by Begins
-  begins = subst (λ (d : Heading). Begins s.args.end (said_by (view_of (hold s)) d)) c.heading2.given.1 s.pre.3
+  begins = subst (λ (d : Heading). Begins s.args.end (said_by (view_of (hold s)) d)) c.in-Rows.is s.requires.3
 
   -- what it comes to
   abbrev whole : Outcome
   whole = headed_at held s.args.bytes.now s.args.end (said_by (view_of (hold s)) s.args.heading)
 
 -- its extent was counted
-module _ (z : tie.After-size) where
-  abbrev t : tie.After-heading2
-  t = z.before.before.before
+module _ (z : tie.After-size-size) where
+  abbrev t : tie.In-Rows
+  t = z.before.before
 
-  counts : Counts (lines t) z.size.result
-  counts = subst (λ (v : View). Counts (lines_in v (body t)) z.size.result) (lent_view (s t).pre.1) z.size.ensures
+  counts : Counts (lines t) z.size-size.result
+  counts = subst (λ (v : View). Counts (lines_in v (body t)) z.size-size.result) (lent_view (s t).requires.1) z.size-size.ensures
 
-returns : tie.Need-returns
+returns-then-left-size : tie.Need-returns-then-left-size
 unfolding said_by answer_of rows_after
-returns c =
+returns-then-left-size c =
     let z = c.before.before.before in
     let t = t z in
     let bits = (counts z).bits in
     rw (
-      t.heading2.given.1,
-      headed_short (held t) (s t).args.bytes.now (s t).args.end t.heading2.given.0.0 (lines t) (at t) (omega (arith, bits, c.before.if1.true)),
+      t.in-Rows.is,
+      headed_short (held t) (s t).args.bytes.now (s t).args.end t.in-Rows.head (lines t) (at t) (omega (arith, bits, c.if-left-size.true)),
     )
     (ap (λ (n : ℕ). Answers.Refused _ (n - ((s t).args.end - at t))) bits, refl)
 
 -- the body is there
-module _ (c : tie.Else1) where
-  abbrev z : tie.After-size
+module _ (c : tie.Else-left-size) where
+  abbrev z : tie.After-size-size
   z = c.before.before
 
-  abbrev h : tie.After-heading2
+  abbrev h : tie.In-Rows
   h = t z
 
   abbrev start : tie.Start
   start = s h
 
-  there : whole h ≡ accepted (body_of (held h) start.args.bytes.now h.heading2.given.0.0 (lines h) (at h)) (at h + body_width (lines h))
+  there : whole h ≡ accepted (body_of (held h) start.args.bytes.now h.in-Rows.head (lines h) (at h)) (at h + body_width (lines h))
   unfolding said_by
   there =
-      ap (λ (d : Heading). headed_at (held h) start.args.bytes.now start.args.end (said_by (view_of (hold start)) d)) h.heading2.given.1
-      ∙ headed_there (held h) start.args.bytes.now start.args.end h.heading2.given.0.0 (lines h) (at h) (omega (arith, (counts z).bits, begins h, c.if1.false)) start.pre.0.lent
+      ap (λ (d : Heading). headed_at (held h) start.args.bytes.now start.args.end (said_by (view_of (hold start)) d)) h.in-Rows.is
+      ∙ headed_there (held h) start.args.bytes.now start.args.end h.in-Rows.head (lines h) (at h) (omega (arith, (counts z).bits, begins h, c.if-left-size.false)) start.requires.0.lent
 
   abbrev message : ℕ → Answer
-  message rows = Answers.Message h.heading2.given.0.0 (at h + z.size.result.bits) rows
+  message rows = Answers.Message h.in-Rows.head (at h + z.size-size.result.bits) rows
 
   said : (rows : ℕ) → rows ≡ length (lines h) → message rows ≡ answer_of (whole h)
   said rows e = body_said (held h) start.args.bytes.now start.args.end _ (lines h) (at h) _ rows (counts z).bits e ∙ ap answer_of (sym there)
 
   abbrev placed : Placed
-  placed = record { body = body h; bits = z.size.result.bits; rows = z.size.result.rows; at = at h }
+  placed = record { body = body h; bits = z.size-size.result.bits; rows = z.size-size.result.rows; at = at h }
 
   -- its rows can be filled
   fills : Fills start.args.ids.now start.args.masks.now start.args.strips.now placed start.args.rows.now
   fills =
-      let p = start.pre in
+      let p = start.requires in
       let lent = lent_well p.1 p.0.held in
       record {
         lent = lent;
         fits = fits h;
-        bits = z.size.ensures.bits;
-        count = z.size.ensures.rows;
-        near = omega (arith, begins h, p.0.limit, c.if1.false);
+        bits = z.size-size.ensures.bits;
+        count = z.size-size.ensures.rows;
+        near = omega (arith, begins h, p.0.limit, c.if-left-size.false);
         room = omega (arith, p.0.room, (few_in lent (body h) (fits h)).rows);
       }
 
@@ -122,27 +122,27 @@ module _ (c : tie.Else1) where
   filled : over (numbers_at (lines_in (view_by start.args.ids.now start.args.masks.now start.args.strips.now) (body h)) start.args.bytes.now (at h)) start.args.rows.now
       ≡ rows_after (whole h) start.args.rows.now
   unfolding rows_after
-  filled = rw there (ap (λ (v : View). over (numbers_at (lines_in v (body h)) start.args.bytes.now (at h)) start.args.rows.now) (lent_view start.pre.1))
+  filled = rw there (ap (λ (v : View). over (numbers_at (lines_in v (body h)) start.args.bytes.now (at h)) start.args.rows.now) (lent_view start.requires.1))
 
-returns-2 : tie.Need-returns-2
+returns-then-size-eq0 : tie.Need-returns-then-size-eq0
 unfolding rows_after over flatten
-returns-2 c =
+returns-then-size-eq0 c =
     let e = c.before.before.before in
-    let none = sym c.before.if2.true ∙ (counts (z e)).rows in
+    let none = sym c.if-size-eq0.true ∙ (counts (z e)).rows in
     (said e 0 none, rw (there e, none_at (lines (h e)) (start e).args.bytes.now (at (h e)) (sym none)) refl)
 
-returns-4 : tie.Need-returns-4
-returns-4 c =
+returns-else-size-eq0 : tie.Need-returns-else-size-eq0
+returns-else-size-eq0 c =
     let f = c.before.before in
     let e = f.before.before.before.before in
     (said e _ (counts (z e)).rows, f.fill.ensures ∙ filled e)
 
-pub body-of-spec : {M : Type 1} → statement M
+pub body_of_spec : {M : Type 1} → statement M
 unfolding said_by answer_of rows_after headed_at
-body-of-spec =
+body_of_spec =
     tie.close
-    (tie.spec (λ c. search needs) (λ c. search needs) (λ c. search needs) (λ c κs. let k = c.before.before in let p = (s k).requires in (lent_sizes p.1 p.0.held, fits k)) (λ c. begins c.before.before.before)
-    (λ c. search needs) returns (λ c. let e = c.before.before.before in omega (arith, begins (h e), (start e).requires.0.limit, e.if1.false)) returns-2
+    (tie.spec (λ c. search rules) (λ c. search rules) (λ c. search rules) (λ c κs. let k = c.before in let p = (s k).requires in (lent_sizes p.1 p.0.held, fits k)) (λ c. begins c.before.before)
+    (λ c. search rules) returns-then-left-size (λ c. let e = c.before.before.before in omega (arith, begins (h e), (start e).requires.0.limit, e.if-left-size.false)) returns-then-size-eq0
     (λ c κs. fills c.before.before.before)
-    (λ c. let e = c.before.before.before.before.before.before in omega (arith, begins (h e), (start e).requires.0.limit, e.if1.false))
-    (λ c. rw c.before.heading.given.1 (refl, refl)) (λ c. search needs) returns-4)
+    (λ c. let e = c.before.before.before.before.before.before in omega (arith, begins (h e), (start e).requires.0.limit, e.if-left-size.false))
+    (λ c. rw c.in-Refused.is (refl, refl)) (λ c. search rules) returns-else-size-eq0)

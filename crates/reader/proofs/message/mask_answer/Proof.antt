@@ -1,5 +1,5 @@
 -- `reader::message::mask_answer` meets its contract. Assumes nothing.
-use Rattle.bits.proofs.Words.{sym, ap, ◌∙◌, needs}
+use Rattle.bits.proofs.Words.{sym, ap, ◌∙◌, rules}
 use Rattle.adoption.specs.Adoptions.{head_at}
 use Rattle.format.specs.declared.Answer.TheVariants.{Message}
 use Rattle.format.specs.declared.Head.{Head}
@@ -7,19 +7,17 @@ use Rattle.reader.specs.Readings.{ending_answer}
 use Rattle.reader.proofs.message.mask_answer.Statement.{statement}
 use Rattle.reader.proofs.message.mask_answer.Tie as tie
 
-returns : tie.Need-returns
+returns-in-Behind : tie.Need-returns-in-Behind
 unfolding ending_answer
-returns c =
-    let e = c.before.before in
-    let x = e.before.before.before.args in
-    ap (λ (h : Head). Message h e.ending.given.0.0 0) c.head_at.ensures ∙ ap (ending_answer (head_at x.bytes.now x.place)) (sym e.ending.given.1)
+returns-in-Behind c =
+    let x = c.args in
+    ap (λ (h : Head). Message h c.in-Behind.next 0) c.head_at.ensures ∙ ap (ending_answer (head_at x.bytes.now x.place)) (sym c.in-Behind.is)
 
-returns-2 : tie.Need-returns-2
+returns-in-Refused : tie.Need-returns-in-Refused
 unfolding ending_answer
-returns-2 c =
-    let e = c.before in
-    let x = e.before.before.before.args in
-    ap (ending_answer (head_at x.bytes.now x.place)) (sym e.ending2.given.1)
+returns-in-Refused c =
+    let x = c.args in
+    ap (ending_answer (head_at x.bytes.now x.place)) (sym c.in-Refused.is)
 
-pub mask-answer-spec : {M : Type 1} → statement M
-mask-answer-spec = tie.close (tie.spec (λ c. search needs) (λ c κs. search needs) (λ c. search needs) returns returns-2)
+pub mask_answer_spec : {M : Type 1} → statement M
+mask_answer_spec = tie.close (tie.spec (λ c. search rules) (λ c κs. search rules) (λ c. search rules) returns-in-Behind returns-in-Refused)
