@@ -1,4 +1,8 @@
 -- Where a walk begins: what is lent is tested as for a reading at place 0. Assumes nothing.
+use denote.Enum.Declared.{tag_of}
+use Rattle.reader.specs.declared.Verdict.{Verdict}
+use Rattle.reader.specs.declared.Verdict.TheVariants as Verdicts
+use Rattle.reader.specs.contracts.Verdict.{the_type}
 use mathlib.Core.Path.{◌≡◌, refl, sym, ap, ◌∙◌}
 use mathlib.Core.Bool.{true}
 use mathlib.Core.List.{List, []}
@@ -79,3 +83,8 @@ module _ (h : Holding) (bytes : List ℕ) (end : ℕ) (rows : List ℤ) where
     pub begun_walked : (walked_from bytes end (stand_first h rows) ≡ walked_of h (walk_at h bytes end rows)) × (rows_from bytes end (stand_first h rows) ≡ (walk_at h bytes end rows).rows)
     unfolding walked_from rows_from
     begun_walked = (ap (walked_with 0 0) whole ∙ plain, ap (λ (w : Walk). w.rows) whole)
+
+-- the tag of a good verdict
+pub good_tag : (v : Verdict) → tag_of the_type v ≡ 0 → v ≡ Verdicts.Good
+good_tag Verdicts.Good e = refl
+good_tag (Verdicts.Refused r) e = absurd (omega arith)

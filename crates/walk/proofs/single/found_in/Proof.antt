@@ -10,23 +10,23 @@ use Rattle.reader.specs.Readings.{outcome_at, sought_at}
 use Rattle.walk.proofs.single.found_in.Statement.{statement}
 use Rattle.walk.proofs.single.found_in.Tie as tie
 
-seek-under-requires : tie.Need-seek-under-requires
-seek-under-requires c κs =
+seek_under-requires : tie.Need-seek_under-requires
+seek_under-requires c κs =
     let o = c.before.before.before.before.before in
-    let s = o.before.before in
+    let s = o in
     let h = s.args.holding in
-    s.requires ∙ ap (λ (x : Outline). sound (whole_of x h.satellites h.strips)) (sym o.outline.ensures)
+    s.requires ∙ ap (λ (x : Outline). sound (whole_of x h.satellites h.strips)) (sym o.outline-outline.ensures)
 
 returns : tie.Need-returns
 returns c =
     let k = c.before in
-    let o = k.before.before.before.before.before.before in
-    let x = o.before.before.args in
+    let o = k in
+    let x = o.args in
     let h = x.holding in (
-      k.seek-under.ensures.0 ∙ ap (λ (y : Outline). sought_at (whole_of y h.satellites h.strips) x.bytes.now x.end x.start (length x.rows.now)) o.outline.ensures,
-      k.seek-under.ensures.1
-          ∙ ap (λ (y : Outline). rows_after (outcome_at (whole_of y h.satellites h.strips) x.bytes.now x.end x.start x.rows.now) x.rows.now) o.outline.ensures,
+      k.seek_under.ensures.0 ∙ ap (λ (y : Outline). sought_at (whole_of y h.satellites h.strips) x.bytes.now x.end x.start (length x.rows.now)) o.outline-outline.ensures,
+      k.seek_under.ensures.1
+          ∙ ap (λ (y : Outline). rows_after (outcome_at (whole_of y h.satellites h.strips) x.bytes.now x.end x.start x.rows.now) x.rows.now) o.outline-outline.ensures,
     )
 
-pub found-in-spec : {M : Type 1} → statement M
-found-in-spec = tie.close (tie.spec (λ c κs. search rules) seek-under-requires (λ c. search rules) returns)
+pub found_in_spec : {M : Type 1} → statement M
+found_in_spec = tie.close (tie.spec (λ c κs. search rules) seek_under-requires (λ c. search rules) returns)
