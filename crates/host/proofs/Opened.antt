@@ -1,18 +1,17 @@
 -- What lent bytes say, opened in parts; and bytes that say no holding. Assumes nothing.
 use mathlib.Core.Path.{◌≡◌, refl, sym, ◌∙◌}
-use mathlib.Core.Bool.{Bool, true, false, cond}
+use mathlib.Core.Bool.{Bool, true, false}
 use mathlib.Core.List.{List}
 use Prim.Native.Nat.{ℕ}
 use lib.IntN.{ℤ}
 use lib.ListN.{length, drop}
 use Rattle.format.specs.declared.Refusal.{Refusal}
 use Rattle.format.specs.Reading.{lent_tests}
-use Rattle.holding.specs.declared.Holding.{Holding}
 use Rattle.holding.specs.declared.Outline.{Outline}
 use Rattle.holding.specs.Outlines.{outline_of, whole_of}
 use Rattle.holding.specs.Pictures.{sound}
 use Rattle.passing.specs.Bytes.{littles}
-use Rattle.passing.specs.Passing.{passes, said, stray, holding_in}
+use Rattle.passing.specs.Passing.{passes, said, holding_in}
 use Rattle.passing.proofs.Returns.{sound_passes}
 use Rattle.reader.specs.declared.Verdict.TheVariants.{Refused}
 use Rattle.reader.specs.Readings.{tests_of, tested_by}

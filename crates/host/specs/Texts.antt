@@ -9,7 +9,7 @@ use Rattle.format.specs.Masks.{nothing}
 use Rattle.format.specs.Reading.{over}
 use Rattle.format.specs.Saved as Saved
 use Rattle.format.specs.Saved.{loaded, unloaded}
-use Rattle.format.specs.Tests.{Test, verdict}
+use Rattle.format.specs.Tests.{verdict}
 use Rattle.holding.specs.Pictures.{picture_of}
 use Rattle.host.specs.declared.texts.Done.{Done}
 use Rattle.host.specs.declared.texts.Loaded.{Loaded}

@@ -4,21 +4,20 @@ use borrow.Author.Rules.{rules}
 use Rattle.format.specs.declared.Answer.{Answer}
 use Rattle.format.specs.Answers.{said_at}
 use Rattle.host.specs.Handing.{missing_said}
-use Rattle.host.proofs.Outcomes.{idle_tag}
 use Rattle.host.proofs.Walks.{message_missing}
 use Rattle.host.proofs.answer_missing.Statement.{statement}
 use Rattle.host.proofs.answer_missing.Tie as tie
 
-returns-2 : tie.Need-returns-2
+returns-in-Idle : tie.Need-returns-in-Idle
 unfolding missing_said said_at
-returns-2 c place = sym (ap (λ (a : Answer). missing_said (said_at place a)) (idle_tag c.before.before.args.answer c.before.match.keys2))
+returns-in-Idle c place = sym (ap (λ (a : Answer). missing_said (said_at place a)) c.in-Idle.is)
 
-returns-3 : tie.Need-returns-3
+returns-in-Refused : tie.Need-returns-in-Refused
 unfolding missing_said said_at
-returns-3 c place = sym (ap (λ (a : Answer). missing_said (said_at place a)) c.before.answer.given.1)
+returns-in-Refused c place = sym (ap (λ (a : Answer). missing_said (said_at place a)) c.in-Refused.is)
 
-pub answer-missing-spec : {M : Type 1} → statement M
-answer-missing-spec =
+pub answer_missing_spec : {M : Type 1} → statement M
+answer_missing_spec =
     tie.close
     (tie.spec (λ c. search rules) (λ c. search rules) (λ c. search rules)
-    (λ c. message_missing c.before.before.args.answer c.before.match.keys1) returns-2 returns-3)
+    (λ c. message_missing c.args.answer (rw c.in-Message.is)) returns-in-Idle returns-in-Refused)

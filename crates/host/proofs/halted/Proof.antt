@@ -5,9 +5,9 @@ use Rattle.host.proofs.halted.Tie as tie
 
 returns : tie.Need-returns
 returns c =
-    let n = c.before in
-    let t = n.before.args.tally in
-    λ i. record { answer = n.answer-number.ensures t.place i; place = t.place; missing = c.answer-missing.ensures t.place i; messages = t.messages; rows = t.rows }
+    let n = c in
+    let t = n.args.tally in
+    λ i. record { answer = n.answer_number.ensures t.place i; place = t.place; missing = c.answer_missing.ensures t.place i; messages = t.messages; rows = t.rows }
 
-pub halted-spec : {M : Type 1} → statement M
-halted-spec = tie.close (tie.spec (λ c κs. search rules) (λ c κs. search rules) returns)
+pub halted_spec : {M : Type 1} → statement M
+halted_spec = tie.close (tie.spec (λ c κs. search rules) (λ c κs. search rules) returns)

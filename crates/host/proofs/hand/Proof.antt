@@ -5,20 +5,20 @@ use Rattle.format.specs.Answers.{said_at}
 use Rattle.host.proofs.hand.Statement.{statement}
 use Rattle.host.proofs.hand.Tie as tie
 
-returns : tie.Need-returns
+returns-in-Idle : tie.Need-returns-in-Idle
 unfolding said_at
-returns c = c.stop.ensures ∙ rw c.before.enum_told.given.1
+returns-in-Idle c = c.stop.ensures ∙ rw c.in-Idle.is
 
-returns-2 : tie.Need-returns-2
+returns-in-Refused : tie.Need-returns-in-Refused
 unfolding said_at
-returns-2 c = c.stop2.ensures ∙ rw (c.before.number.ensures, c.before.before.before.answer.given.1)
+returns-in-Refused c = c.stop-in-Refused.ensures ∙ rw (c.number.ensures, c.in-Refused.is)
 
-returns-3 : tie.Need-returns-3
+returns-in-Message : tie.Need-returns-in-Message
 unfolding said_at
-returns-3 c = c.message.ensures ∙ rw c.before.before.answer2.given.1
+returns-in-Message c = c.message.ensures ∙ rw c.in-Message.is
 
-pub hand-spec : {M : Type 1} → statement M
-hand-spec =
+pub hand_spec : {M : Type 1} → statement M
+hand_spec =
     tie.close
     (tie.spec (λ c. search rules) (λ c κs. search rules) (λ c. search rules) (λ c κs. search rules) (λ c κs. search rules) (λ c. search rules)
-    (λ c κs. search rules) returns returns-2 returns-3)
+    (λ c κs. search rules) returns-in-Idle returns-in-Refused returns-in-Message)

@@ -17,31 +17,31 @@ use Rattle.host.specs.Handing.{emptied, emptied_number}
 use Rattle.host.proofs.hundurzek_empty.Statement.{statement}
 use Rattle.host.proofs.hundurzek_empty.Tie as tie
 
-returns : tie.Need-returns
+returns-then-holding-lt-SIZE : tie.Need-returns-then-holding-lt-SIZE
 unfolding emptied emptied_number
-returns c =
-    let bs = c.before.before.args.holding.now in
+returns-then-holding-lt-SIZE c =
+    let bs = c.args.holding.now in
     rw (lt-leb size (length bs) (omega arith)) (refl, refl)
 
 -- the empty holding in parts
-whole : (c : tie.After-outline) → let h = c.before.before.before.before.empty.result in
+whole : (c : tie.After-outline) → let h = c.empty-empty.result in
     whole_of c.outline.result h.satellites h.strips ≡ picture_of nothing
 whole c =
-    let m = c.before.before.before.before in
-    let h = m.empty.result in
-    ap (λ (o : Outline). whole_of o h.satellites h.strips) c.outline.ensures ∙ m.empty.ensures
+    let m = c in
+    let h = m.empty-empty.result in
+    ap (λ (o : Outline). whole_of o h.satellites h.strips) c.outline.ensures ∙ m.empty-empty.ensures
 
-holding-over-requires : tie.Need-holding-over-requires
+holding_over-requires : tie.Need-holding_over-requires
 unfolding good
-holding-over-requires c κs = (omega arith, ap sound (whole c.before.before) ∙ sound_picture nothing refl)
+holding_over-requires c κs = (omega arith, ap sound (whole c.before.before) ∙ sound_picture nothing refl)
 
-returns-2 : tie.Need-returns-2
+returns : tie.Need-returns
 unfolding emptied emptied_number
-returns-2 c =
+returns c =
     let w = c.before.before in
     let o = w.before.before.before in
-    let bs = o.before.before.before.before.before.before.before.args.holding.now in
-    rw (le-leb size (length bs) (omega arith)) (refl, w.holding-over.ensures ∙ ap (λ (h : Holding). over (bytes_of h) bs) (whole o))
+    let bs = o.args.holding.now in
+    rw (le-leb size (length bs) (omega arith)) (refl, w.holding_over.ensures ∙ ap (λ (h : Holding). over (bytes_of h) bs) (whole o))
 
-pub hundurzek-empty-spec : {M : Type 1} → statement M
-hundurzek-empty-spec = tie.close (tie.spec returns (λ c κs. search rules) (λ c κs. search rules) holding-over-requires (λ c. search rules) returns-2)
+pub hundurzek_empty_spec : {M : Type 1} → statement M
+hundurzek_empty_spec = tie.close (tie.spec returns-then-holding-lt-SIZE (λ c κs. search rules) (λ c κs. search rules) holding_over-requires (λ c. search rules) returns)

@@ -25,9 +25,9 @@ use Rattle.reader.specs.contracts.message.Found.{the_type}
 use Rattle.reader.proofs.Sought.{SoughtMask, sought_mask, sought_answer}
 
 -- what was found, under the holding that the lent bytes say
-module _ (c : tie.After-sought) where
+module _ (c : tie.After-sought-found) where
   abbrev s : tie.Start
-  s = c.before.before.before.before.before
+  s = c.before.before.before.before
 
   abbrev lent : List ℕ
   lent = s.args.holding.now
@@ -36,31 +36,30 @@ module _ (c : tie.After-sought) where
   outcome = host_outcome lent s.args.bytes.now s.args.end s.args.start s.args.rows.now
 
   small : Bytes lent
-  small k = omega (arith, c.before.before.before.before.slice-known.given k)
+  small k = omega (arith, c.slice_known-1.given k)
 
-  said : (c.sought.result ≡ sought_at (holding_in lent) s.args.bytes.now s.args.end s.args.start (length s.args.rows.now)) × (c.sought.new.1.1.1.1.0 ≡ rows_after outcome s.args.rows.now)
-  said = c.sought.ensures
+  said : (c.sought-found.result ≡ sought_at (holding_in lent) s.args.bytes.now s.args.end s.args.start (length s.args.rows.now)) × (c.sought-found.new.rows ≡ rows_after outcome s.args.rows.now)
+  said = c.sought-found.ensures
 
-returns : tie.Need-returns
+returns-in-Answered : tie.Need-returns-in-Answered
 unfolding host_outcome
-returns c =
-    let g = c.before.before in
-    let k = g.before.before.before in
+returns-in-Answered c =
+    let k = c.before.before.before in
     let x = (s k).args in
-    let it = sought_answer (holding_in (lent k)) x.bytes.now x.end x.start x.rows.now g.found.given.0.0 (sym (said k).0 ∙ g.found.given.1) in (
+    let it = sought_answer (holding_in (lent k)) x.bytes.now x.end x.start x.rows.now c.in-Answered.answer (sym (said k).0 ∙ c.in-Answered.is) in (
       c.hand.ensures ∙ ap (λ (a : Answer). handed_by x.start (said_at x.start a)) it.says,
       (sym (sought_bytes (lent k) x.bytes.now x.end x.start x.rows.now (small k) it), (said k).1),
     )
 
 -- a mask
-module _ (c : tie.After-enum-told) where
-  abbrev k : tie.After-sought
-  k = c.before.before.before
+module _ (c : tie.In-Mask) where
+  abbrev k : tie.After-sought-found
+  k = c.before.before
 
   found : SoughtMask (holding_in (lent k)) (s k).args.bytes.now (s k).args.end (s k).args.start (s k).args.rows.now
   found =
       sought_mask (holding_in (lent k)) (s k).args.bytes.now (s k).args.end (s k).args.start (s k).args.rows.now
-      (ap (tag_of the_type) (sym (said k).0 ∙ c.enum_told.given.1))
+      (ap (tag_of the_type) (sym (said k).0 ∙ c.in-Mask.is))
 
   -- it is adopted to what reading there comes to
   adopts : adopted_by (mask_of (holding_in (lent k))) ((s k).args.start + 16) (run mask_message (bits_from (s k).args.bytes.now (s k).args.end ((s k).args.start + 16))) ≡ outcome k
@@ -78,18 +77,18 @@ adopt-requires c κs =
       bytes_return hb (small (k e)) f.fine.held,
     )
 
-returns-2 : tie.Need-returns-2
-returns-2 c =
+returns-in-Mask : tie.Need-returns-in-Mask
+returns-in-Mask c =
     let a = c.before.before.before in
     let e = a.before.before in
     let t = k e in (
-      c.hand2.ensures ∙ ap (λ (b : Answer). handed_by (s t).args.start (said_at (s t).args.start b)) (a.adopt.ensures.0 ∙ ap answer_of (adopts e)),
+      c.hand-in-Mask.ensures ∙ ap (λ (b : Answer). handed_by (s t).args.start (said_at (s t).args.start b)) (a.adopt.ensures.0 ∙ ap answer_of (adopts e)),
       (a.adopt.ensures.1 ∙ ap (λ (o : Outcome). bytes_after (lent_after o) (lent t)) (adopts e), (said t).1),
     )
 
-pub hundurzek-read-spec : {M : Type 1} → statement M
-hundurzek-read-spec =
+pub hundurzek_read_spec : {M : Type 1} → statement M
+hundurzek_read_spec =
     tie.close
     (tie.spec (λ c κs. search rules) (λ c. search rules) (λ c κs. search rules) (λ c. search rules)
     (λ c. let f = found c.before in omega (arith, f.found.room, f.fine.inside.limit)) adopt-requires (λ c κs. search rules)
-    (λ c. search rules) (λ c. search rules) returns (λ c. search rules) (λ c. search rules) returns-2)
+    (λ c. search rules) (λ c. search rules) returns-in-Answered (λ c. search rules) (λ c. search rules) returns-in-Mask)

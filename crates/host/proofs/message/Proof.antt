@@ -6,7 +6,7 @@ use Rattle.host.proofs.message.Tie as tie
 
 returns : tie.Need-returns
 unfolding handed_by
-returns c = rw (c.before.begins.ensures, c.counts.ensures)
+returns c = rw (c.begins.ensures, c.counts.ensures)
 
-pub message-spec : {M : Type 1} → statement M
-message-spec = tie.close (tie.spec (λ c κs. search rules) (λ c κs. search rules) returns)
+pub message_spec : {M : Type 1} → statement M
+message_spec = tie.close (tie.spec (λ c κs. search rules) (λ c κs. search rules) returns)

@@ -16,18 +16,18 @@ use Rattle.saved.specs.declared.Loading.{Loading}
 use Rattle.saved.specs.Loads.{loading_of, loading_by}
 
 -- what the line says
-module _ (c : tie.After-load-parts) where
+module _ (c : tie.After-load_parts-loading) where
   abbrev line : List ℕ
-  line = c.before.before.before.before.args.line.now
+  line = c.args.line.now
 
   abbrev loading : Loading
-  loading = loading_of c.load-parts.result c.load-parts.new.1.0 c.load-parts.new.1.1.0
+  loading = loading_of c.load_parts-loading.result c.load_parts-loading.new.satellites c.load_parts-loading.new.strips
 
   said : loading ≡ loading_by (load line)
-  said = c.load-parts.ensures
+  said = c.load_parts-loading.ensures
 
-holding-over-requires : tie.Need-holding-over-requires
-holding-over-requires c κs =
+holding_over-requires : tie.Need-holding_over-requires
+holding_over-requires c κs =
     let k = c.before.before.before.before in
     (omega arith, ap (λ (l : Loading). sound l.holding) (said k) ∙ (hands (line k)).fine)
 
@@ -36,9 +36,9 @@ returns c =
     let o = c.before.before in
     let k = o.before.before.before.before.before in
     let old : List ℕ = replicate size 0 in
-    let told : ◌≡◌ {A = Loaded} (record { answer = c.load-number.result; holding = o.holding-over.new.0 }) (handing old (loading k)) =
-    λ i. record { answer = c.load-number.ensures i; holding = o.holding-over.ensures i } in
+    let told : ◌≡◌ {A = Loaded} (record { answer = c.load_number.result; holding = o.holding_over.new.bytes }) (handing old (loading k)) =
+    λ i. record { answer = c.load_number.ensures i; holding = o.holding_over.ensures i } in
     told ∙ ap (handing old) (said k) ∙ (hands (line k)).same old (length-replicate {A = ℕ} size 0)
 
-pub hundurzek-load-spec : {M : Type 1} → statement M
-hundurzek-load-spec = tie.close (tie.spec (λ c κs. search rules) (λ c. search rules) holding-over-requires (λ c κs. search rules) returns)
+pub hundurzek_load_spec : {M : Type 1} → statement M
+hundurzek_load_spec = tie.close (tie.spec (λ c κs. search rules) (λ c. search rules) holding_over-requires (λ c κs. search rules) returns)

@@ -13,7 +13,7 @@ use Rattle.saved.specs.Saves.{saving_by, done_by}
 use Rattle.saved.proofs.SavedLines.{saving_said}
 
 -- how saving ends, under the holding that the lent bytes say
-module _ (c : tie.After-saved-in) where
+module _ (c : tie.After-saved_in-saving) where
   abbrev s : tie.Start
   s = c.before.before.before.before
 
@@ -23,28 +23,26 @@ module _ (c : tie.After-saved-in) where
   abbrev ended : Saved
   ended = saving (lent_by (holding_in lent)) s.args.line.now
 
-  said : (c.saved-in.result ≡ saving_by ended) × (c.saved-in.new.1.0 ≡ buffer_after ended (mask_of (holding_in lent)) s.args.line.now)
-  said = c.saved-in.ensures
+  said : (c.saved_in-saving.result ≡ saving_by ended) × (c.saved_in-saving.new.line ≡ buffer_after ended (mask_of (holding_in lent)) s.args.line.now)
+  said = c.saved_in-saving.ensures
 
-  answered : done_by c.saved-in.result ≡ done_saving ended
+  answered : done_by c.saved_in-saving.result ≡ done_saving ended
   answered = ap done_by said.0 ∙ saving_said ended
 
-returns : tie.Need-returns
+returns-in-Saved : tie.Need-returns-in-Saved
 unfolding done_by
-returns c =
-    let g = c.before.before in
-    let k = g.before.before.before.before in
-    (c.finish.ensures ∙ ap done_handed (sym (ap done_by g.saving.given.1) ∙ answered k), (said k).1)
+returns-in-Saved c =
+    let k = c.before.before.before.before in
+    (c.finish.ensures ∙ ap done_handed (sym (ap done_by c.in-Saved.is) ∙ answered k), (said k).1)
 
-returns-2 : tie.Need-returns-2
+returns-in-Refused : tie.Need-returns-in-Refused
 unfolding done_by
-returns-2 c =
-    let g = c.before.before in
-    let k = g.before.before.before.before in
-    (c.refuse.ensures ∙ ap done_handed (sym (ap done_by g.saving2.given.1) ∙ answered k), (said k).1)
+returns-in-Refused c =
+    let k = c.before.before.before.before in
+    (c.refuse.ensures ∙ ap done_handed (sym (ap done_by c.in-Refused.is) ∙ answered k), (said k).1)
 
-pub hundurzek-save-spec : {M : Type 1} → statement M
-hundurzek-save-spec =
+pub hundurzek_save_spec : {M : Type 1} → statement M
+hundurzek_save_spec =
     tie.close
     (tie.spec (λ c κs. search rules) (λ c. search rules) (λ c κs. search rules) (λ c. search rules) (λ c κs. search rules)
-    (λ c. search rules) returns (λ c. search rules) returns-2)
+    (λ c. search rules) returns-in-Saved (λ c. search rules) returns-in-Refused)

@@ -5,13 +5,13 @@ use Rattle.host.specs.Texts.{answer_loaded}
 use Rattle.host.proofs.texts.load_number.Statement.{statement}
 use Rattle.host.proofs.texts.load_number.Tie as tie
 
-returns : tie.Need-returns
+returns-in-Loaded : tie.Need-returns-in-Loaded
 unfolding answer_loaded
-returns c = sym (ap answer_loaded c.enum_told.given.1)
+returns-in-Loaded c = sym (ap answer_loaded c.in-Loaded.is)
 
-returns-2 : tie.Need-returns-2
+returns-in-Refused : tie.Need-returns-in-Refused
 unfolding answer_loaded
-returns-2 c = c.number.ensures ∙ sym (ap answer_loaded c.before.before.answer.given.1)
+returns-in-Refused c = c.number.ensures ∙ sym (ap answer_loaded c.in-Refused.is)
 
-pub load-number-spec : {M : Type 1} → statement M
-load-number-spec = tie.close (tie.spec (λ c. search rules) (λ c. search rules) (λ c κs. search rules) returns returns-2)
+pub load_number_spec : {M : Type 1} → statement M
+load_number_spec = tie.close (tie.spec (λ c. search rules) (λ c. search rules) (λ c κs. search rules) returns-in-Loaded returns-in-Refused)

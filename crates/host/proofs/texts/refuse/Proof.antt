@@ -9,5 +9,5 @@ returns : tie.Need-returns
 unfolding done_handed undone_at
 returns c = rw c.number.ensures
 
-pub refuse-spec : {M : Type 1} → statement M
-refuse-spec = tie.close (tie.spec (λ c κs. search rules) returns)
+pub refuse_spec : {M : Type 1} → statement M
+refuse_spec = tie.close (tie.spec (λ c κs. search rules) returns)
