@@ -73,6 +73,7 @@ pub const MASK: usize = 1;
 pub const PACKET: usize = 10;
 
 // The table.
+#[tactic(auto, unfolding(crate::specs::Kinds::kind_for, crate::specs::Kinds::code_kinds))]
 pub fn kind_of(n: usize) -> Kind
     ensures { result ≡ kind_for n }
 {

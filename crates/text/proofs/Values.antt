@@ -12,7 +12,8 @@ use lib.ListN.{length}
 use lib.Signed.{mag, le_z}
 use borrow.Author.Tests.{eq-eqb, ne_eqb, leb-false}
 use mir.Syntax.{w32}
-use mir.Val.{SFits, of_z}
+use mir.Facts.{to_z-of_z}
+use mir.Val.{SFits, of_z, to_z}
 use Rattle.format.specs.Listing.{value_text}
 use Rattle.format.specs.Rows.{absent}
 use Rattle.format.specs.Same.{sameℤ}
@@ -42,7 +43,32 @@ negative_text (pos n) fits there e = absurd (omega (arith, leb-false 0 n e))
 negative_text (negsuc n) fits there e =
     rw (ne_eqb n 32767 (λ same. there (omega (arith, fits.sfits))), add-one n)
 
+-- the same of what code reads back from the bits
+pub plain_read : (v : ℤ) → SFits w32 v → le_z (pos 0) (to_z w32 (of_z w32 v)) ≡ true → value_text v ≡ decimal (mag (to_z w32 (of_z w32 v)))
+plain_read v fits e = rw (to_z-of_z fits) (plain_text v (rw (to_z-of_z fits) at e))
+
+pub negative_read : (v : ℤ) → SFits w32 v → (of_z w32 v ≡ absent_bits → ⊥) → le_z (pos 0) (to_z w32 (of_z w32 v)) ≡ false
+    → value_text v ≡ dash ∷ decimal (mag (to_z w32 (of_z w32 v)) + 1)
+negative_read v fits there e = rw (to_z-of_z fits) (negative_text v fits there (rw (to_z-of_z fits) at e))
+
 -- ---- how long
+
+-- never empty
+decimal_some : (n : ℕ) → 1 ≤ length (decimal n)
+decimal_some n = go (dec_lt n 10)
+  where
+    go : Dec (n < 10) → 1 ≤ length (decimal n)
+    go (yes few) = omega (arith, short n few)
+    go (no many) = omega (arith, longer n (omega arith))
+
+pub value_some : (v : ℤ) → 1 ≤ length (value_text v)
+unfolding value_text
+value_some (pos n) = decimal_some n
+value_some (negsuc n) = go (sameℤ (negsuc n) absent)
+  where
+    go : (b : Bool) → 1 ≤ length (cond b (dash ∷ []) (dash ∷ decimal (suc n)))
+    go true = omega arith
+    go false = omega arith
 
 pub decimal_long : (k n : ℕ) → n < 10 ^ suc k → length (decimal n) ≤ suc k
 decimal_long zero n small = omega (arith, short n small)

@@ -143,6 +143,7 @@ pub fn hex(line: &mut [u8], at: usize, k: usize, word: u64) -> usize
 }
 
 // A value of a head or a row: a dash where it is absent, else decimal, with a minus sign in front of a negative one.
+#[tactic(auto, using(crate::proofs::Values::absent_text, crate::proofs::Values::plain_read, crate::proofs::Values::negative_read, crate::proofs::Values::value_some))]
 pub fn value(line: &mut [u8], at: usize, v: i32) -> usize
     requires { at + length (value_text v) ≤ length line.old }
     ensures value { result ≡ at + length (value_text v) }
