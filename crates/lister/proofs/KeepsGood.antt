@@ -10,7 +10,7 @@ use lib.IntN.{ℤ}
 use lib.ListN.{length, take}
 use lib.Seq.{length-sets}
 use Rattle.format.specs.Listing.{Line, says, bad, line_says}
-use Rattle.format.specs.Masks.{Lent, lent}
+use Rattle.format.specs.Masks.{Lent}
 use Rattle.format.specs.Reading.{row_room, Outcome, accepted, idle, refused, reading}
 use Rattle.format.specs.Table.{Message, table}
 use Rattle.format.proofs.CutWalks.{reads_from}

@@ -5,52 +5,37 @@ use Rattle.lister.proofs.Advances.{gathers_made, opens_made, lists_made, gathers
 use Rattle.lister.proofs.advance.Statement.{statement}
 use Rattle.lister.proofs.advance.Tie as tie
 
-gather-requires : tie.Need-gather-requires
-gather-requires c κs =
-    let w = c.before.before in
-    let s = w.before.before.before.before.before.before in
-    gathers_under s.args.state s.args.line.now s.args.rows.now s.requires.0 _ w.work.given.1
+gather-gathered-requires : tie.Need-gather-gathered-requires
+gather-gathered-requires c κs = gathers_under c.args.state c.args.line.now c.args.rows.now c.requires.0 _ c.in-Gathering.is
 
 open-requires : tie.Need-open-requires
-open-requires c κs =
-    let w = c.before.before.before in
-    let s = w.before.before.before.before.before.before in
-    (opens_under s.args.state s.args.line.now s.args.rows.now s.requires.0 _ w.work2.given.1, s.requires.1)
+open-requires c κs = (opens_under c.args.state c.args.line.now c.args.rows.now c.requires.0 _ c.in-Whole.is, c.requires.1)
 
 onward-requires : tie.Need-onward-requires
-onward-requires c κs =
-    let w = c.before.before.before.before in
-    let s = w.before.before.before.before.before.before in
-    (lists_under s.args.state s.args.line.now s.args.rows.now s.requires.0 _ _ w.work3.given.1, s.requires.1)
+onward-requires c κs = (lists_under c.args.state c.args.line.now c.args.rows.now c.requires.0 _ _ c.in-Walking.is, c.requires.1)
 
-returns : tie.Need-returns
-returns c =
-    let g = c.before.before in
-    let w = g.before.before.before in
-    let x = w.before.before.before.before.before.before.args in
-    let made = gathers_made x.state x.line.now x.rows.now x.piece.now x.out.now _ w.work.given.1 g.gather.result _ g.gather.ensures in
+returns-in-Gathering : tie.Need-returns-in-Gathering
+returns-in-Gathering c =
+    let x = c.args in
+    let made = gathers_made x.state x.line.now x.rows.now x.piece.now x.out.now _ c.in-Gathering.is c.gather-gathered.result _ c.gather-gathered.ensures in
     (made.0, (made.1.0, (made.1.1.0, (made.1.1.1, omega arith))))
 
-returns-2 : tie.Need-returns-2
-returns-2 c =
-    let o = c.before.before.before.before in
-    let w = o.before.before.before.before in
-    let x = w.before.before.before.before.before.before.args in
-    let told = o.«open».ensures in
-    let made = opens_made x.state x.line.now x.rows.now x.piece.now x.out.now _ w.work2.given.1 o.«open».result _ _ (told.0, (told.1.0, told.1.1.0)) in
+returns-in-Whole : tie.Need-returns-in-Whole
+returns-in-Whole c =
+    let x = c.args in
+    let told = c.«open».ensures in
+    let made = opens_made x.state x.line.now x.rows.now x.piece.now x.out.now _ c.in-Whole.is c.«open».result _ _ (told.0, (told.1.0, told.1.1.0)) in
     (made.0, (made.1.0, (made.1.1.0, (made.1.1.1, told.1.1.1))))
 
-returns-3 : tie.Need-returns-3
-returns-3 c =
-    let o = c.before.before.before in
-    let w = o.before.before.before.before.before in
-    let x = w.before.before.before.before.before.before.args in
-    let told = o.onward.ensures in
-    let made = lists_made x.state x.line.now x.rows.now x.piece.now x.out.now _ _ w.work3.given.1 o.onward.result _ _ (told.0, (told.1.0, told.1.1.0)) in
+returns-in-Walking : tie.Need-returns-in-Walking
+returns-in-Walking c =
+    let x = c.args in
+    let told = c.onward.ensures in
+    let made = lists_made x.state x.line.now x.rows.now x.piece.now x.out.now _ _ c.in-Walking.is c.onward.result _ _ (told.0, (told.1.0, told.1.1.0)) in
     (made.0, (made.1.0, (made.1.1.0, (made.1.1.1, told.1.1.1))))
 
-pub advance-spec : {M : Type 1} → statement M
-advance-spec =
+pub advance_spec : {M : Type 1} → statement M
+advance_spec =
     tie.close
-    (tie.spec (λ c. search rules) gather-requires (λ c. search rules) open-requires (λ c. search rules) onward-requires (λ c. search rules) returns
-    (λ c. search rules) (λ c. search rules) returns-2 (λ c. search rules) (λ c. search rules) (λ c. search rules) returns-3)
+    (tie.spec (λ c. search rules) gather-gathered-requires (λ c. search rules) open-requires (λ c. search rules) onward-requires (λ c. search rules) returns-in-Gathering
+    (λ c. search rules) (λ c. search rules) returns-in-Whole (λ c. search rules) (λ c. search rules) (λ c. search rules) returns-in-Walking)

@@ -7,8 +7,7 @@ use Rattle.lister.proofs.onward.stop.Tie as tie
 returns : tie.Need-returns
 unfolding stop_values
 returns c =
-    let k = c.before.before in
-    ((λ i. record { state = k.before.before.before.args.next; taken = 0; given = k.stop.ensures.0 i }), (k.stop.ensures.1.0, k.stop.ensures.1.1))
+    ((λ i. record { state = c.args.next; taken = 0; given = c.stop-given.ensures.0 i }), (c.stop-given.ensures.1.0, c.stop-given.ensures.1.1))
 
-pub stop-spec : {M : Type 1} → statement M
-stop-spec = tie.close (tie.spec (λ c κs. search rules) (λ c. search rules) returns)
+pub stop_spec : {M : Type 1} → statement M
+stop_spec = tie.close (tie.spec (λ c κs. search rules) (λ c. search rules) returns)

@@ -5,13 +5,13 @@ use Rattle.lister.specs.Steps.{counted}
 use Rattle.lister.proofs.open.count_on.Statement.{statement}
 use Rattle.lister.proofs.open.count_on.Tie as tie
 
-returns : tie.Need-returns
+returns-then-number-lt18446744073709551615 : tie.Need-returns-then-number-lt18446744073709551615
 unfolding counted
-returns c = omega arith
+returns-then-number-lt18446744073709551615 c = omega arith
 
-returns-2 : tie.Need-returns-2
+returns-else-number-lt18446744073709551615 : tie.Need-returns-else-number-lt18446744073709551615
 unfolding counted
-returns-2 c = omega arith
+returns-else-number-lt18446744073709551615 c = omega arith
 
-pub count-on-spec : {M : Type 1} → statement M
-count-on-spec = tie.close (tie.spec (λ c. search rules) returns returns-2)
+pub count_on_spec : {M : Type 1} → statement M
+count_on_spec = tie.close (tie.spec (λ c. search rules) returns-then-number-lt18446744073709551615 returns-else-number-lt18446744073709551615)
