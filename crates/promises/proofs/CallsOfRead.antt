@@ -10,7 +10,7 @@ use lib.Dec.{eqb}
 use lib.IntN.{ℤ}
 use lib.ListN.{length, drop}
 use lib.Seq.{drop_at}
-use denote.Ref.{Bor}
+use denote.Ref.{Bor, MutBor}
 use Rattle.format.specs.declared.Answer.{Answer}
 use Rattle.format.specs.declared.Answer.TheVariants.{Message, Idle, Refused}
 use Rattle.format.specs.declared.Refusal.{Refusal}
@@ -37,9 +37,12 @@ use Rattle.promises.proofs.Receivers.{bytes_say, lent_picture, code_receives, co
 use Rattle.reader.specs.Readings.{struct_of, outcome_at, reading_of}
 use Rattle.walk.specs.Walks.{walk_at, walked_of}
 
--- a slice that lies anywhere
+-- a slice that lies anywhere, lent to be read or to be written
 pub anywhere : {A : Type 0} → Bor (List A)
 anywhere = record { ref_ptr = (0, 0); now = [] }
+
+pub lent_anywhere : {A : Type 0} → MutBor (List A)
+lent_anywhere = record { ref_ptr = (0, 0); ghost_name = 0; now = [] }
 
 -- ---- in Rattle
 
@@ -70,7 +73,7 @@ module _ (bytes : List ℕ) (end : ℕ) (h : Holding) (place : ℕ) (rows : List
   reads_code c = record {
     κs = ([], ([], tt));
     stretch = anywhere;
-    buffer = anywhere;
+    buffer = lent_anywhere;
     result = reading_of h (outcome_at h bytes end place rows);
     says = sym c.says;
     leaves = sym c.holds;
@@ -144,9 +147,9 @@ module _ (bytes : List ℕ) (end : ℕ) (hb : List ℕ) (place : ℕ) (rows : Li
   unfolding host_outcome outcome_at
   reads_host c = record {
     κs = ([], ([], ([], tt)));
-    lent = anywhere;
+    lent = lent_anywhere;
     stretch = anywhere;
-    buffer = anywhere;
+    buffer = lent_anywhere;
     result = handed_by place (said_at place (answer_of outcome));
     says = said_back place (answer_of outcome) ∙ sym c.says;
     allowed = (refl, (c.holds, c.writes));

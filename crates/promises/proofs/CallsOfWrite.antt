@@ -18,7 +18,7 @@ use Rattle.host_write.specs.Writes.{head_in, written_handed}
 use Rattle.host.proofs.Outcomes.{bytes_stay}
 use Rattle.promises.specs.Calls.{CodeCall, HostCall}
 use Rattle.promises.specs.RoundTrips.{ReadingGivesBack, WritingGivesBack, WritingInPlace, OneAnswer, RefusalLeaves, done_by, CodeWrite, done_in, HostWrite}
-use Rattle.promises.proofs.CallsOfRead.{anywhere, not_answered, kept, struct_passes, code_reads, lent_in, bytes_passes, host_reads_lem}
+use Rattle.promises.proofs.CallsOfRead.{anywhere, lent_anywhere, not_answered, kept, struct_passes, code_reads, lent_in, bytes_passes, host_reads_lem}
 use Rattle.promises.proofs.RoundTrips.{Write, one_answer, refusal_leaves, reading_gives_back, writing_gives_back, writing_in_place, one_so, refusal_so, records_too, bits_too, place_too}
 use Rattle.reader.specs.Readings.{struct_of}
 use Rattle.writer.specs.Stages.{answered}
@@ -57,7 +57,7 @@ module _ (h : Holding) (head : Head) (rows : List ℤ) (count : ℕ) (bytes : Li
   write_answers small = record {
     κs = ([], ([], tt));
     numbers = anywhere;
-    target = anywhere;
+    target = lent_anywhere;
     octets = small;
     result = answered start code_writing;
     says = done_back start code_writing;
@@ -109,7 +109,7 @@ module _ (hb : List ℕ) (words : List ℤ) (rows : List ℤ) (count : ℕ) (byt
     lent = anywhere;
     headed = anywhere;
     numbers = anywhere;
-    target = anywhere;
+    target = lent_anywhere;
     words = words;
     heads = refl;
     octets = small;

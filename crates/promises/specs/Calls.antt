@@ -2,7 +2,7 @@
 -- it left, until one answers a stop; and what it has got then.
 use Rattle.std.specs.Prelude.{◌≡◌, cond, List, [], ◌∷◌, ℕ, eqb, ℤ}
 use contract.Lifetimes.{Lfts}
-use denote.Ref.{MutBor, at_last}
+use denote.Ref.{Bor, MutBor, at_last}
 use Rattle.format.specs.declared.Head.{Head}
 use Rattle.format.specs.Answers.{Said, stop, message, said_at}
 use Rattle.format.specs.Walking.{HandedOut, Walk}
@@ -50,23 +50,23 @@ got_by w left = record { handed = w.handed; number = (walked_to w).answer; place
 -- `read` in Rattle
 pub record CodeCall (bytes : List ℕ) (end : ℕ) (holding : Holding) (place : ℕ) (rows : List ℤ) (said : Said) (left : Holding) (after : List ℤ) : Type 0 where
   pub κs : Lfts 2
-  pub stretch : MutBor (List ℕ)
+  pub stretch : Bor (List ℕ)
   pub buffer : MutBor (List ℤ)
   pub result : Reading
   pub says : said_at place result.answer ≡ said
   pub leaves : result.holding ≡ left
   pub allowed :
       Allows walk.single.read.Kinds.ps walk.single.read.Kinds.r walk.single.read.Reads.Learnt κs
-      (holding, (at_last stretch bytes, (end, (place, (at_last buffer rows, tt))))) result (tt, (tt, (tt, (tt, (after, tt)))))
+      (holding, (record stretch { now = bytes }, (end, (place, (at_last buffer rows, tt))))) result (tt, (tt, (tt, (tt, (after, tt)))))
 
 -- `walk` in Rattle, one call for all of the stretch
 pub record CodeWalk (bytes : List ℕ) (end : ℕ) (holding : Holding) (rows : List ℤ) (result : Halt) (after : List ℤ) : Type 0 where
   pub κs : Lfts 2
-  pub stretch : MutBor (List ℕ)
+  pub stretch : Bor (List ℕ)
   pub buffer : MutBor (List ℤ)
   pub allowed :
       Allows walk.walk.Kinds.ps walk.walk.Kinds.r walk.walk.Reads.Learnt κs
-      (holding, (at_last stretch bytes, (end, (at_last buffer rows, tt)))) result (tt, (tt, (tt, (after, tt))))
+      (holding, (record stretch { now = bytes }, (end, (at_last buffer rows, tt)))) result (tt, (tt, (tt, (after, tt))))
 
 -- what the numbers that C is handed say: 255 a message, every other a stop
 unfoldable pub said_by : Handed → Said
@@ -76,20 +76,20 @@ said_by r = cond (eqb r.answer message_number) (message r.head r.place r.rows) (
 pub record HostCall (bytes : List ℕ) (end : ℕ) (holding : List ℕ) (place : ℕ) (rows : List ℤ) (said : Said) (left : List ℕ) (after : List ℤ) : Type 0 where
   pub κs : Lfts 3
   pub lent : MutBor (List ℕ)
-  pub stretch : MutBor (List ℕ)
+  pub stretch : Bor (List ℕ)
   pub buffer : MutBor (List ℤ)
   pub result : Handed
   pub says : said_by result ≡ said
   pub allowed :
       Allows host.hundurzek_read.Kinds.ps host.hundurzek_read.Kinds.r host.hundurzek_read.Reads.Learnt κs
-      (at_last lent holding, (at_last stretch bytes, (end, (place, (at_last buffer rows, tt))))) result (left, (tt, (tt, (tt, (after, tt)))))
+      (at_last lent holding, (record stretch { now = bytes }, (end, (place, (at_last buffer rows, tt))))) result (left, (tt, (tt, (tt, (after, tt)))))
 
 -- `hundurzek_walk`, one call for all of it, too
 pub record HostWalk (bytes : List ℕ) (end : ℕ) (holding : List ℕ) (rows : List ℤ) (result : Walked) (left : List ℕ) (after : List ℤ) : Type 0 where
   pub κs : Lfts 3
   pub lent : MutBor (List ℕ)
-  pub stretch : MutBor (List ℕ)
+  pub stretch : Bor (List ℕ)
   pub buffer : MutBor (List ℤ)
   pub allowed :
       Allows host.hundurzek_walk.Kinds.ps host.hundurzek_walk.Kinds.r host.hundurzek_walk.Reads.Learnt κs
-      (at_last lent holding, (at_last stretch bytes, (end, (at_last buffer rows, tt)))) result (left, (tt, (tt, (after, tt))))
+      (at_last lent holding, (record stretch { now = bytes }, (end, (at_last buffer rows, tt)))) result (left, (tt, (tt, (after, tt))))

@@ -1,7 +1,7 @@
 -- A caller that lists an input by the steps of `advance`: pieces of it go in, the text of each step comes out at the front of a lent buffer.
 use Rattle.std.specs.Prelude.{◌≡◌, List, [], ◌++◌, ℕ, ◌≤◌, ℤ, length, take, drop}
 use contract.Lifetimes.{Lfts}
-use denote.Ref.{MutBor, at_last}
+use denote.Ref.{Bor, MutBor, at_last}
 use Rattle.holding.specs.declared.Holding.{Holding}
 use Rattle.lines.specs.Records.{message_room}
 use Rattle.lister.specs.declared.State.{State}
@@ -15,12 +15,12 @@ pub record AdvanceCall (s : State) (line : List ℕ) (rows : List ℤ) (piece ou
   pub κs : Lfts 4
   pub line_lent : MutBor (List ℕ)
   pub rows_lent : MutBor (List ℤ)
-  pub piece_lent : MutBor (List ℕ)
+  pub piece_lent : Bor (List ℕ)
   pub out_lent : MutBor (List ℕ)
   pub room : message_room ≤ length out
   pub allowed :
       Allows lister.advance.Kinds.ps lister.advance.Kinds.r lister.advance.Reads.Learnt κs
-      (s, (at_last line_lent line, (at_last rows_lent rows, (at_last piece_lent piece, (at_last out_lent out, tt))))) result (tt, (left, (numbers, (tt, (text, tt)))))
+      (s, (at_last line_lent line, (at_last rows_lent rows, (record piece_lent { now = piece }, (at_last out_lent out, tt))))) result (tt, (left, (numbers, (tt, (text, tt)))))
 
 -- Calls one after another, each with the state, the line and the row buffer that the one before left, until nothing is left: the texts put together, and what is
 -- held then. A call is handed some first bytes of the input that is left, and none only where none is left.

@@ -2,7 +2,7 @@
 -- Of a function that writes and one that reads, by what their promises allow; any outcome that they allow.
 use Rattle.std.specs.Prelude.{◌≡◌, cond, List, ℕ, ◌+◌, ◌-◌, ◌*◌, ◌≤◌, eqb, ℤ, length, take, drop}
 use contract.Lifetimes.{Lfts}
-use denote.Ref.{MutBor, at_last}
+use denote.Ref.{Bor, MutBor, at_last}
 use Rattle.bits.specs.BitLists.{bits, set_bytes}
 use Rattle.bits.proofs.Windows.{Bytes}
 use Rattle.format.specs.declared.Head.{Head}
@@ -91,14 +91,14 @@ done_by start (Writings.Refused r) = undone_at start r
 -- `write` in Rattle
 pub record CodeWrite (holding : Holding) (head : Head) (rows : List ℤ) (count : ℕ) (bytes : List ℕ) (start : ℕ) (said : Done) (left : List ℕ) : Type 0 where
   pub κs : Lfts 2
-  pub numbers : MutBor (List ℤ)
+  pub numbers : Bor (List ℤ)
   pub target : MutBor (List ℕ)
   pub octets : Bytes bytes
   pub result : Writing
   pub says : done_by start result ≡ said
   pub allowed :
       Allows writer.write.Kinds.ps writer.write.Kinds.r writer.write.Reads.Learnt κs
-      (holding, (head, (at_last numbers rows, (count, (at_last target bytes, (start, tt)))))) result (tt, (tt, (tt, (tt, (left, (tt, tt))))))
+      (holding, (head, (record numbers { now = rows }, (count, (at_last target bytes, (start, tt)))))) result (tt, (tt, (tt, (tt, (left, (tt, tt))))))
 
 -- what the numbers that C is handed say: 255 done, every other a refusal
 unfoldable pub done_in : Handed.Done → Done
@@ -107,9 +107,9 @@ done_in r = cond (eqb r.answer done_number) (done r.place) (undone r.answer r.pl
 -- `hundurzek_write`: numbers that say the head
 pub record HostWrite (holding : List ℕ) (head : Head) (rows : List ℤ) (count : ℕ) (bytes : List ℕ) (start : ℕ) (said : Done) (left : List ℕ) : Type 0 where
   pub κs : Lfts 4
-  pub lent : MutBor (List ℕ)
-  pub headed : MutBor (List ℤ)
-  pub numbers : MutBor (List ℤ)
+  pub lent : Bor (List ℕ)
+  pub headed : Bor (List ℤ)
+  pub numbers : Bor (List ℤ)
   pub target : MutBor (List ℕ)
   pub words : List ℤ
   pub heads : head_in words ≡ head
@@ -119,5 +119,5 @@ pub record HostWrite (holding : List ℕ) (head : Head) (rows : List ℤ) (count
   pub says : done_in result ≡ said
   pub allowed :
       Allows host_write.hundurzek_write.Kinds.ps host_write.hundurzek_write.Kinds.r host_write.hundurzek_write.Reads.Learnt κs
-      (at_last lent holding, (at_last headed words, (at_last numbers rows, (count, (at_last target bytes, (start, tt)))))) result
+      (record lent { now = holding }, (record headed { now = words }, (record numbers { now = rows }, (count, (at_last target bytes, (start, tt)))))) result
       (tt, (tt, (tt, (tt, (left, (tt, tt))))))

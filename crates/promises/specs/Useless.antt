@@ -2,7 +2,7 @@
 -- call, with what it then leaves in what was lent, whatever its code.
 use Rattle.std.specs.Prelude.{◌≡◌, Bool, true, ◌&&◌, List, [], ◌∷◌, ℕ, ◌^◌, eqb, leb, ltb, ℤ, pos, negsuc, length}
 use contract.Lifetimes.{Lfts}
-use Rattle.std.specs.Borrow.{Bor}
+use denote.Ref.{Bor, MutBor}
 use denote.Triple.Clauses.{at_exit}
 use borrow.Fn.Kinds.{ParamKind, ResultKind, Out, Dens, ended_of}
 use Rattle.format.specs.declared.Refusal.TheVariants.{Short}
@@ -143,21 +143,24 @@ module _ {n : ℕ} (ps : List (ParamKind n)) (r : ResultKind n) where
 
 -- ---- the four functions that read
 
--- a buffer that lies in a block of its own
-abbrev pub lent_as : {A : Type 0} → ℕ → A → Bor A
+-- a buffer that lies in a block of its own, lent to be written or to be read
+abbrev pub lent_as : {A : Type 0} → ℕ → A → MutBor A
 lent_as k x = record { ref_ptr = (k, 0); ghost_name = k; now = x }
+
+abbrev pub shown_as : {A : Type 0} → ℕ → A → Bor A
+shown_as k x = record { ref_ptr = (k, 0); now = x }
 
 unfoldable pub reads : Sight walk.single.read.Kinds.ps walk.single.read.Kinds.r Call (Seen Handed)
 reads =
     record {
-      args = λ κs c. (holding_in c.holding, (lent_as 1 c.bytes, (c.end, (0, (lent_as 2 c.rows, tt)))));
+      args = λ κs c. (holding_in c.holding, (shown_as 1 c.bytes, (c.end, (0, (lent_as 2 c.rows, tt)))));
       seen = λ κs c x v. record { said = handed_by 0 (said_at 0 x.answer); holding = x.holding; rows = v.1.1.1.1.0 };
     }
 
 unfoldable pub walks : Sight walk.walk.Kinds.ps walk.walk.Kinds.r Call (Seen Walked)
 walks =
     record {
-      args = λ κs c. (holding_in c.holding, (lent_as 1 c.bytes, (c.end, (lent_as 2 c.rows, tt))));
+      args = λ κs c. (holding_in c.holding, (shown_as 1 c.bytes, (c.end, (lent_as 2 c.rows, tt))));
       seen =
           λ κs c x v. record {
             said =
@@ -176,13 +179,13 @@ walks =
 unfoldable pub host_reads : Sight host.hundurzek_read.Kinds.ps host.hundurzek_read.Kinds.r Call (Seen Handed)
 host_reads =
     record {
-      args = λ κs c. (lent_as 0 c.holding, (lent_as 1 c.bytes, (c.end, (0, (lent_as 2 c.rows, tt)))));
+      args = λ κs c. (lent_as 0 c.holding, (shown_as 1 c.bytes, (c.end, (0, (lent_as 2 c.rows, tt)))));
       seen = λ κs c x v. record { said = x; holding = holding_in v.0; rows = v.1.1.1.1.0 };
     }
 
 unfoldable pub host_walks : Sight host.hundurzek_walk.Kinds.ps host.hundurzek_walk.Kinds.r Call (Seen Walked)
 host_walks =
     record {
-      args = λ κs c. (lent_as 0 c.holding, (lent_as 1 c.bytes, (c.end, (lent_as 2 c.rows, tt))));
+      args = λ κs c. (lent_as 0 c.holding, (shown_as 1 c.bytes, (c.end, (lent_as 2 c.rows, tt))));
       seen = λ κs c x v. record { said = x; holding = holding_in v.0; rows = v.1.1.1.0 };
     }

@@ -7,7 +7,7 @@ use Rattle.host_write.proofs as host_write
 use Rattle.host_write.specs.Writes.{head_in}
 use Rattle.passing.specs.Passing.{size, holding_in}
 use Rattle.promises.specs.RoundTrips.{done_by, done_in}
-use Rattle.promises.specs.Useless.{words, Sight, lent_as}
+use Rattle.promises.specs.Useless.{words, Sight, lent_as, shown_as}
 use Rattle.writer.proofs as writer
 
 -- ---- a call
@@ -79,13 +79,13 @@ pub data UselessWriter (f : Asked → Left) : Type 0 where
 unfoldable pub writes : Sight writer.write.Kinds.ps writer.write.Kinds.r Asked Left
 writes =
     record {
-      args = λ κs c. (holding_in c.holding, (head_in c.head, (lent_as 1 c.rows, (c.count, (lent_as 2 c.bytes, (c.start, tt))))));
+      args = λ κs c. (holding_in c.holding, (head_in c.head, (shown_as 1 c.rows, (c.count, (lent_as 2 c.bytes, (c.start, tt))))));
       seen = λ κs c x v. record { said = done_by c.start x; bytes = v.1.1.1.1.0 };
     }
 
 unfoldable pub host_writes : Sight host_write.hundurzek_write.Kinds.ps host_write.hundurzek_write.Kinds.r Asked Left
 host_writes =
     record {
-      args = λ κs c. (lent_as 0 c.holding, (lent_as 1 c.head, (lent_as 2 c.rows, (c.count, (lent_as 3 c.bytes, (c.start, tt))))));
+      args = λ κs c. (shown_as 0 c.holding, (shown_as 1 c.head, (shown_as 2 c.rows, (c.count, (lent_as 3 c.bytes, (c.start, tt))))));
       seen = λ κs c x v. record { said = done_in x; bytes = v.1.1.1.1.0 };
     }
