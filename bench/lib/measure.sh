@@ -39,9 +39,7 @@ build_fields() {
 }
 
 build_listing() {
-    if [ ! -f target/bin/listing ] || [ -n "$(find crates crates.txt -newer target/bin/listing)" ]; then
-        rt check listing >/dev/null
-    fi
+    ./hundurzek list >/dev/null
     $CC -static $FLAGS bench/lines.c bench/stretches.c bench/encode.c -o target/bench/lines
 }
 
