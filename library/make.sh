@@ -54,5 +54,9 @@ if [ "$name" = wasm32 ]; then
     cp library/hundurzek.js library/package.json "$folder/"
 fi
 text=$(llvm llvm-size "$made" | awk 'NR > 1 { text += $1 } END { print text }')
-needs=$(llvm llvm-nm --undefined-only --just-symbol-name "$made" | sed -n '/^[A-Za-z_][A-Za-z0-9_]*$/p' | sort -u)
+# (of a linked module the kit's llvm-nm makes a fault; what is not defined in it is imported)
+case $made in
+*.wasm) needs=$(llvm llvm-objdump --section-headers "$made" | awk '$2 == "IMPORT" { print "imports" }') ;;
+*) needs=$(llvm llvm-nm --undefined-only --just-symbol-name "$made" | sed -n '/^[A-Za-z_][A-Za-z0-9_]*$/p' | sort -u) ;;
+esac
 echo "$name: $text bytes of text, needs $(echo ${needs:-nothing})"
