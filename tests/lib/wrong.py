@@ -232,7 +232,7 @@ def place_round(edits):
 def at_once():
     """How many checks the processors and the memory hold."""
     free = re.search(r"MemAvailable: +(\d+)", Path("/proc/meminfo").read_text(encoding="ascii"))
-    return max(1, min(os.cpu_count(), int(free[1]) // MEMORY))
+    return max(1, min(len(os.sched_getaffinity(0)), int(free[1]) // MEMORY))
 
 
 def main(arguments):
