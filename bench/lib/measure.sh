@@ -124,12 +124,8 @@ stack() {
 
 frames() {
     need python3 python3
-    case $(uname -m) in
-    x86_64) objdump=objdump ;;
-    *) objdump=x86_64-linux-gnu-objdump ;;
-    esac
-    need $objdump binutils-x86-64-linux-gnu
-    $objdump -dr --no-show-raw-insn $(archives host) | python3 bench/lib/frames.py ${1:+"hundurzek_$1"}
+    need objdump binutils
+    objdump -dr --no-show-raw-insn $(archives host) | python3 bench/lib/frames.py ${1:+"hundurzek_$1"}
 }
 
 # against calling a function of one instruction, its return: that and the call are added again
