@@ -27,7 +27,7 @@ llvm() {
 }
 
 outdated() {
-    [ ! -f "$1" ] || [ crates.txt -nt "$1" ] ||
+    [ ! -f "$1" ] || [ -n "$(find crates.txt -newer "$1")" ] ||
         [ -n "$(find crates -mindepth 2 -name out -prune -o -newer "$1" -print | head -n 1)" ]
 }
 
