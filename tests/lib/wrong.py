@@ -27,7 +27,7 @@ PARTS = ("src", "specs", "proofs")
 ERROR = re.compile(r"^(?:\./)?((?:src|specs|proofs)/\S+?):\d+:\d+: error: (?:`([^`]+)`)?(.*)", re.M)
 BARE = re.compile(r"^fn \S+: no proof: .*?(?:\./)?(proofs/\S+?\.antt)\b.*?; `search` did not prove (`.*)", re.M)
 NAME = re.compile(r"`([^`]+)`")
-CONSEQUENCE = re.compile(r"was not admitted|was rejected|is not admitted|has no `Need-")
+CONSEQUENCE = re.compile(r"was not admitted|was rejected|is not admitted|has no `|has no field|is not in scope")
 FUNCTION = re.compile(r"^( *)(?:pub(?:\(\w+\))? )?(?:const )?fn (\w+)")
 IMPL = re.compile(r"^impl (\w+)")
 # What a check takes of the memory, at most, in kilobytes.
@@ -173,7 +173,7 @@ def failing(edits):
     facts = [(file, fact or "-") for file, fact, why in ERROR.findall(ran.stdout) if not CONSEQUENCE.search(why)]
     facts += [(file, fact) for file, all_of_it in BARE.findall(ran.stdout) for fact in NAME.findall(all_of_it)]
     if not facts:
-        raise BadEdit("it is refused, and no error names a file of the crate")
+        raise BadEdit("it is refused only since a proof names what it took away, or where no error names a file of the crate")
     return [f"{file} {fact}" for file, fact in facts]
 
 
