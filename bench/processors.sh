@@ -8,7 +8,6 @@
 set -eu
 cd "$(dirname "$0")/.."
 . bench/lib/measure.sh
-. library/kit.sh
 . tests/lib/processors.sh
 need python3 python3
 
@@ -82,7 +81,7 @@ size_row() {
 
 # code FILE..: what is in them, by whatever name
 code() {
-    "$(tool llvm-objdump)" -dr --no-show-raw-insn "$@" | sed '/file format/s/^.*:/:/'
+    llvm llvm-objdump -dr --no-show-raw-insn "$@" | sed '/file format/s/^.*:/:/'
 }
 
 # tell NAME: makes NAME/told, a line for each function (bench/lib/stacks.py). The library does not say how large frames
@@ -94,7 +93,7 @@ tell() {
     done
     code "$own/libhundurzek.a" >"$own/listing"
     code "$own/host.o" "$own/host_write.o" | cmp - "$own/listing" >&2
-    "$(tool llvm-readelf)" --stack-sizes "$own/host.o" "$own/host_write.o" >"$own/sizes"
+    llvm llvm-readelf --stack-sizes "$own/host.o" "$own/host_write.o" >"$own/sizes"
     python3 bench/lib/stacks.py "$own/listing" "$own/sizes" >"$own/told"
 }
 

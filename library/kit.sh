@@ -1,43 +1,65 @@
 # Sourced in the repository's root: the Rattle kit, found through rt, and its LLVM.
 #   kit          its folder
-#   machine      this machine's name; $kit_own is what the kit has for it
 #   clang        the kit's compiler
 #   AS_RATTLE    what rattle tells it of every module
 #   words NAME   what it is told of a processor of library/targets
-#   tool NAME    the same program under another name that it answers to: llvm-ar, llvm-nm, llvm-size, wasm-ld
-#   links FROM TO EXCEPT   links in TO to all that is in FROM but one
-#   keeping FOLDER KEPT    makes FOLDER the kit's toolchain, of links, but for clang: a script that keeps in KEPT the
+#   llvm NAME WORD..       runs it under another name that it answers to: llvm-ar, llvm-nm, llvm-size, wasm-ld
+#   outdated MADE          whether a file is not there, or older than the code
+#   for_c CRATE [RT]       proves crate CRATE_c, what C calls of CRATE, by `rt lib`, or by that of another kit, and makes
+#                          its archive, target/staticlib/libCRATE.a
+#   keeping FOLDER KEPT    makes FOLDER a kit of links to the kit, but for its clang: a script that keeps in KEPT the
 #                          module that it optimizes, and does what it is told. The path is written into it: rattle hands
-#                          no environment on
+#                          no environment on. FOLDER lies outside the repository, below which `rt ci` refuses links
 #   as_text MODULE TEXT    a module as text, as it is
-kit=${RATTLE_HOME:-$(dirname "$(dirname "$(readlink -f "$(command -v rt)")")")}
-machine=$(uname -m)
-kit_own=$kit/on/$machine
-clang=$kit_own/toolchain/bin/clang
-AS_RATTLE='-ffunction-sections -fdata-sections -mllvm -trap-unreachable -mllvm -no-trap-after-noreturn
---no-default-config -no-canonical-prefixes -fintegrated-cc1 -fno-crash-diagnostics -Werror -c -x ir -O3'
+kit=$(dirname "$(dirname "$(readlink -f "$(command -v rt)")")")
+clang=$kit/toolchain/bin/clang
+AS_RATTLE='-mllvm -no-trap-after-noreturn -ffunction-sections -fdata-sections -mllvm -trap-unreachable
+-mllvm -no-x86-call-frame-opt -mllvm -disable-machine-licm -mllvm -disable-postra-machine-licm
+-mllvm -sink-common-insts=false --no-default-config -no-canonical-prefixes -fintegrated-cc1 -fno-crash-diagnostics
+-Werror -c -x ir -O3'
 
 words() {
     awk -v name="$1" '$1 == name { sub(/^[^ ]+ +/, ""); print }' library/targets
 }
 
-tool() {
-    mkdir -p target/tools
-    ln -sf "$clang" "target/tools/$1"
-    echo "target/tools/$1"
+llvm() {
+    python3 -c 'import os, sys; os.execv(sys.argv[1], sys.argv[2:])' "$clang" "$@"
 }
 
+outdated() {
+    [ ! -f "$1" ] || [ -n "$(find crates.txt -newer "$1")" ] ||
+        [ -n "$(find crates -mindepth 2 -name out -prune -o -newer "$1" -print | head -n 1)" ]
+}
+
+# For every x86-64 that there is, as what is compiled for other processors; rt's own choice is x86-64-v2.
+for_c() {
+    (cd "crates/$1_c" && "${2:-rt}" lib --cpu=x86-64) || return 1
+    mkdir -p target/staticlib
+    cp "crates/$1_c/out/lib$1_c.a" "target/staticlib/lib$1.a"
+}
+
+# links FROM TO EXCEPT..: links in TO to all that is in FROM but these
 links() {
-    mkdir -p "$2"
-    for file in "$1"/*; do
-        [ "$(basename "$file")" = "$3" ] || ln -s "$file" "$2/"
+    from=$1
+    to=$2
+    shift 2
+    mkdir -p "$to"
+    for file in "$from"/*; do
+        case " $* " in
+        *" $(basename "$file") "*) ;;
+        *) ln -s "$file" "$to/" ;;
+        esac
     done
 }
 
+# rt takes for its kit where it lies itself, links followed: so it is copied.
 keeping() {
-    links "$kit_own/toolchain" "$1" bin
-    links "$kit_own/toolchain/bin" "$1/bin" clang
-    cat >"$1/bin/clang" <<END_OF_CLANG
+    links "$kit" "$1" bin toolchain
+    links "$kit/bin" "$1/bin" rt rtlib.py
+    cp "$kit/bin/rt" "$kit/bin/rtlib.py" "$1/bin/"
+    links "$kit/toolchain" "$1/toolchain" bin
+    links "$kit/toolchain/bin" "$1/toolchain/bin" clang
+    cat >"$1/toolchain/bin/clang" <<END_OF_CLANG
 #!/bin/sh
 case " \$* " in
 *' -O3 '*)
@@ -48,7 +70,7 @@ case " \$* " in
 esac
 exec "$clang" "\$@"
 END_OF_CLANG
-    chmod +x "$1/bin/clang"
+    chmod +x "$1/toolchain/bin/clang"
 }
 
 as_text() {

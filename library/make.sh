@@ -41,18 +41,22 @@ Libs: -L${pcfiledir} -lhundurzek
 Cflags: -I${pcfiledir}
 END_OF_PC
 rm -f "$folder/libhundurzek.a"
-"$(tool llvm-ar)" rcsD "$folder/libhundurzek.a" "$work/host.o" "$work/host_write.o"
+llvm llvm-ar rcsD "$folder/libhundurzek.a" "$work/host.o" "$work/host_write.o"
 made=$folder/libhundurzek.a
 if [ "$name" = wasm32 ]; then
     made=$folder/hundurzek.wasm
-    functions=$("$(tool llvm-nm)" --defined-only --extern-only --just-symbol-name "$work/host.o" "$work/host_write.o" |
+    functions=$(llvm llvm-nm --defined-only --extern-only --just-symbol-name "$work/host.o" "$work/host_write.o" |
         sed -n 's/^hundurzek_/--export=&/p')
     # the stack lies first in memory, so that one that is too deep stops and overwrites nothing
-    "$(tool wasm-ld)" --no-entry --stack-first --strip-all $functions --export=__heap_base \
+    llvm wasm-ld --no-entry --stack-first --strip-all $functions --export=__heap_base \
         "$work/host.o" "$work/host_write.o" -o "$made"
     # package.json: without it node takes a .js file for no module
     cp library/hundurzek.js library/package.json "$folder/"
 fi
-text=$("$(tool llvm-size)" "$made" | awk 'NR > 1 { text += $1 } END { print text }')
-needs=$("$(tool llvm-nm)" --undefined-only --just-symbol-name "$made" | sed -n '/^[A-Za-z_][A-Za-z0-9_]*$/p' | sort -u)
+text=$(llvm llvm-size "$made" | awk 'NR > 1 { text += $1 } END { print text }')
+# (of a linked module the kit's llvm-nm makes a fault; what is not defined in it is imported)
+case $made in
+*.wasm) needs=$(llvm llvm-objdump --section-headers "$made" | awk '$2 == "IMPORT" { print "imports" }') ;;
+*) needs=$(llvm llvm-nm --undefined-only --just-symbol-name "$made" | sed -n '/^[A-Za-z_][A-Za-z0-9_]*$/p' | sort -u) ;;
+esac
 echo "$name: $text bytes of text, needs $(echo ${needs:-nothing})"

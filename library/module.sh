@@ -1,20 +1,20 @@
 #!/bin/sh
-# library/module.sh CRATE: proves a crate as `rt staticlib CRATE` does, and keeps what that compiles: LLVM's module, as
-# text, in target/module/CRATE.ll. It is rt's own command, over a kit of links to the kit, whose clang keeps the module.
+# library/module.sh CRATE: proves and makes a crate's archive for C as `rt lib` does, and keeps what that compiles:
+# LLVM's module, as text, in target/module/CRATE.ll. It is rt's own command, in a kit of links to the kit, whose clang
+# keeps the module.
 set -eu
 cd "$(dirname "$0")/.."
 . library/kit.sh
 crate=$1
-copy=$PWD/target/kit
 kept=$PWD/target/module/$crate.bc
-rm -rf "$copy" "$kept"
+own=$(mktemp -d)
+trap 'rm -rf "$own"' EXIT
+rm -f "$kept"
 mkdir -p target/module
-links "$kit" "$copy" on
-links "$kit_own" "$copy/on/$machine" toolchain
-keeping "$copy/on/$machine/toolchain" "$kept"
-RATTLE_HOME=$copy rt staticlib "$crate"
+keeping "$own/kit" "$kept"
+for_c "$crate" "$own/kit/bin/rt"
 [ -f "$kept" ] || {
-    echo "rt staticlib $crate compiled no module"
+    echo "rt lib of crate ${crate}_c compiled no module"
     exit 1
 }
 as_text "$kept" "target/module/$crate.ll"

@@ -1,4 +1,4 @@
-# retarget.awk -v layout=LINE -v triple=LINE -v also=LINE: a module of `rt staticlib`, as text, for another processor: its
+# retarget.awk -v layout=LINE -v triple=LINE -v also=LINE: a module of `rt lib`, as text, for another processor: its
 # data layout and triple replaced, what names x86-64 taken away, a line added. Every other word of the module must be one
 # of those listed here, none of which means another thing on another processor. So a module that turns a pointer into a
 # number (ptrtoint), passes a struct by value (sret, byval), has machine code or features of one machine (asm,
@@ -6,7 +6,7 @@
 
 BEGIN {
     known = "define internal declare attributes" # what a line begins with
-    known = known " void ptr i1 i8 i16 i32 i64 x label" # types
+    known = known " void ptr i1 i8 i16 i32 i64 x label null" # types, and the pointer that has 0 everywhere
     known = known " alloca load store align getelementptr inbounds call" # memory
     known = known " add sub mul udiv urem shl lshr and or xor nuw nsw zext sext trunc to" # numbers
     known = known " icmp eq ne ult ule slt true false br switch ret unreachable" # tests and ways
@@ -67,7 +67,7 @@ function tested(text,    i, n, parts) {
 /^![0-9]+ = ![{](i8 0, i8 2|!"rattle logic=[0-9a-f]+")?[}]$/ { print; next }
 /^[}]$/ { print; next }
 /^declare / { declared($0) }
-/^attributes / { gsub(/ "probe-stack"="inline-asm"| "target-cpu"="x86-64"/, "") }
+/^attributes / { gsub(/ "probe-stack"="inline-asm"| "stack-probe-size"="3072"| "target-cpu"="x86-64"/, "") }
 {
     tested($0)
     print

@@ -162,18 +162,19 @@ refuses 1 'clock' ./hundurzek library "$work/clock"
 # its compiler is the real one
 
 ./hundurzek library "$work/real" >/dev/null 2>&1
-mkdir -p "$work/clone/crates" "$work/kit/bin"
+mkdir -p "$work/clone/crates/host_c" "$work/clone/crates/host_write_c" "$work/clone/crates/listing" "$work/kit/bin"
 cp -R hundurzek include library "$work/clone/"
 : >"$work/clone/crates.txt"
 : >"$work/calls"
-ln -s "$(dirname "$(dirname "$(readlink -f "$(command -v rt)")")")/on" "$work/kit/on"
-printf '#!/bin/sh\necho "$*" >>"%s/calls"\n. "%s/does"\n' "$work" "$work" >"$work/kit/bin/rt"
+ln -s "$(dirname "$(dirname "$(readlink -f "$(command -v rt)")")")/toolchain" "$work/kit/toolchain"
+printf '#!/bin/sh\necho "$*: ${PWD##*/}" >>"%s/calls"\n. "%s/does"\n' "$work" "$work" >"$work/kit/bin/rt"
 chmod +x "$work/kit/bin/rt"
+: >"$work/kit/bin/rtlib.py"
 clone() { PATH=$work/kit/bin:$PATH "$work/clone/hundurzek" "$@"; }
 
 # called TIMES: the kit, so far
 called() {
-    times=$(grep -c '^staticlib host$' "$work/calls" || true)
+    times=$(grep -c '^lib --cpu=x86-64: host_c$' "$work/calls" || true)
     if [ "$times" -eq "$1" ]; then judge built yes; else judge "built $times times, not $1" no; fi
 }
 
@@ -196,22 +197,27 @@ echo 'echo bad news; exit 1' >"$work/does"
 refuses 1 'hundurzek: it failed' clone library "$work/library"
 if grep -q '^bad news$' "$work/err"; then judge 'what failed' yes; else judge 'what failed is not told' no; fi
 echo 'exit 0' >"$work/does"
-refuses 1 'rt staticlib host compiled no module' clone library "$work/library"
-refuses 1 'hundurzek: there is no ' clone list
-called 2
+refuses 1 "cannot stat 'crates/host_c/out/libhost_c.a'" clone library "$work/library"
+echo 'mkdir -p out; : >"out/lib${PWD##*/}.a"' >"$work/does"
+refuses 1 'rt lib of crate host_c compiled no module' clone library "$work/library"
+refuses 1 'hundurzek: it failed' clone list
+called 3
 # as rattle compiles what it has proved
 cat >"$work/does" <<END
+mkdir -p out
+crate=\${PWD##*/}
+: >"out/lib\$crate.a"
 cd "$work"
-cp "$home/target/module/\$2.bc" module.bc
-"\$RATTLE_HOME/on/$(uname -m)/toolchain/bin/clang" -O3 -x ir -c module.bc -o module.o
+cp "$home/target/module/\${crate%_c}.bc" module.bc
+"\$(dirname "\$0")/../toolchain/bin/clang" -O3 -x ir -c module.bc -o module.o
 END
 puts "$work/library"
-called 3
+called 4
 puts "$work/deep/er library"
-called 3
+called 4
 touch -d '1 minute' "$work/clone/crates.txt"
 puts "$work/library"
-called 4
+called 5
 
 # a build for two, into a folder each
 ran clone library "$work/two" --target aarch64 riscv64

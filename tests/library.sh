@@ -18,15 +18,14 @@ cat "$work/said"
 need ar binutils
 mkdir "$work/own" "$work/ours"
 for crate in host host_write; do
-    rm -f "target/staticlib/lib$crate.a"
-    rt staticlib $crate >/dev/null 2>&1
-    (cd "$work/own" && ar x "$OLDPWD/target/staticlib/lib$crate.a")
+    for_c $crate >/dev/null 2>&1
+    (cd "$work/own" && ar x "$OLDPWD/target/staticlib/lib$crate.a" && mv "${crate}_c.o" $crate.o)
 done
 (cd "$work/ours" && ar x "$work/all/x86_64/libhundurzek.a")
 if [ "$(ls "$work/own" | tr '\n' ' ')" = 'host.o host_write.o ' ] && diff -r "$work/own" "$work/ours"; then
     judge "x86_64" yes
 else
-    judge "x86_64 is not rt staticlib's" no
+    judge "x86_64 is not rt lib's" no
 fi
 
 # ---- what is there, and what is needed
@@ -119,6 +118,7 @@ refused 'the word byval' 'ptr noundef %a0' 'ptr noundef byval(i64) %a0'
 refused 'a text' 'attributes #0 = [{]' '& "target-features"="+avx2"'
 refused 'a text' '"target-cpu"="x86-64"' '"target-cpu"="znver4"'
 refused 'a text' '"probe-stack"="inline-asm"' '"probe-stack"="__probe"'
+refused 'a text' '"stack-probe-size"="3072"' '"stack-probe-size"="4096"'
 refused 'the word i128' 'alloca i64' 'alloca i128'
 refused 'the word double' 'alloca i64' 'alloca double'
 refused 'a text, a struct or a vector' 'alloca i64' 'alloca <2 x i64>'

@@ -8,12 +8,15 @@ cd "$(dirname "$0")/.."
 work=target/tests/page
 rm -rf "$work"
 mkdir -p "$work"
+copies=$(mktemp -d)
+trap 'rm -rf "$copies"' EXIT
 
 second
 
-# broken NAME EDIT: the page of a copy of the repository in which sed changed page/layout.js, $work/NAME.html
+# broken NAME EDIT: the page of a copy of the repository in which sed changed page/layout.js, $work/NAME.html. (The copy
+# lies outside: `rt ci` takes one crates.txt below the root.)
 broken() {
-    copy=$work/$1
+    copy=$copies/$1
     mkdir -p "$copy/crates" "$copy/target"
     : >"$copy/crates.txt"
     cp -R hundurzek page library include training "$copy"
@@ -24,11 +27,11 @@ broken() {
         echo '0 passed, 1 failed'
         exit 1
     fi
-    "$copy/hundurzek" page "$work/$1.html"
+    "$copy/hundurzek" page "$PWD/$work/$1.html"
 }
 
 ./hundurzek page "$work/page.html"
 broken clock 's/"clock C0", 15/"clock C0", 14/'
 broken orbit 's/"radial", 15/"radial", 13/; s/"along-track", 13/"along-track", 15/'
 broken network 's/"network ID", 5/"network ID", 4/'
-exec $PYTHON -B tests/lib/page.py "$work"
+$PYTHON -B tests/lib/page.py "$work"

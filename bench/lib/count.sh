@@ -1,5 +1,5 @@
 # Sourced in the repository's root by what counts instructions.
-#   build NAME CRATE WORD..    makes target/bench/NAME of C sources (flags too) and a crate's static library
+#   build NAME CRATE WORD..    makes target/bench/NAME of C sources (flags too) and a crate's archive for C
 #   count NAME WORD..          runs it with these words: how many instructions it executes up to each mark, and in all
 #   marked NAME WORD..         of a program that marks twice, does something, and marks again: how many that takes
 #   round NAME WORD..          of a program whose last word is a number of rounds: how many a round takes
@@ -7,8 +7,7 @@
 #                              listing is target/bench/listed
 . tests/lib/tools.sh
 
-# The counter is a plugin of the emulator, on every machine (Debian 12's: Debian 13's takes no plugins). It runs in the
-# emulator, so it is made for this machine.
+# The counter is a plugin of the emulator (Debian 12's: Debian 13's takes no plugins).
 need qemu-x86_64 qemu-user
 need gcc gcc libc6-dev
 mkdir -p target/bench
@@ -19,7 +18,6 @@ build() {
     crate=$2
     shift 2
     archive "$crate" >/dev/null
-    # static: the emulator needs no x86-64 libraries then
     $CC -static $FLAGS -Iinclude "$@" $(archives "$crate") -o "target/bench/$program"
 }
 
@@ -32,7 +30,7 @@ count() {
 
 # the program is linked dynamically, with the kit's C library
 listed() {
-    libraries=$(dirname "$(dirname "$(readlink -f "$(command -v rt)")")")/on/$(uname -m)/toolchain/lib
+    libraries=$kit/toolchain/lib
     qemu-x86_64 -plugin target/bench/icount.so -d plugin -D target/bench/counted "$libraries/ld-linux-x86-64.so.2" \
         --library-path "$libraries" target/bin/listing <"$1" >target/bench/listed
     grep -x '[0-9][0-9]*' target/bench/counted

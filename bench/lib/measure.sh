@@ -39,9 +39,7 @@ build_fields() {
 }
 
 build_listing() {
-    if [ ! -f target/bin/listing ] || [ -n "$(find crates crates.txt -newer target/bin/listing)" ]; then
-        rt check listing >/dev/null
-    fi
+    ./hundurzek list >/dev/null
     $CC -static $FLAGS bench/lines.c bench/stretches.c bench/encode.c -o target/bench/lines
 }
 
@@ -126,12 +124,8 @@ stack() {
 
 frames() {
     need python3 python3
-    case $(uname -m) in
-    x86_64) objdump=objdump ;;
-    *) objdump=x86_64-linux-gnu-objdump ;;
-    esac
-    need $objdump binutils-x86-64-linux-gnu
-    $objdump -dr --no-show-raw-insn $(archives host) | python3 bench/lib/frames.py ${1:+"hundurzek_$1"}
+    need objdump binutils
+    objdump -dr --no-show-raw-insn $(archives host) | python3 bench/lib/frames.py ${1:+"hundurzek_$1"}
 }
 
 # against calling a function of one instruction, its return: that and the call are added again

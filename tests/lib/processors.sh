@@ -40,20 +40,19 @@ processor() {
 }
 
 tools_for() {
-    case $1-$(uname -m) in
-    aarch64-aarch64) need aarch64-linux-gnu-gcc gcc libc6-dev ;;
-    aarch64-*) need aarch64-linux-gnu-gcc gcc-aarch64-linux-gnu libc6-dev-arm64-cross ;;
-    armv7a-*) need arm-linux-gnueabihf-gcc gcc-arm-linux-gnueabihf libc6-dev-armhf-cross ;;
-    riscv64-*) need riscv64-linux-gnu-gcc gcc-riscv64-linux-gnu libc6-dev-riscv64-cross ;;
-    thumbv7em*-*)
+    case $1 in
+    aarch64) need aarch64-linux-gnu-gcc gcc-aarch64-linux-gnu libc6-dev-arm64-cross ;;
+    armv7a) need arm-linux-gnueabihf-gcc gcc-arm-linux-gnueabihf libc6-dev-armhf-cross ;;
+    riscv64) need riscv64-linux-gnu-gcc gcc-riscv64-linux-gnu libc6-dev-riscv64-cross ;;
+    thumbv7em*)
         need arm-none-eabi-gcc gcc-arm-none-eabi picolibc-arm-none-eabi
         need qemu-system-arm qemu-system-arm
         ;;
-    riscv32-*)
+    riscv32)
         need riscv64-unknown-elf-gcc gcc-riscv64-unknown-elf picolibc-riscv64-unknown-elf
         need qemu-system-riscv32 qemu-system-misc
         ;;
-    wasm32-*) need node nodejs ;;
+    wasm32) need node nodejs ;;
     esac
     case $1 in
     x86_64 | aarch64 | armv7a | riscv64) need qemu-riscv64 qemu-user ;;

@@ -1,18 +1,20 @@
-# Sourced by the test and bench scripts: what compiles and runs an x86-64 program here.
-#   CC    compiles C for x86-64, statically linked where the program is emulated
+# Sourced by the test and bench scripts, in the repository's root: what compiles and runs a program here.
+#   CC    compiles C
 #   FLAGS go with every C source
-#   RUN   goes in front of such a program; empty on x86-64
+#   RUN   goes in front of such a program: nothing, but an emulator where tests/lib/processors.sh sets it
 # need COMMAND PACKAGE..: installs Debian's packages where the command is missing.
-# archive CRATE: makes its static library, target/staticlib/libCRATE.a, where there is none since the last change; for
-# host the writer's, too.
+# archive CRATE: makes its archive for C, target/staticlib/libCRATE.a, where there is none since the last change; for host
+# the writer's, too.
 # archives CRATE: what a program over it links.
-# compile NAME CRATE SOURCE..: makes target/tests/NAME of tests/NAME.c, further sources and the crate's static library.
+# compile NAME CRATE SOURCE..: makes target/tests/NAME of tests/NAME.c, further sources and the crate's archive.
 # second: makes the second program, target/tests/second.
 # comparing NAME: the sources of tests/NAME.c, which compares with the second program, all of them.
 # streams NAME: those of the second program that it compares (second/README.md, emit), one to a line.
 # emit PART: the streams that come as such lines; of random ones the PART-th part of their cases.
 # agree NAME [WORD ..]: runs it over crate host, on this machine, on all of its streams; the words, flags and further
 # sources, go to the compiler.
+. library/kit.sh
+
 need() {
     command -v "$1" >/dev/null 2>&1 && return 0
     shift
@@ -24,24 +26,13 @@ need() {
 }
 
 FLAGS='-O2 -std=c11 -Wall -Wextra -Werror'
-case $(uname -m) in
-x86_64)
-    need gcc gcc libc6-dev
-    CC='gcc'
-    RUN=''
-    ;;
-*)
-    need x86_64-linux-gnu-gcc gcc-x86-64-linux-gnu libc6-dev-amd64-cross
-    need qemu-x86_64 qemu-user
-    CC='x86_64-linux-gnu-gcc -static'
-    RUN='qemu-x86_64'
-    ;;
-esac
+need gcc gcc libc6-dev
+CC='gcc'
+RUN=''
 
 archive() {
-    archived=target/staticlib/lib$1.a
-    if [ ! -f "$archived" ] || [ -n "$(find crates crates.txt -newer "$archived")" ]; then
-        rt staticlib "$1"
+    if outdated "target/staticlib/lib$1.a"; then
+        for_c "$1"
     fi
     [ "$1" != host ] || archive host_write
 }
