@@ -1,7 +1,7 @@
 -- `host_write::hundurzek_write` meets its contract. Assumes nothing.
-use Rattle.bits.proofs.Words.{◌≡◌, sym, ap, ap₂, ◌∙◌, true, ◌≤◌, needs, leb, length}
+use Rattle.bits.proofs.Words.{◌≡◌, sym, ap, ap₂, ◌∙◌, true, ◌≤◌, rules, leb, length}
 use mathlib.Core.Bool.{and-eq-true_iff}
-use borrow.Author.Tests.{leb-true, not-true, not-false}
+use borrow.Author.Tests.{leb-true}
 use Rattle.format.specs.declared.Head.{Head}
 use Rattle.format.specs.Answers as Answers
 use Rattle.format.specs.Masks.{Lent}
@@ -22,19 +22,19 @@ meant x =
 
 -- ---- bytes that do not pass
 
-module _ (c : tie.After-no-holding) where
+module _ (c : tie.After-no_holding) where
   abbrev stray : tie.Start
-  stray = c.before.before.before.before.before.before
+  stray = c.before.before.before.before.before
 
   none : without_holding stray.args.bytes.now stray.args.start ≡ meant stray
   none =
-      let test = c.before.before in
+      let test = c in
       no_writing (head_in stray.args.head.now) stray.args.rows.now stray.args.count stray.args.bytes.now stray.args.start
       ∙ ap (λ (l : Lent). writing l (head_in stray.args.head.now) stray.args.rows.now stray.args.count stray.args.bytes.now stray.args.start)
-      (sym (not_held stray.args.holding.now (sym test.before.passes.ensures ∙ not-true _ test.if1.true)))
+      (sym (not_held stray.args.holding.now (sym test.passes.ensures ∙ test.if-not-passes.true)))
 
-returns : tie.Need-returns
-returns c =
+returns-then-not-passes : tie.Need-returns-then-not-passes
+returns-then-not-passes c =
     let x = (stray c).args in (
       c.no_holding.ensures ∙ ap (λ (w : Written). written_handed x.start (done_writing x.start w)) (none c),
       nothing_set x.bytes.now x.start ∙ ap (λ (w : Written). bytes_after w x.bytes.now x.start) (none c),
@@ -42,55 +42,55 @@ returns c =
 
 -- ---- and those that do
 
-passed : (c : tie.Else1) → passes c.before.before.before.before.args.holding.now ≡ true
-passed c = sym c.before.passes.ensures ∙ not-false _ c.if1.false
+passed : (c : tie.Else-not-passes) → passes c.args.holding.now ≡ true
+passed c = sym c.passes.ensures ∙ c.if-not-passes.false
 
-said-requires : tie.Need-said-requires
+said-held-requires : tie.Need-said-held-requires
 unfolding passes
-said-requires c κs =
-    let hb = c.before.before.before.before.args.holding.now in
+said-held-requires c κs =
+    let hb = c.args.holding.now in
     leb-true size (length hb) ((and-eq-true_iff (leb size (length hb)) _).0 (passed c)).0
 
-module _ (c : tie.After-write) where
-  abbrev tested : tie.Else1
+module _ (c : tie.After-write-end) where
+  abbrev tested : tie.Else-not-passes
   tested = c.before.before.before.before
 
   abbrev x : tie.Start
   x = tested.before.before.before.before
 
-  held : c.before.before.before.said.result ≡ holding_in x.args.holding.now
+  held : c.said-held.result ≡ holding_in x.args.holding.now
   unfolding holding_in
-  held = rw (passed tested) c.before.before.before.said.ensures
+  held = rw (passed tested) c.said-held.ensures
 
-  same : writing (lent_by c.before.before.before.said.result) c.before.before.head_in.result x.args.rows.now x.args.count x.args.bytes.now x.args.start ≡ meant x
+  same : writing (lent_by c.said-held.result) c.head_in-asked.result x.args.rows.now x.args.count x.args.bytes.now x.args.start ≡ meant x
   same =
-      ap₂ (λ (k : Holding) (h : Head). writing (lent_by k) h x.args.rows.now x.args.count x.args.bytes.now x.args.start) held c.before.before.head_in.ensures
+      ap₂ (λ (k : Holding) (h : Head). writing (lent_by k) h x.args.rows.now x.args.count x.args.bytes.now x.args.start) held c.head_in-asked.ensures
 
-  told : c.write.result ≡ answered x.args.start (meant x)
-  told = c.write.ensures.0 ∙ ap (answered x.args.start) same
+  told : c.write-end.result ≡ answered x.args.start (meant x)
+  told = c.write-end.ensures.0 ∙ ap (answered x.args.start) same
 
-  left : c.write.new.1.1.1.1.0 ≡ bytes_after (meant x) x.args.bytes.now x.args.start
-  left = c.write.ensures.1 ∙ ap (λ (d : Written). bytes_after d x.args.bytes.now x.args.start) same
+  left : c.write-end.new.bytes ≡ bytes_after (meant x) x.args.bytes.now x.args.start
+  left = c.write-end.ensures.1 ∙ ap (λ (d : Written). bytes_after d x.args.bytes.now x.args.start) same
 
-abbrev at : tie.After-end → tie.After-write
-at c = c.before.before.before.before
+done : (c : tie.In-Done) → let s = x c.before.before.before in (s.args.start ≤ c.in-Done.place) × (Answers.done c.in-Done.place ≡ done_writing s.args.start (meant s))
+done c =
+    let w = c.before.before.before in
+    done_at (x w).args.start c.in-Done.place (meant (x w)) (sym c.in-Done.is ∙ told w)
 
-done : (c : tie.After-end) → let s = x (at c) in (s.args.start ≤ c.end.given.0.0) × (Answers.done c.end.given.0.0 ≡ done_writing s.args.start (meant s))
-done c = done_at (x (at c)).args.start c.end.given.0.0 (meant (x (at c))) (sym c.end.given.1 ∙ told (at c))
+returns-in-Done : tie.Need-returns-in-Done
+returns-in-Done c =
+    let e = c.before in
+    let w = e.before.before.before in
+    (c.written.ensures ∙ ap (written_handed (x w).args.start) (done e).1, left w)
 
-returns-2 : tie.Need-returns-2
-returns-2 c =
-    let e = c.before.before in
-    (c.written.ensures ∙ ap (written_handed (x (at e)).args.start) (done e).1, left (at e))
+returns-in-Refused : tie.Need-returns-in-Refused
+returns-in-Refused c =
+    let e = c.before in
+    let w = e.before.before.before in
+    (c.refused.ensures ∙ ap (written_handed (x w).args.start) (refused_at (x w).args.start (meant (x w)) (sym e.in-Refused.is ∙ told w)), left w)
 
-returns-3 : tie.Need-returns-3
-returns-3 c =
-    let e = c.before.before in
-    let w = e.before.before.before.before in
-    (c.refused.ensures ∙ ap (written_handed (x w).args.start) (refused_at (x w).args.start (meant (x w)) (sym e.end2.given.1 ∙ told w)), left w)
-
-pub hundurzek-write-spec : {M : Type 1} → statement M
-hundurzek-write-spec =
+pub hundurzek_write_spec : {M : Type 1} → statement M
+hundurzek_write_spec =
     tie.close
-    (tie.spec (λ c κs. search needs) (λ c κs. search needs) (λ c. search needs) returns said-requires (λ c κs. search needs) (λ c κs. search needs) (λ c. search needs)
-    (λ c κs. (done c.before).0) (λ c. search needs) (λ c κs. search needs) (λ c. search needs) returns-2 (λ c. search needs) returns-3)
+    (tie.spec (λ c κs. search rules) (λ c κs. search rules) (λ c. search rules) returns-then-not-passes said-held-requires (λ c κs. search rules) (λ c κs. search rules) (λ c. search rules)
+    (λ c κs. (done c).0) (λ c. search rules) (λ c κs. search rules) (λ c. search rules) returns-in-Done (λ c. search rules) returns-in-Refused)
