@@ -49,6 +49,7 @@ fn network(flagged: bool, c: i32) -> Gate
 }
 
 // By the kind of the sub type.
+#[tactic(auto, unfolding(crate::specs::Kinds::gate_by))]
 pub fn of(kind: Kind, held: bool, iod: u8, head: Head) -> Gate
     ensures { result ≡ gate_by kind held iod head }
 {
