@@ -44,9 +44,10 @@ function tested(text,    i, n, parts) {
     gsub(/[@%]"[^"]*"|[@%!#][A-Za-z0-9_.]*/, " ", text)
     if (text ~ /getelementptr/ && text !~ /getelementptr (inbounds nuw )?i8,/) refuse("a step of other than bytes")
     if (text ~ /^define /) sub(/ [{]$/, "", text)
-    # Two numbers at once, as a function hands them out: they lie alike wherever 64 bits lie at an address divided by 8.
-    if (layout ~ /-i64:64-/ && text ~ /^define internal |^ +(ret| += (call|load|extractvalue)) [{]/)
-        sub(/[{] i(8|16|32|64), i(8|16|32|64) [}]/, " ", text)
+    # Two numbers at once, or a place and a count, as a function hands them out: they lie alike wherever 64 bits lie at an
+    # address divided by 8.
+    if (layout ~ /-i64:64-/ && text ~ /^define internal |^ +(ret| += (call|load|extractvalue)) (noundef )?[{]/)
+        sub(/[{] (ptr, i64|i(8|16|32|64), i(8|16|32|64)) [}]/, " ", text)
     if (text ~ /^attributes /) gsub(/= [{]|[}]$/, "", text)
     if (text ~ /["<{}]/) refuse("a text, a struct or a vector")
     gsub(/[^A-Za-z0-9_.]+/, " ", text)

@@ -44,7 +44,7 @@ needs() {
 }
 
 plain='hundurzek.h hundurzek.pc libhundurzek.a'
-arm='__aeabi_memclr __aeabi_memclr4 __aeabi_memclr8 __aeabi_memcpy __aeabi_memcpy4 __aeabi_memcpy8 __aeabi_uldivmod'
+arm='__aeabi_memclr __aeabi_memclr4 __aeabi_memclr8 __aeabi_memcpy __aeabi_memcpy4 __aeabi_uldivmod'
 needs x86_64 "$plain" memcpy
 needs aarch64 "$plain" memcpy
 needs armv7a "$plain" memcpy memset

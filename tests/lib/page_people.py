@@ -57,6 +57,7 @@ def check_print(page, case):
 
 
 def check_people(page):
+    page.rest()
     for case in CASES:
         page.take_case(case)
         for piece in page.ask(SEEN):
