@@ -10,7 +10,7 @@ BEGIN {
     known = known " alloca load store align getelementptr inbounds call extractvalue" # memory
     known = known " add sub mul udiv urem shl lshr and or xor nuw nsw zext sext trunc to" # numbers
     known = known " icmp eq ne ult ule slt true false br switch ret unreachable" # tests and ways
-    known = known " noundef zeroext nounwind noreturn cold nocallback nofree nosync willreturn speculatable"
+    known = known " noundef zeroext nounwind noreturn cold alwaysinline nocallback nofree nosync willreturn speculatable"
     known = known " nocreateundeforpoison immarg captures none memory argmem inaccessiblemem read write readwrite"
     known = known " readonly writeonly"
     list(words, known)
@@ -38,16 +38,25 @@ function declared(text) {
     if (!(text in outside)) refuse("declares " text)
 }
 
+# Of a byte and a place the place lies 8 behind the byte, as the module stores it. A place as a number is that many.
+function shorter(text) {
+    gsub(/[{] i8, ptr [}]/, "{ i8, [7 x i8], ptr }", text)
+    if (text ~ /= extractvalue [{] i8, \[7 x i8\], ptr [}] .*, 1$/) sub(/1$/, "2", text)
+    if (text ~ /= ptrtoaddr ptr %[a-z0-9.]+ to i64$/) sub(/ptrtoaddr/, "ptrtoint", text)
+    return text
+}
+
 # Every word but names, numbers and marks.
 function tested(text,    i, n, parts) {
     sub(/; .*/, "", text)
+    sub(/= ptrtoaddr ptr %[a-z0-9.]+ to i64$/, "= ", text)
     gsub(/[@%]"[^"]*"|[@%!#][A-Za-z0-9_.]*/, " ", text)
     if (text ~ /getelementptr/ && text !~ /getelementptr (inbounds nuw )?i8,/) refuse("a step of other than bytes")
     if (text ~ /^define /) sub(/ [{]$/, "", text)
     # Two numbers at once, or a place and a count, as a function hands them out: they lie alike wherever 64 bits lie at an
     # address divided by 8.
     if (layout ~ /-i64:64-/ && text ~ /^define internal |^ +(ret| += (call|load|extractvalue)) (noundef )?[{]/)
-        sub(/[{] (ptr, i64|i(8|16|32|64), i(8|16|32|64)) [}]/, " ", text)
+        sub(/[{] (ptr, i64|i8, ptr|i(8|16|32|64), i(8|16|32|64)) [}]/, " ", text)
     if (text ~ /^attributes /) gsub(/= [{]|[}]$/, "", text)
     if (text ~ /["<{}]/) refuse("a text, a struct or a vector")
     gsub(/[^A-Za-z0-9_.]+/, " ", text)
@@ -70,10 +79,12 @@ function tested(text,    i, n, parts) {
 /^$/ || /^;/ || /^source_filename = "rattle"$/ || /^[a-z0-9.]+:/ || /^!llvm.ident = ![{]!0[}]$/ { print; next }
 /^![0-9]+ = ![{](i8 0, i8 2|!"rattle logic=[0-9a-f]+")?[}]$/ { print; next }
 /^[}]$/ { print; next }
+# A table of the library's, as the bytes that lie there: its numbers are read as they are where the least byte comes first.
+layout ~ /"e-/ && /^@[A-Za-z0-9_.]+ = private unnamed_addr constant \[[0-9]+ x i8\] c"[^"]*", align 8$/ { print; next }
 /^declare / { declared($0) }
 /^attributes / { gsub(/ "probe-stack"="inline-asm"| "stack-probe-size"="3072"| "target-cpu"="x86-64"/, "") }
 {
     tested($0)
-    print
+    print layout ~ /-p:32:32/ ? shorter($0) : $0
 }
 END { if (!failed && (FNR == 0 || layout == "" || triple == "")) exit 1 }
