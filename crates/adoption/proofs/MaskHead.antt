@@ -5,8 +5,8 @@ use lib.IntN.{pos}
 use Rattle.adoption.specs.Adoptions.{head_at}
 use Rattle.adoption.specs.Stages.{with_systems}
 use Rattle.bits.proofs.Short.{field_whole}
-use Rattle.bits.specs.declared.read.Taken.{Taken}
-use Rattle.bits.specs.declared.read.Taken.TheVariants.{Whole, Short}
+use Rattle.bits.specs.declared.read.Short.{Short}
+use Rattle.std.specs.Prelude.{Result, Ok, Err}
 use Rattle.bits.specs.Places.{field}
 use Rattle.bits.specs.Short.{taken_at}
 use Rattle.format.proofs.Ends.{gave, then_well, then_badly, number_began, onward}
@@ -31,10 +31,10 @@ pub head_there : {bs : List ℕ} {end place : ℕ} → Within bs end place → {
 unfolding mask_message with_systems head_with common_of head_at
 head_there {bs} {end} {place} at {d} {next} ends = go (taken_at bs end place 29) refl
   where
-    go : (t : Taken) → taken_at bs end place 29 ≡ t → d.head ≡ head_at bs place
-    go (Whole n) took =
+    go : (t : Result ℕ Short) → taken_at bs end place 29 ≡ t → d.head ≡ head_at bs place
+    go (Ok n) took =
         let it = common_whole at 20 (omega arith) (sym (taken_whole at 20 took refl)) in
         let begun = number_began it.after 4 _ (sym (then_well at (common 20) _ it.ran) ∙ ends) in
         (gave (onward at begun.0) _ (same_head_lem _ _ _) begun.1).1
         ∙ ap (λ (k : ℕ). head_with mask_type (head_from k) (pos (field bs (place + 29) 4)) absent absent) (field_whole bs end place 29 n took).1
-    go (Short missing) took = absurd (not_well _ _ d next (sym (then_badly at (common 20) _ (common_short at 20 (sym (taken_short at 20 took refl)))) ∙ ends))
+    go (Err s) took = absurd (not_well _ _ d next (sym (then_badly at (common 20) _ (common_short at 20 (sym (taken_short at 20 took refl)))) ∙ ends))

@@ -5,7 +5,6 @@ ghost use Rattle.adoption.specs.Stages.{masks_by, cell_bits, with_cells, end_sys
 ghost use Rattle.format.specs.Ends.{end_from};
 ghost use Rattle.heads.specs.Fronts.{Opens, Opened};
 
-use bits::read::Taken;
 use format::Refusal;
 use heads::{Front, taken};
 use holding::{Holding, set_places};
@@ -48,8 +47,8 @@ pub fn read_flag(m: Masks, f: Front) -> System
 {
     let taken = taken(f, Holding::SIGNAL_MASK, FLAG);
     match taken {
-        Taken::Short(missing) => System::Refused(Refusal::Short, missing),
-        Taken::Whole(bit) => {
+        Err(short) => System::Refused(Refusal::Short, short.missing),
+        Ok(bit) => {
             let at = f.start + Holding::SIGNAL_MASK + FLAG;
             let flag = bit != 0;
             let cells = width(m, flag);

@@ -20,9 +20,9 @@ ghost use Rattle.holding.specs.Outlines.{whole_of};
 ghost use Rattle.holding.specs.Pictures.{sound};
 
 use crate::systems::Before;
-use bits::read::{Taken, Widths, cut, read_field, short_by};
+use bits::read::{Short, Widths, cut, read_field, short_by};
 use format::{ABSENT, Head, Refusal};
-use heads::{CommonHead, CommonTaken, Front, front_at, heading, parted, taken};
+use heads::{CommonHead, Front, front_at, heading, parted, taken};
 use holding::{Holding, Outline};
 
 // Where a mask message ends: at the place behind it, or refused, and how many bits were missing.
@@ -72,15 +72,15 @@ const HEAD: Widths = Widths {
 
 // A mask message's common head, at its front: as heads::common, whose copy for the other sub types is one of its own for
 // speed.
-fn head(f: Front) -> CommonTaken
+fn head(f: Front) -> Result<CommonHead, Short>
     requires { Opened f }
     ensures { (bs : List ℕ) → Opens bs f → result ≡ common_by (end_from (common 20) bs f.end f.start) }
 {
-    let taken = taken(f, 0, COMMON);
-    match taken {
-        Taken::Whole(n) => CommonTaken::Whole(parted(n)),
-        Taken::Short(_) => CommonTaken::Short(short_by(HEAD, f.end - f.start)),
-    }
+    let Ok(n) = taken(f, 0, COMMON) else {
+        let missing = short_by(HEAD, f.end - f.start);
+        return Err(Short { missing });
+    };
+    Ok(parted(n))
 }
 
 // A mask message from its number of systems on.
@@ -97,8 +97,8 @@ fn after_head(
 {
     let taken = taken(f, COMMON, COUNT);
     match taken {
-        Taken::Short(missing) => keeping(Ending::Refused(Refusal::Short, missing)),
-        Taken::Whole(n) => {
+        Err(short) => keeping(Ending::Refused(Refusal::Short, short.missing)),
+        Ok(n) => {
             let place = f.start + COMMON + COUNT;
             let before = Before {
                 iod: h.iod as u8,
@@ -126,8 +126,8 @@ pub fn adopt(
 {
     let f = front_at(bytes, end, place);
     match head(f) {
-        CommonTaken::Short(missing) => keeping(Ending::Refused(Refusal::Short, missing)),
-        CommonTaken::Whole(h) => after_head(held, h, f, bytes, satellites, strips),
+        Err(short) => keeping(Ending::Refused(Refusal::Short, short.missing)),
+        Ok(h) => after_head(held, h, f, bytes, satellites, strips),
     }
 }
 

@@ -7,7 +7,6 @@ ghost use Rattle.bits.specs.BitLists.{spell};
 ghost use Rattle.format.specs.Messages.{system_id, system_masks, system_signals};
 ghost use Rattle.heads.specs.Fronts.{Opens, Opened};
 
-use bits::read::Taken;
 use format::Refusal;
 use heads::{Front, front_at, taken};
 use holding::{Holding, assigned, named, set_places};
@@ -29,8 +28,8 @@ pub fn read_id(ids: &[u8], count: usize, f: Front) -> Named
 {
     let taken = taken(f, 0, ID);
     match taken {
-        Taken::Short(missing) => Named::Refused(Refusal::Short, missing),
-        Taken::Whole(n) => {
+        Err(short) => Named::Refused(Refusal::Short, short.missing),
+        Ok(n) => {
             let id = n as u8;
             if id as usize >= Holding::SYSTEMS {
                 return Named::Refused(Refusal::System, 0);
@@ -59,8 +58,8 @@ fn read_signals(id: u8, satellites: u64, f: Front) -> Masked
 {
     let taken = taken(f, 0, Holding::SIGNAL_MASK);
     match taken {
-        Taken::Short(missing) => Masked::Refused(Refusal::Short, missing),
-        Taken::Whole(signals) => {
+        Err(short) => Masked::Refused(Refusal::Short, short.missing),
+        Ok(signals) => {
             if !assigned::signals_assigned(id as usize, signals) {
                 return Masked::Refused(Refusal::Reserved, 0);
             }
@@ -77,8 +76,8 @@ pub fn read_masks(n: usize, id: u8, f: Front, bytes: &[u8]) -> Masked
 {
     let taken = taken(f, ID, Holding::SATELLITE_MASK);
     match taken {
-        Taken::Short(missing) => Masked::Refused(Refusal::Short, missing),
-        Taken::Whole(satellites) => {
+        Err(short) => Masked::Refused(Refusal::Short, short.missing),
+        Ok(satellites) => {
             if !assigned::satellites_assigned(id as usize, satellites) {
                 return Masked::Refused(Refusal::Reserved, 0);
             }

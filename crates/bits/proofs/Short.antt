@@ -7,15 +7,16 @@ use borrow.Author.Tests.{lt-ltb, le-ltb}
 use Rattle.bits.specs.Places.{field}
 use Rattle.bits.specs.Short.{missing, unless_short, taken_at, bits_of, short_by, widths_of}
 use Rattle.bits.specs.declared.read.Widths.{Widths}
-use Rattle.bits.specs.declared.read.Taken.TheVariants.{Whole, Short}
+use Rattle.bits.specs.declared.read.Short.{Short}
+use Rattle.std.specs.Prelude.{Ok, Err}
 
-pub taken_whole : (bs : List ℕ) (end place w : ℕ) → w ≤ end - place → taken_at bs end place w ≡ Whole (field bs place w)
+pub taken_whole : (bs : List ℕ) (end place w : ℕ) → w ≤ end - place → taken_at bs end place w ≡ Ok (field bs place w)
 unfolding taken_at missing unless_short
 taken_whole bs end place w room =
     let none : w - (end - place) ≡ 0 = omega arith in
     rw none
 
-pub taken_short : (bs : List ℕ) (end place w : ℕ) → end - place < w → taken_at bs end place w ≡ Short (w - (end - place))
+pub taken_short : (bs : List ℕ) (end place w : ℕ) → end - place < w → taken_at bs end place w ≡ Err (record { missing = w - (end - place) })
 unfolding taken_at missing unless_short
 taken_short bs end place w over =
     let some : zero < w - (end - place) = omega arith in
@@ -45,26 +46,26 @@ one_short (w ∷ ws) left over = go (dec_lt left w) (one_short ws (left - w))
 
 -- ---- back from what was taken
 
-pub field_whole : (bs : List ℕ) (end place w n : ℕ) → taken_at bs end place w ≡ Whole n → (w ≤ end - place) × (n ≡ field bs place w)
+pub field_whole : (bs : List ℕ) (end place w n : ℕ) → taken_at bs end place w ≡ Ok n → (w ≤ end - place) × (n ≡ field bs place w)
 unfolding taken_at missing unless_short
 field_whole bs end place w n e = go (w - (end - place)) refl e
   where
-    go : (m : ℕ) → w - (end - place) ≡ m → unless_short (Whole (field bs place w)) m ≡ Whole n → (w ≤ end - place) × (n ≡ field bs place w)
+    go : (m : ℕ) → w - (end - place) ≡ m → unless_short (Ok (field bs place w)) m ≡ Ok n → (w ≤ end - place) × (n ≡ field bs place w)
     go zero none e = (omega arith, cc)
     go (suc m) some e = absurd (false≢true cc)
 
-pub field_short : (bs : List ℕ) (end place w m : ℕ) → taken_at bs end place w ≡ Short m → (end - place < w) × (m ≡ w - (end - place))
+pub field_short : (bs : List ℕ) (end place w : ℕ) (s : Short) → taken_at bs end place w ≡ Err s → (end - place < w) × (s.missing ≡ w - (end - place))
 unfolding taken_at missing unless_short
-field_short bs end place w m e = go (w - (end - place)) refl e
+field_short bs end place w s e = go (w - (end - place)) refl e
   where
-    go : (n : ℕ) → w - (end - place) ≡ n → unless_short (Whole (field bs place w)) n ≡ Short m → (end - place < w) × (m ≡ w - (end - place))
+    go : (n : ℕ) → w - (end - place) ≡ n → unless_short (Ok (field bs place w)) n ≡ Err s → (end - place < w) × (s.missing ≡ w - (end - place))
     go zero none e = absurd (false≢true cc)
     go (suc n) some e =
-        let same : suc n ≡ m = cc in
+        let same : suc n ≡ s.missing = cc in
         (omega arith, omega arith)
 
 -- what is short misses one bit at least
-pub short_some : (bs : List ℕ) (end place w m : ℕ) → taken_at bs end place w ≡ Short m → 0 < m
-short_some bs end place w m e =
-    let short = field_short bs end place w m e in
+pub short_some : (bs : List ℕ) (end place w : ℕ) (s : Short) → taken_at bs end place w ≡ Err s → 0 < s.missing
+short_some bs end place w s e =
+    let short = field_short bs end place w s e in
     omega arith

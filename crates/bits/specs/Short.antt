@@ -1,8 +1,7 @@
 -- A field of a string whose bits end anywhere, also within a byte: the number, or how many of its bits are missing.
-use Rattle.std.specs.Prelude.{cond, List, [], ◌∷◌, ℕ, zero, suc, ◌+◌, ◌-◌, ltb}
+use Rattle.std.specs.Prelude.{cond, List, [], ◌∷◌, ℕ, zero, suc, ◌+◌, ◌-◌, ltb, Result, Ok, Err}
 use Rattle.bits.specs.Places.{field}
-use Rattle.bits.specs.declared.read.Taken.{Taken}
-use Rattle.bits.specs.declared.read.Taken.TheVariants.{Whole, Short}
+use Rattle.bits.specs.declared.read.Short.{Short}
 use Rattle.bits.specs.declared.read.Widths.{Widths}
 
 -- how many of w bits at a place lie past the end: the needed ones less those left
@@ -10,12 +9,12 @@ unfoldable pub missing : ℕ → ℕ → ℕ → ℕ
 missing end place w = w - (end - place)
 
 -- what is whole if none is missing, else short by one or more
-unfoldable pub unless_short : Taken → ℕ → Taken
+unfoldable pub unless_short : Result ℕ Short → ℕ → Result ℕ Short
 unless_short whole zero = whole
-unless_short whole (suc m) = Short (suc m)
+unless_short whole (suc m) = Err (record { missing = suc m })
 
-unfoldable pub taken_at : List ℕ → ℕ → ℕ → ℕ → Taken
-taken_at bs end place w = unless_short (Whole (field bs place w)) (missing end place w)
+unfoldable pub taken_at : List ℕ → ℕ → ℕ → ℕ → Result ℕ Short
+taken_at bs end place w = unless_short (Ok (field bs place w)) (missing end place w)
 
 -- ---- fields one after the other
 

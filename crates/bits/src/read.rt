@@ -39,11 +39,10 @@ pub fn bits_left(end: usize, place: usize) -> usize
     if place < end { end - place } else { 0 }
 }
 
-// A field that is there, or how many of its bits are missing.
+// How many bits of a field are missing.
 #[derive(Clone, Copy)]
-pub enum Taken {
-    Whole(u64),
-    Short(usize),
+pub struct Short {
+    pub missing: usize,
 }
 
 // The widths of fields that stand one after the other: four at most, the later ones being 0 where there are fewer.

@@ -5,6 +5,7 @@ pub mod Marks
 pub mod Walking
 pub mod Slots
 pub mod Groups
+pub mod Turns
 pub mod Sizes
 pub mod Bodies
 pub mod Valued

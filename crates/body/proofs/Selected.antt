@@ -2,6 +2,7 @@
 use Rattle.bits.proofs.Words.{◌≡◌, refl, sym, ap, ◌∙◌, Bool, List, [], ◌∷◌, ◌++◌, ℕ, ◌+◌, ◌-◌, ◌*◌, ◌/◌, ◌%◌, ◌^◌, ◌≤◌, ◌<◌, arith, length, take, drop}
 use native.Mathlib.Nat.{mul-mod_left, mod-lt}
 use lib.Count.{ones}
+use lib.ListN.{drop_of_length-le}
 use lib.Pow.{pow_pos, split, shl-shr, mod-pow-add, shr_lt}
 use lib.Seq.{take_at}
 use Rattle.bits.proofs.BitLists.{length_spell, spell_low, spell_append}
@@ -44,6 +45,11 @@ module _ {A : Type 0} where
   -- the later of two lists are picked by the selection moved up
   pub pick_split : (c n : ℕ) (xs ys : List A) → length xs ≡ n → n ≤ 64 → pick (spell 64 c) (xs ++ ys) ≡ pick (spell 64 c) xs ++ pick (spell 64 (c * 2 ^ n % 2 ^ 64)) ys
   pick_split c n xs ys long few = rw (pick_append (spell 64 c) xs ys, long, pick_up c n ys few)
+
+  -- ---- none
+
+  pub pick_over : (c i : ℕ) (xs : List A) → length xs ≤ i → pick (spell 64 c) (drop i xs) ≡ []
+  pick_over c i xs past = rw (drop_of_length-le xs past) (pick_nil (spell 64 c))
 
   -- ---- one
 

@@ -53,11 +53,11 @@ count_of sat strip small = length-map (places_from 0 (spell 16 strip)) _ ∙ sym
 -- ---- slots
 
 -- a mask of 40 bits moved up
-up_in : (id m : ℕ) → m < 2 ^ 40 → satellites_in 64 id (m * 2 ^ 24 % 2 ^ 64) ≡ satellites_in 40 id m
+pub up_in : (id m : ℕ) → m < 2 ^ 40 → satellites_in 64 id (m * 2 ^ 24 % 2 ^ 64) ≡ satellites_in 40 id m
 unfolding satellites_in
 up_in id m small = rw (places_shifted 40 24 m (omega arith))
 
-count_in : (id m : ℕ) → m < 2 ^ 40 → length (satellites_in 40 id m) ≡ ones m
+pub count_in : (id m : ℕ) → m < 2 ^ 40 → length (satellites_in 40 id m) ≡ ones m
 unfolding satellites_in
 count_in id m small = length-map (places_from 0 (spell 40 m)) _ ∙ sym (ones_places 40 m 0 small)
 

@@ -69,10 +69,15 @@ module _ {bs : List ℕ} {chosen : ℕ} {all : List (List Line)} {from : ℕ} {o
 
 -- ---- a loop over slots, each by a call that hands on the marks for those behind
 
-module _ {bs : List ℕ} {all : List Line} {from : ℕ} {old : List ℤ} {left : List (List Line)} {j at : ℕ} {buffer : List ℤ} (marks : ℕ) (gs hs : List (List Line)) (e : left ≡ gs ++ hs)
-    (few : length gs ≤ 64) (g : Going bs all from old (chosen_lines marks left) j at buffer) where
+-- the lines of the slot in hand, which has few satellites, and those of the slots behind it
+pub record Both (left gs hs : List (List Line)) : Type 0 where
+  pub both : left ≡ gs ++ hs
+  pub few : length gs ≤ 64
+
+module _ {bs : List ℕ} {all : List Line} {from : ℕ} {old : List ℤ} {left gs hs : List (List Line)} {j at : ℕ} {buffer : List ℤ} (marks : ℕ) (b : Both left gs hs)
+    (g : Going bs all from old (chosen_lines marks left) j at buffer) where
   pub slot_call : Part bs all from old (chosen_lines marks gs) (chosen_lines (marks * 2 ^ length gs % 2 ^ 64) hs) j at buffer
-  slot_call = going_call _ _ (rw (e, chosen_split marks (length gs) gs hs refl few) at g)
+  slot_call = going_call _ _ (rw (b.both, chosen_split marks (length gs) gs hs refl b.few) at g)
 
   pub slot_passed : (new : List ℤ) (passed : Passed) → Handed marks gs bs at (take (length buffer - j) (drop j buffer)) new passed
       → Going bs all from old (chosen_lines passed.marks hs) (j + passed.end.filled) passed.end.at (take j buffer ++ (new ++ drop (length buffer - j) (drop j buffer)))

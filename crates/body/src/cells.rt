@@ -30,6 +30,7 @@ fn satellite(sat: Satellite, word: u64, s: Shape, bytes: &[u8], at: usize, rows:
     let mut left = word;
     let mut k = 0;
     let mut place = at;
+    // Tried as an iterator over the set places: it misses a bar of speed.
     while left > 0 {
         let key = Key {
             system,
@@ -60,6 +61,7 @@ fn slot(id: u8, word: u64, strips: &[u16], wanted: Wanted, bytes: &[u8], rows: &
     let mut n = 0;
     let mut k = 0;
     let mut place = wanted.at;
+    // Tried as an iterator over the set places: it misses a bar of speed.
     while left > 0 {
         if marks >= FIRST {
             let number = set_places::first(left) + 1;
@@ -92,27 +94,31 @@ pub fn fill(
     requires { AsksCells ids.now masks.now strips.now bytes.now wanted rows.old }
     ensures { rows.new ≡ over (numbers_at (striped_in wanted (slot_satellites ids.now masks.now) strips.now) bytes.now wanted.at) rows.old }
 {
-    let shape = wanted.shape;
     let mut marks = wanted.chosen;
     let mut n = 0;
     let mut k = 0;
     let mut place = wanted.at;
-    let mut i = 0;
-    while i < ids.len() {
+    // By index: with an iterator over both a message takes 15 instructions more, and misses its bar.
+    for i in 0..ids.len() {
         let mask = masks[i];
-        let id = ids[i];
         let left = Wanted {
-            shape,
             chosen: marks,
             at: place,
+            ..wanted
         };
-        let passed = slot(id, mask << 24, &strips[n..], left, bytes, &mut rows[k..]);
+        let passed = slot(
+            ids[i],
+            mask << 24,
+            &strips[n..],
+            left,
+            bytes,
+            &mut rows[k..],
+        );
         let end = passed.end;
         n += set_places::count(mask);
         k += end.filled;
         place = end.at;
         marks = passed.marks;
-        i += 1;
     }
 }
 
@@ -123,13 +129,11 @@ pub fn count(strips: &[u16], chosen: u64) -> usize
 {
     let mut marks = chosen;
     let mut sum = 0;
-    let mut i = 0;
-    while i < strips.len() {
+    for strip in strips {
         if marks >= FIRST {
-            sum += set_places::count(strips[i] as u64);
+            sum += set_places::count(*strip as u64);
         }
-        marks = marks << 1;
-        i += 1;
+        marks <<= 1;
     }
     sum
 }
@@ -138,10 +142,7 @@ pub fn count(strips: &[u16], chosen: u64) -> usize
 fn lacking(marks: u64, strip: u16) -> bool
     ensures { result ≡ (leb (2 ^ 63) marks && eqb strip 0) }
 {
-    if marks < FIRST {
-        return false;
-    }
-    strip == 0
+    marks >= FIRST && strip == 0
 }
 
 // Whether each satellite that is chosen has a cell, by the strips: a selection for cells names no other (document 02,
@@ -150,13 +151,11 @@ pub fn celled(strips: &[u16], chosen: u64) -> bool
     ensures { result ≡ all_set (pick (spell 64 chosen) strips.now) }
 {
     let mut marks = chosen;
-    let mut i = 0;
-    while i < strips.len() {
-        if lacking(marks, strips[i]) {
+    for strip in strips {
+        if lacking(marks, *strip) {
             return false;
         }
-        marks = marks << 1;
-        i += 1;
+        marks <<= 1;
     }
     true
 }

@@ -26,17 +26,14 @@ pub fn body(near: bool, placed: Placed) -> Placed
     if !near {
         return placed;
     }
-    let body = placed.body;
-    let keys = body.keys;
-    let gaps = Body {
-        keys,
+    let body = Body {
         shape: shapes::NONE,
+        ..placed.body
     };
     Placed {
-        body: gaps,
-        bits: placed.bits,
-        rows: placed.rows,
+        body,
         at: 0,
+        ..placed
     }
 }
 
@@ -45,16 +42,10 @@ pub fn values(placed: Placed, bytes: &[u8], rows: &mut [i32])
     requires { (placed.at < 2 ^ 32) × (placed.rows ≤ 256) × (8 * placed.rows ≤ length rows.old) }
     ensures { rows.new ≡ valued (shape_for placed.body.shape) bytes.now placed.rows placed.at rows.old }
 {
-    let body = placed.body;
-    let s = shapes::shape_of(body.shape);
-    let n = placed.rows;
-    let mut i = 0;
-    let mut k = 0;
+    let s = shapes::shape_of(placed.body.shape);
     let mut place = placed.at;
-    while i < n {
-        let e = k + 8;
-        place = row::fill_in(&mut rows[k..e], bytes, place, s);
-        k = e;
-        i += 1;
+    for i in 0..placed.rows {
+        let k = 8 * i;
+        place = row::fill_in(&mut rows[k..k + 8], bytes, place, s);
     }
 }

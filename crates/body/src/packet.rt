@@ -14,19 +14,15 @@ pub fn fill(parts: usize, bytes: &[u8], at: usize, rows: &mut [i32])
 {
     let s = shapes::packet();
     let width = shape::width(s);
-    let mut i = 0;
-    let mut k = 0;
     let mut place = at;
-    while i < parts {
-        i += 1;
-        let e = k + 8;
+    for i in 0..parts {
+        let k = 8 * i;
         let key = Key {
             system: ABSENT,
             satellite: ABSENT,
-            signal: i as i32,
+            signal: (i + 1) as i32,
         };
-        row::wide(&mut rows[k..e], key, bytes, place, s);
-        k = e;
+        row::wide(&mut rows[k..k + 8], key, bytes, place, s);
         place += width;
     }
 }

@@ -1,4 +1,5 @@
 -- Where programs end that run from a place on: one after the other, and by the fields that the code took. Assumes nothing.
+use Rattle.std.specs.Prelude.{Ok, Err}
 use mathlib.Core.Path.{◌≡◌, refl, sym, ap, ◌∙◌}
 use mathlib.Core.Bool.{Bool, true, false, cond}
 use mathlib.Core.List.{List}
@@ -12,7 +13,7 @@ use Rattle.bits.proofs.BitLists.{number_spell}
 use Rattle.bits.proofs.Fields.{field_lt}
 use Rattle.bits.proofs.Short.{field_whole, field_short}
 use Rattle.bits.specs.BitLists.{number, spell}
-use Rattle.bits.specs.declared.read.Taken.TheVariants as Taken
+use Rattle.bits.specs.declared.read.Short as Bits
 use Rattle.bits.specs.Places.{field}
 use Rattle.bits.specs.Short.{taken_at}
 use Rattle.format.proofs.Placed.{length_from, take_from, drop_from}
@@ -127,7 +128,7 @@ module _ {bs : List ℕ} {end place : ℕ} (at : Within bs end place) where
         go (no over) = let room : place + w ≤ end = omega (arith, at.room) in (room, sym (number_there k room) ∙ e)
 
   -- as the code took it
-  module _ (w : ℕ) {n : ℕ} (e : taken_at bs end place w ≡ Taken.Whole n) where
+  module _ (w : ℕ) {n : ℕ} (e : taken_at bs end place w ≡ Ok n) where
     there : place + w ≤ end
     there = omega (arith, (field_whole bs end place w n e).0, at.room)
 
@@ -146,13 +147,13 @@ module _ {bs : List ℕ} {end place : ℕ} (at : Within bs end place) where
     pub number_whole : {A : Type 0} (k : ℕ → Program A) → end_from (numbered w >>= k) bs end place ≡ end_from (k n) bs end (place + w)
     number_whole k = rw is_field at (number_there w k there)
 
-  module _ {A : Type 0} (w : ℕ) {missing : ℕ} (e : taken_at bs end place w ≡ Taken.Short missing) where
-    pub bits_short : (k : List Bool → Program A) → end_from (taking w >>= k) bs end place ≡ badly Short missing
+  module _ {A : Type 0} (w : ℕ) {s : Bits.Short} (e : taken_at bs end place w ≡ Err s) where
+    pub bits_short : (k : List Bool → Program A) → end_from (taking w >>= k) bs end place ≡ badly Short s.missing
     bits_short k =
-        let it = field_short bs end place w missing e in
+        let it = field_short bs end place w s e in
         bits_cut w k it.0 ∙ ap (badly Short) (sym it.1)
 
-    pub number_short : (k : ℕ → Program A) → end_from (numbered w >>= k) bs end place ≡ badly Short missing
+    pub number_short : (k : ℕ → Program A) → end_from (numbered w >>= k) bs end place ≡ badly Short s.missing
     number_short k =
-        let it = field_short bs end place w missing e in
+        let it = field_short bs end place w s e in
         number_cut w k it.0 ∙ ap (badly Short) (sym it.1)

@@ -1,6 +1,7 @@
 -- Fields read one after the other and only then looked at, as the code reads them at once: where all of their bits are there, they are parts of the
 -- one number that it took; else the program is short by what the first short one misses.
 -- Assumes nothing.
+use Rattle.std.specs.Prelude.{Ok, Err}
 use mathlib.Core.Path.{◌≡◌, sym, ap, ◌∙◌}
 use mathlib.Core.List.{List, [], ◌∷◌}
 use Prim.Native.Nat.{ℕ, ◌+◌, ◌-◌, ◌/◌, ◌%◌, ◌^◌, ◌<◌}
@@ -11,7 +12,7 @@ use lib.Pow.{high, low}
 use borrow.Author.Tests.{lt-ltb, le-ltb}
 use Rattle.bits.proofs.Fields.{field_add, field_lt}
 use Rattle.bits.proofs.Short.{none_short, one_short, field_whole, field_short}
-use Rattle.bits.specs.declared.read.Taken.TheVariants as Taken
+use Rattle.bits.specs.declared.read.Short as Bits
 use Rattle.bits.specs.Places.{field}
 use Rattle.bits.specs.Short.{taken_at, bits_of, short_by}
 use Rattle.format.specs.declared.Refusal.TheVariants.{Short}
@@ -56,12 +57,12 @@ module _ {A : Type 0} (bs : List ℕ) (end : ℕ) where
 
 -- as the code took them
 module _ {A : Type 0} {bs : List ℕ} {end place : ℕ} (at : Within bs end place) (ws : List ℕ) (k : List ℕ → Program A) where
-  pub fields_whole : {n : ℕ} → taken_at bs end place (bits_of ws) ≡ Taken.Whole n → end_from (together ws k) bs end place ≡ end_from (k (parts_of ws n)) bs end (place + bits_of ws)
+  pub fields_whole : {n : ℕ} → taken_at bs end place (bits_of ws) ≡ Ok n → end_from (together ws k) bs end place ≡ end_from (k (parts_of ws n)) bs end (place + bits_of ws)
   unfolding unless_short
   fields_whole {n} e =
       let it = field_whole bs end place (bits_of ws) n e in
       end_together bs end ws place k at ∙ rw (none_short ws (end - place) it.0, it.1)
 
-  pub fields_short : {missing : ℕ} → taken_at bs end place (bits_of ws) ≡ Taken.Short missing → end_from (together ws k) bs end place ≡ badly Short (short_by ws (end - place))
-  fields_short {missing} e =
-      end_together bs end ws place k at ∙ is_short (short_by ws (end - place)) _ (one_short ws (end - place) (field_short bs end place (bits_of ws) missing e).0)
+  pub fields_short : {s : Bits.Short} → taken_at bs end place (bits_of ws) ≡ Err s → end_from (together ws k) bs end place ≡ badly Short (short_by ws (end - place))
+  fields_short {s} e =
+      end_together bs end ws place k at ∙ is_short (short_by ws (end - place)) _ (one_short ws (end - place) (field_short bs end place (bits_of ws) s e).0)

@@ -2,8 +2,8 @@
 use Rattle.bits.proofs.Words.{◌≡◌, refl, ap, ◌∙◌, List, [], ◌∷◌, ℕ, ◌+◌, ◌-◌, ◌/◌, ◌%◌, ◌^◌, ◌≤◌, ◌<◌, arith, get_or}
 use native.Mathlib.Nat.{lt_of_lt_of_le}
 use lib.Pow.{pow_mono}
-use Rattle.bits.specs.declared.read.Taken.{Taken}
-use Rattle.bits.specs.declared.read.Taken.TheVariants as Bits
+use Rattle.bits.specs.declared.read.Short as Bits
+use Rattle.std.specs.Prelude.{Result, Ok, Err}
 use Rattle.bits.specs.Short.{taken_at, bits_of, short_by}
 use Rattle.format.proofs.Ends.{done_end, after_field, fits}
 use Rattle.format.proofs.Together.{together, parts_of, fields_whole, fields_short}
@@ -12,8 +12,6 @@ use Rattle.format.specs.Ends.{Within, end_from}
 use Rattle.format.specs.Messages.{Common, common}
 use Rattle.format.specs.Programs.{Program, done, ◌>>=◌, numbered, well, badly}
 use Rattle.heads.specs.declared.CommonHead.{CommonHead}
-use Rattle.heads.specs.declared.CommonTaken.TheVariants.{Whole}
-use Rattle.heads.specs.declared.CommonTaken.TheVariants as Heads
 use Rattle.heads.specs.Heads.{common_of, head_for, head_from, common_by, Small}
 
 -- from its four fields
@@ -27,7 +25,7 @@ small_head w n few fit =
     record { epoch = omega arith; interval = omega arith; indicator = omega arith; iod = omega arith }
 
 module _ {bs : List ℕ} {end place : ℕ} (at : Within bs end place) (w : ℕ) where
-  common_there : {n : ℕ} → taken_at bs end place (w + 9) ≡ Bits.Whole n → end_from (common w) bs end place ≡ well (common_of (head_from n)) (place + (w + 9))
+  common_there : {n : ℕ} → taken_at bs end place (w + 9) ≡ Ok n → end_from (common w) bs end place ≡ well (common_of (head_from n)) (place + (w + 9))
   unfolding common together with_fields bits_of parts_of numbered ◌>>=◌ common_of head_from
   common_there {n} e =
       let b : n % 512 / 32 ≡ n / 32 % 16 = omega arith in
@@ -35,19 +33,19 @@ module _ {bs : List ℕ} {end place : ℕ} (at : Within bs end place) (w : ℕ) 
       let d : n % 512 % 32 % 16 / 1 ≡ n % 16 = omega arith in
       fields_whole at (w ∷ 4 ∷ 1 ∷ 4 ∷ []) with_fields e ∙ rw (done_end, b, c, d)
 
-  common_cut : {m : ℕ} → taken_at bs end place (w + 9) ≡ Bits.Short m → end_from (common w) bs end place ≡ badly Short (short_by (w ∷ 4 ∷ 1 ∷ 4 ∷ []) (end - place))
+  common_cut : {s : Bits.Short} → taken_at bs end place (w + 9) ≡ Err s → end_from (common w) bs end place ≡ badly Short (short_by (w ∷ 4 ∷ 1 ∷ 4 ∷ []) (end - place))
   unfolding common together with_fields bits_of numbered ◌>>=◌
   common_cut e = fields_short at (w ∷ 4 ∷ 1 ∷ 4 ∷ []) with_fields e
 
   -- what the code makes of it
-  pub taken_whole : {n : ℕ} → taken_at bs end place (w + 9) ≡ Bits.Whole n → {h : CommonHead} → h ≡ head_from n → Whole h ≡ common_by (end_from (common w) bs end place)
+  pub taken_whole : {n : ℕ} → taken_at bs end place (w + 9) ≡ Ok n → {h : CommonHead} → h ≡ head_from n → Ok h ≡ common_by (end_from (common w) bs end place)
   unfolding common_by head_for common_of
-  taken_whole e is = rw (common_there e) (ap Whole is)
+  taken_whole e is = rw (common_there e) (ap Ok is)
 
-  pub taken_short : {m : ℕ} → taken_at bs end place (w + 9) ≡ Bits.Short m → {lost : ℕ} → lost ≡ short_by (w ∷ 4 ∷ 1 ∷ 4 ∷ []) (end - place)
-      → Heads.Short lost ≡ common_by (end_from (common w) bs end place)
+  pub taken_short : {s : Bits.Short} → taken_at bs end place (w + 9) ≡ Err s → {lost : Bits.Short} → lost.missing ≡ short_by (w ∷ 4 ∷ 1 ∷ 4 ∷ []) (end - place)
+      → Err lost ≡ common_by (end_from (common w) bs end place)
   unfolding common_by
-  taken_short e is = rw (common_cut e) (ap Heads.Short is)
+  taken_short e is = rw (common_cut e) (ap (λ (m : ℕ). Err (record { missing = m })) is)
 
   -- and back: a head that is there
   pub record Read (h : CommonHead) : Type 0 where
@@ -55,28 +53,28 @@ module _ {bs : List ℕ} {end place : ℕ} (at : Within bs end place) (w : ℕ) 
     pub small : Small h
     pub after : Within bs end (place + (w + 9))
 
-  pub common_whole : w ≤ 20 → {h : CommonHead} → common_by (end_from (common w) bs end place) ≡ Whole h → Read h
+  pub common_whole : w ≤ 20 → {h : CommonHead} → common_by (end_from (common w) bs end place) ≡ Ok h → Read h
   unfolding common_by head_for common_of
   common_whole few {h} e = go (taken_at bs end place (w + 9)) refl
     where
-      go : (t : Taken) → taken_at bs end place (w + 9) ≡ t → Read h
-      go (Bits.Whole n) took =
+      go : (t : Result ℕ Bits.Short) → taken_at bs end place (w + 9) ≡ t → Read h
+      go (Ok n) took =
           let f = rw (common_there took) at e in
           let same : head_from n ≡ h = cc in
           record { ran = common_there took ∙ ap (λ (g : CommonHead). well (common_of g) (place + (w + 9))) same; small = rw same at (small_head w n few (fits at (w + 9) took)); after = after_field at (w + 9) took }
-      go (Bits.Short m) took =
+      go (Err s) took =
           let f = rw (common_cut took) at e in
           absurd (let z : ◌≡◌ {A = ℕ} 0 1 = cc in omega arith)
 
   -- or is not
-  pub common_short : {missing : ℕ} → common_by (end_from (common w) bs end place) ≡ Heads.Short missing → end_from (common w) bs end place ≡ badly Short missing
+  pub common_short : {lost : Bits.Short} → common_by (end_from (common w) bs end place) ≡ Err lost → end_from (common w) bs end place ≡ badly Short lost.missing
   unfolding common_by
-  common_short {missing} e = go (taken_at bs end place (w + 9)) refl
+  common_short {lost} e = go (taken_at bs end place (w + 9)) refl
     where
-      go : (t : Taken) → taken_at bs end place (w + 9) ≡ t → end_from (common w) bs end place ≡ badly Short missing
-      go (Bits.Whole n) took =
+      go : (t : Result ℕ Bits.Short) → taken_at bs end place (w + 9) ≡ t → end_from (common w) bs end place ≡ badly Short lost.missing
+      go (Ok n) took =
           let f = rw (common_there took) at e in
           absurd (let z : ◌≡◌ {A = ℕ} 0 1 = cc in omega arith)
-      go (Bits.Short m) took =
+      go (Err s) took =
           let f = rw (common_cut took) at e in
           common_cut took ∙ ap (badly Short) (cc)

@@ -2,7 +2,8 @@
 use Rattle.bits.proofs.Words.{◌≡◌, ap, ◌∙◌, Bool, true, false, not, List, [], ◌∷◌, ℕ, ◌+◌, ◌-◌, ◌/◌, ◌%◌, ◌≤◌, ◌<◌, arith, eqb, length, get_or, pos}
 use borrow.Author.Tests.{eq-eqb, ne_eqb, le-ltb}
 use Rattle.bits.specs.BitLists.{spell}
-use Rattle.bits.specs.declared.read.Taken.TheVariants as Taken
+use Rattle.bits.specs.declared.read.Short as Bits
+use Rattle.std.specs.Prelude.{Ok, Err}
 use Rattle.bits.specs.Places.{field}
 use Rattle.bits.specs.Short.{taken_at, bits_of, short_by}
 use Rattle.format.proofs.Ends.{done_end, after_field, bits_there, bits_cut, number_whole, number_short}
@@ -25,7 +26,7 @@ use Rattle.table.specs.Shapes.{shapes_from}
 -- ---- three fields, of which the code has a fourth of no bits
 
 module _ {A : Type 0} {bs : List ℕ} {end place : ℕ} (at : Within bs end place) (a b c : ℕ) (k : List ℕ → Program A) where
-  three_cut : {m : ℕ} → taken_at bs end place (bits_of (a ∷ b ∷ c ∷ [])) ≡ Taken.Short m → end_from (together (a ∷ b ∷ c ∷ []) k) bs end place ≡ badly Short (short_by (a ∷ b ∷ c ∷ 0 ∷ []) (end - place))
+  three_cut : {s : Bits.Short} → taken_at bs end place (bits_of (a ∷ b ∷ c ∷ [])) ≡ Err s → end_from (together (a ∷ b ∷ c ∷ []) k) bs end place ≡ badly Short (short_by (a ∷ b ∷ c ∷ 0 ∷ []) (end - place))
   unfolding short_by
   three_cut e = fields_short at (a ∷ b ∷ c ∷ []) k e ∙ rw (le-ltb (end - place - a - b - c) 0 (omega arith))
 
@@ -39,14 +40,14 @@ module _ {bs : List ℕ} {end place : ℕ} (at : Within bs end place) where
   abbrev with_three : List ℕ → Program Messages.Heading
   with_three ns = done (packet_heading (get_or ns 0 0) (get_or ns 1 0) (get_or ns 2 0))
 
-  pub packet_there : {n : ℕ} → taken_at bs end place 6 ≡ Taken.Whole n → end_from packet bs end place ≡ well (packet_of n) (place + 6)
+  pub packet_there : {n : ℕ} → taken_at bs end place 6 ≡ Ok n → end_from packet bs end place ≡ well (packet_of n) (place + 6)
   unfolding packet packet_of packet_heading together bits_of parts_of numbered ◌>>=◌
   packet_there {n} e =
       let b : n % 32 / 4 ≡ n / 4 % 8 = omega arith in
       let c : n % 32 % 4 / 1 ≡ n % 4 = omega arith in
       fields_whole at (1 ∷ 3 ∷ 2 ∷ []) with_three e ∙ rw (done_end, b, c)
 
-  pub packet_short : {m : ℕ} → taken_at bs end place 6 ≡ Taken.Short m → end_from packet bs end place ≡ badly Short (short_by (1 ∷ 3 ∷ 2 ∷ 0 ∷ []) (end - place))
+  pub packet_short : {s : Bits.Short} → taken_at bs end place 6 ≡ Err s → end_from packet bs end place ≡ badly Short (short_by (1 ∷ 3 ∷ 2 ∷ 0 ∷ []) (end - place))
   unfolding packet packet_heading together bits_of numbered ◌>>=◌
   packet_short e = three_cut at 1 3 2 with_three e
 
@@ -67,11 +68,11 @@ module _ {bs : List ℕ} {end place : ℕ} (at : Within bs end place) where
     abbrev flags : Program Messages.Heading
     flags = flagged u.subtype (keys_by u.layout) (shapes_from u.layout.shape) sky (common_of h)
 
-    pub flags_short : {m : ℕ} → taken_at bs end place 3 ≡ Taken.Short m → end_from flags bs end place ≡ badly Short (short_by (1 ∷ 1 ∷ 1 ∷ 0 ∷ []) (end - place))
+    pub flags_short : {s : Bits.Short} → taken_at bs end place 3 ≡ Err s → end_from flags bs end place ≡ badly Short (short_by (1 ∷ 1 ∷ 1 ∷ 0 ∷ []) (end - place))
     unfolding flagged head_with together bits_of numbered ◌>>=◌
     flags_short e = three_cut at 1 1 1 after_three e
 
-    pub flags_there : {n : ℕ} → taken_at bs end place 3 ≡ Taken.Whole n → end_from flags bs end place ≡ end_from (after_flags u h n sky) bs end (place + 3)
+    pub flags_there : {n : ℕ} → taken_at bs end place 3 ≡ Ok n → end_from flags bs end place ≡ end_from (after_flags u h n sky) bs end (place + 3)
     unfolding flagged head_with after_flags together bits_of parts_of numbered ◌>>=◌
     flags_there {n} e =
         let b : n % 4 / 2 ≡ n / 2 % 2 = omega arith in
@@ -97,11 +98,11 @@ module _ {bs : List ℕ} {end place : ℕ} (at : Within bs end place) where
     abbrev after_network : ℕ → Bool → Program Messages.Heading
     after_network network some = (require some Network >> (taking many >>= with_bits network)) >>= rowed keys sky h shape
 
-    pub network_short : {m : ℕ} → taken_at bs end place 5 ≡ Taken.Short m → end_from networks bs end place ≡ badly Short m
+    pub network_short : {s : Bits.Short} → taken_at bs end place 5 ≡ Err s → end_from networks bs end place ≡ badly Short s.missing
     unfolding network_by selection numbered ◌>>=◌
     network_short e = number_short at 5 e (λ n. after_network n (not (eqb n 0)))
 
-    module _ {n : ℕ} (e : taken_at bs end place 5 ≡ Taken.Whole n) where
+    module _ {n : ℕ} (e : taken_at bs end place 5 ≡ Ok n) where
       by_network : (b : Bool) → eqb n 0 ≡ b → end_from networks bs end place ≡ end_from (after_network n (not b)) bs end (place + 5)
       unfolding network_by selection numbered ◌>>=◌
       by_network b is = number_whole at 5 e (λ n. after_network n (not (eqb n 0))) ∙ rw is

@@ -1,9 +1,8 @@
 -- What the code answers to what opens a message, by how crate format's programs end.
-use Rattle.std.specs.Prelude.{ℕ, ◌/◌, ◌%◌, ◌^◌, ◌<◌}
+use Rattle.std.specs.Prelude.{Result, Ok, Err, ℕ, ◌/◌, ◌%◌, ◌^◌, ◌<◌}
+use Rattle.bits.specs.declared.read.Short.{Short}
 use Rattle.format.specs.Messages as Messages
 use Rattle.format.specs.Programs.{Ended, well, badly}
-use Rattle.heads.specs.declared.CommonTaken.{CommonTaken}
-use Rattle.heads.specs.declared.CommonTaken.TheVariants.{Whole, Short}
 use Rattle.heads.specs.declared.CommonHead.{CommonHead}
 use Rattle.heads.specs.declared.Opening.{Opening}
 use Rattle.heads.specs.declared.Opening.TheVariants.{SubType, Refused}
@@ -20,9 +19,9 @@ common_of h = record { epoch = h.epoch; interval = h.interval; indicator = h.ind
 unfoldable pub head_for : Messages.Common → CommonHead
 head_for h = record { epoch = h.epoch; interval = h.interval; indicator = h.indicator; iod = h.iod }
 
-unfoldable pub common_by : Ended Messages.Common → CommonTaken
-common_by (well h taken) = Whole (head_for h)
-common_by (badly r missing) = Short missing
+unfoldable pub common_by : Ended Messages.Common → Result CommonHead Short
+common_by (well h taken) = Ok (head_for h)
+common_by (badly r missing) = Err (record { missing = missing })
 
 -- parted from one number: 4, 1 and 4 bits behind the epoch
 unfoldable pub head_from : ℕ → CommonHead

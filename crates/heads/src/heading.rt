@@ -16,8 +16,8 @@ ghost use Rattle.table.specs.Kinds.{keys_for, keys_by, LaidOut, OfTable};
 ghost use Rattle.rows.specs.Table.{shape_at};
 ghost use Rattle.table.specs.Shapes.{shapes_from};
 
-use crate::{CommonHead, CommonTaken, Front, HEADED, OPENING, taken};
-use bits::read::{Taken, Widths, read_field, short_by};
+use crate::{CommonHead, Front, HEADED, OPENING, taken};
+use bits::read::{Widths, read_field, short_by};
 use body::cells::celled;
 use format::{ABSENT, Head, Refusal};
 use rows::shapes;
@@ -30,8 +30,8 @@ pub enum Heading {
     Refused(Refusal, usize),
 }
 
-// A sub type that is read under the mask, where a mask of n satellites is held under an issue, or nothing. Their strips
-// are lent beside it.
+// A sub type that is read under the mask, where a mask of n satellites is held under an issue, or nothing: as a holding
+// says it. Their strips are lent beside it.
 #[derive(Clone, Copy)]
 pub struct Under {
     pub held: bool,
@@ -131,8 +131,8 @@ fn selection(
     let cells = under.layout.cells;
     let taken = taken(f, FLAGGED, NETWORK);
     match taken {
-        Taken::Short(missing) => Heading::Refused(Refusal::Short, missing),
-        Taken::Whole(network) => {
+        Err(short) => Heading::Refused(Refusal::Short, short.missing),
+        Ok(network) => {
             if network == 0 {
                 return Heading::Refused(Refusal::Network, 0);
             }
@@ -188,11 +188,8 @@ fn flagged(under: Under, strips: &[u16], f: Front, bytes: &[u8], h: CommonHead) 
 {
     let taken = taken(f, HEADED, FLAG_BITS);
     match taken {
-        Taken::Short(_) => Heading::Refused(
-            Refusal::Short,
-            short_by(FLAGS, f.end - (f.start + HEADED)),
-        ),
-        Taken::Whole(flags) => by_flags(under, strips, f, bytes, h, flags),
+        Err(_) => Heading::Refused(Refusal::Short, short_by(FLAGS, f.end - (f.start + HEADED))),
+        Ok(flags) => by_flags(under, strips, f, bytes, h, flags),
     }
 }
 
@@ -225,8 +222,8 @@ fn masked(under: Under, strips: &[u16], f: Front, bytes: &[u8]) -> Heading
 {
     let common = crate::common(f);
     match common {
-        CommonTaken::Whole(h) => gated(under, strips, f, bytes, h),
-        CommonTaken::Short(missing) => Heading::Refused(Refusal::Short, missing),
+        Ok(h) => gated(under, strips, f, bytes, h),
+        Err(short) => Heading::Refused(Refusal::Short, short.missing),
     }
 }
 
@@ -252,8 +249,8 @@ pub fn packet(f: Front) -> Heading
     let place = f.start + OPENING;
     let taken = taken(f, OPENING, PACKET_BITS);
     match taken {
-        Taken::Short(_) => Heading::Refused(Refusal::Short, short_by(PACKET, f.end - place)),
-        Taken::Whole(n) => {
+        Err(_) => Heading::Refused(Refusal::Short, short_by(PACKET, f.end - place)),
+        Ok(n) => {
             let size = n % 4;
             let numbers = Head {
                 subtype: PACKET_TYPE,

@@ -13,7 +13,7 @@ ghost use Rattle.format.specs.Table as Table;
 ghost use Rattle.heads.specs.Fronts.{front_at, Opens, Opened};
 ghost use Rattle.heads.specs.Heads.{opening_by, head_from, common_by};
 
-use bits::read::{Taken, Widths, cut, read_field, short_by};
+use bits::read::{Short, Widths, cut, read_field, short_by};
 use format::Refusal;
 
 // The number that is ours; how many bits it and the sub type have, and how many sub types those can say.
@@ -75,15 +75,16 @@ fn within(f: Front, first: usize, w: usize) -> u64
 }
 
 // The same w bits, or how many of them lie past the stretch's end.
-pub fn taken(f: Front, first: usize, w: usize) -> Taken
+pub fn taken(f: Front, first: usize, w: usize) -> Result<u64, Short>
     requires { Opened f × (first + w < 56) × (f.start + first ≤ f.end) }
     ensures { (bs : List ℕ) → Opens bs f → result ≡ taken_at bs f.end (f.start + first) w }
 {
     let left = f.end - f.start;
     if left < first + w {
-        return Taken::Short(first + w - left);
+        let missing = first + w - left;
+        return Err(Short { missing });
     }
-    Taken::Whole(within(f, first, w))
+    Ok(within(f, first, w))
 }
 
 // The sub type, or the refusal and how many bits were missing.
@@ -121,13 +122,6 @@ pub struct CommonHead {
     pub iod: u64,
 }
 
-// The common head, or how many bits of its first short field were missing.
-#[derive(Clone, Copy)]
-pub enum CommonTaken {
-    Whole(CommonHead),
-    Short(usize),
-}
-
 // Its fields, parted from one number.
 pub fn parted(n: u64) -> CommonHead
     ensures { result ≡ head_from n }
@@ -152,15 +146,15 @@ const HEAD_BITS: usize = HOURLY + AFTER_EPOCH;
 
 pub const HEADED: usize = OPENING + HEAD_BITS;
 
-// The common head with an hourly epoch, behind the opening. Its fields are cut at once, and which of them is short is
-// asked only where one is.
-pub fn common(f: Front) -> CommonTaken
+// The common head with an hourly epoch, behind the opening; or how many bits of its first short field are missing. Its
+// fields are cut at once, and which of them is short is asked only where one is.
+pub fn common(f: Front) -> Result<CommonHead, Short>
     requires { Opened f × (f.start + 16 ≤ f.end) }
     ensures { (bs : List ℕ) → Opens bs f → result ≡ common_by (end_from (Messages.common 12) bs f.end (f.start + 16)) }
 {
-    let taken = taken(f, OPENING, HEAD_BITS);
-    match taken {
-        Taken::Whole(n) => CommonTaken::Whole(parted(n)),
-        Taken::Short(_) => CommonTaken::Short(short_by(HEAD, f.end - (f.start + OPENING))),
-    }
+    let Ok(n) = taken(f, OPENING, HEAD_BITS) else {
+        let missing = short_by(HEAD, f.end - (f.start + OPENING));
+        return Err(Short { missing });
+    };
+    Ok(parted(n))
 }

@@ -1,9 +1,17 @@
 -- Laws of naming by IDs. Assumes nothing.
-use Rattle.bits.proofs.Words.{◌≡◌, refl, ap, ◌∙◌, Bool, true, false, cond, List, [], ◌∷◌, ◌++◌, ℕ, zero, suc, ◌≤◌, ◌<◌, arith, eqb, length, get_or, take}
+use Rattle.bits.proofs.Words.{◌≡◌, refl, sym, ap, ◌∙◌, Bool, true, false, cond, List, [], ◌∷◌, ◌++◌, ℕ, zero, suc, ◌≤◌, ◌<◌, arith, eqb, length, get_or, take}
 use native.Mathlib.Nat.{le_of_suc-le-suc}
-use borrow.Author.Tests.{eq-eqb, ne_eqb}
+use borrow.Author.Tests.{eqb-true, eqb-false, eq-eqb, ne_eqb}
 use lib.Seq.{take-suc}
 use Rattle.format.specs.Messages.{named}
+
+-- either way round
+pub turned : (a b : ℕ) → eqb a b ≡ eqb b a
+turned a b = go (eqb a b) refl
+  where
+    go : (t : Bool) → eqb a b ≡ t → eqb a b ≡ eqb b a
+    go true e = e ∙ sym (eq-eqb b a (sym (eqb-true a b e)))
+    go false e = e ∙ sym (ne_eqb b a (λ f. eqb-false a b e (sym f)))
 
 pub named_at : (id : ℕ) (xs : List ℕ) (i count : ℕ) → i < count → count ≤ length xs → id ≡ get_or xs i 0 → named id (take count xs) ≡ true
 unfolding named

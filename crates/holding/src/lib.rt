@@ -21,7 +21,8 @@ ghost use Rattle.holding.specs.Pictures.{picture_of, sound};
 // satellite and signal masks with place 0 as the highest of their 40 and 16 bits, its cell flag); for each
 // satellite over all systems its strip of the cell mask, the signals that count for it at their own places; how
 // many satellites and cells there are. What is not used is zero. The order leaves no gap, which makes each copy shorter
-// and an outline 32 bytes.
+// and an outline 32 bytes. `held` and `iod` are two, and no Option: what is lent says both (docs/HOST.md), and an issue
+// beside nothing held is refused (`sound`).
 #[derive(Clone, Copy)]
 pub struct Holding {
     pub held: bool,

@@ -25,7 +25,8 @@ use Rattle.holding.proofs.Pictured.{sound_picture}
 use Rattle.holding.proofs.Sounds.{sounds}
 use Rattle.host.specs.declared.texts.Loaded.{Loaded}
 use Rattle.host.specs.Texts.{done_number, answer_loaded, loaded_to, taken, untaken, is_stretch, stretch_in, taking}
-use Rattle.lines.specs.declared.Line.TheVariants.{Says}
+use Rattle.lines.specs.declared.Line as Said
+use Rattle.std.specs.Prelude.{Some}
 use Rattle.lines.specs.Saying.{line_for}
 use Rattle.lines.proofs.SaidStretches.{SaysSo, says_so, says_bytes, length_said}
 use Rattle.passing.specs.Passing.{size, bytes_of}
@@ -70,8 +71,8 @@ unfolding taking is_stretch stretch_in verdict
 none_taken t buffer e = rw e
 
 -- the code's answer to a whole line
-pub says_whole : (line : List ℕ) (n first : ℕ) → line_for (line_says line) ≡ Says n first → SaysSo (line_says (take (length line) line)) n first
-says_whole line n first e = says_so _ n first (ap (λ (l : List ℕ). line_for (line_says l)) (take-length line) ∙ e)
+pub says_whole : (line : List ℕ) {said : Said.Line} → line_for (line_says line) ≡ Some said → SaysSo (line_says (take (length line) line)) said.bits said.first
+says_whole line e = says_so _ (ap (λ (l : List ℕ). line_for (line_says l)) (take-length line) ∙ e)
 
 module _ (line : List ℕ) {n first : ℕ} (it : SaysSo (line_says (take (length line) line)) n first) (buffer : List ℕ) where
   same : line_says line ≡ says it.stretch

@@ -1,5 +1,5 @@
 -- What the host is handed of lines of text: docs/HOST.md, `hundurzek_save`, `hundurzek_load` and `hundurzek_line`.
-use Rattle.std.specs.Prelude.{Bool, true, false, List, [], ◌∷◌, ℕ, ◌+◌, ◌/◌, leb, length}
+use Rattle.std.specs.Prelude.{Bool, true, false, List, [], ◌∷◌, ℕ, Result, Ok, Err, ◌+◌, ◌/◌, leb, length}
 use Rattle.format.specs.declared.Refusal.{Refusal}
 use Rattle.format.specs.declared.Refusal.TheVariants.{Room, Value}
 use Rattle.format.specs.Answers as Answers
@@ -14,8 +14,6 @@ use Rattle.holding.specs.Pictures.{picture_of}
 use Rattle.host.specs.declared.texts.Done.{Done}
 use Rattle.host.specs.declared.texts.Loaded.{Loaded}
 use Rattle.passing.specs.Passing.{bytes_of}
-use Rattle.saved.specs.declared.LoadAnswer.{LoadAnswer}
-use Rattle.saved.specs.declared.LoadAnswer.TheVariants as LoadAnswers
 
 -- the answer to what is done
 abbrev pub done_number : ℕ
@@ -29,9 +27,9 @@ done_handed (undone number place) = record { answer = number; place = place; cou
 -- ---- a holding as a line
 
 -- the number of the answer to loading
-unfoldable pub answer_loaded : LoadAnswer → ℕ
-answer_loaded LoadAnswers.Loaded = done_number
-answer_loaded (LoadAnswers.Refused r) = number_of r
+unfoldable pub answer_loaded : Result (Unit {0}) Refusal → ℕ
+answer_loaded (Ok _) = done_number
+answer_loaded (Err r) = number_of r
 
 -- and the bytes of what a line says, those of the empty holding beside a refusal
 unfoldable pub loaded_to : Saved.Loaded → Loaded

@@ -28,7 +28,7 @@ use reader::unheld;
 use walk::{START, Tally};
 
 // What a reading hands out: the answer's number, the place after the message or the start asked for, how many bits were
-// missing, the row count, where the raw part begins and how many bytes it has, the head.
+// missing, the row count, where the raw part begins and how many bytes it has, the head. Numbers, as C has them.
 #[repr(C)]
 #[derive(Clone, Copy)]
 pub struct Handed {
@@ -57,28 +57,30 @@ pub struct Walked {
 const MESSAGE: u64 = 255;
 
 // Document 01's number of a stop, and the one for a message.
+#[tactic(auto, unfolding(crate::specs::Handing::number_said, format::specs::Answers::said_at))]
 fn answer_number(answer: Answer) -> u64
     ensures { (place : ℕ) → result ≡ number_said (said_at place answer) }
 {
     match answer {
-        Answer::Message(_, _, _) => MESSAGE,
+        Answer::Message(..) => MESSAGE,
         Answer::Idle => 0,
         Answer::Refused(r, _) => number(r),
     }
 }
 
 // How many bits were missing (document 02, Ask 7).
+#[tactic(auto, unfolding(crate::specs::Handing::missing_said, format::specs::Answers::said_at))]
 fn answer_missing(answer: Answer) -> usize
     ensures { (place : ℕ) → result ≡ missing_said (said_at place answer) }
 {
     match answer {
-        Answer::Message(_, _, _) => 0,
-        Answer::Idle => 0,
+        Answer::Message(..) | Answer::Idle => 0,
         Answer::Refused(_, missing) => missing,
     }
 }
 
 // Idle or a refusal: nothing was read.
+#[tactic(auto, unfolding(crate::specs::Handing::handed_by, crate::specs::Handing::no_head))]
 fn stop(number: u64, start: usize, missing: usize) -> Handed
     ensures { result ≡ handed_by start (Said.stop number start missing) }
 {
@@ -103,6 +105,7 @@ fn stop(number: u64, start: usize, missing: usize) -> Handed
 }
 
 // A message.
+#[tactic(auto, unfolding(crate::specs::Handing::handed_by))]
 fn message(head: Head, start: usize, next: usize, rows: usize) -> Handed
     ensures { result ≡ handed_by start (Said.message head next rows) }
 {
@@ -117,7 +120,8 @@ fn message(head: Head, start: usize, next: usize, rows: usize) -> Handed
     }
 }
 
-// What an answer to reading at a start hands out.
+// What an answer to reading at a start hands out. (No `From`: of the answer alone it does not follow.)
+#[tactic(auto, unfolding(format::specs::Answers::said_at))]
 fn hand(answer: Answer, start: usize) -> Handed
     ensures { result ≡ handed_by start (said_at start answer) }
 {
@@ -148,6 +152,7 @@ fn adopt(holding: &mut [u8], bytes: &[u8], end: usize, place: usize) -> Answer
 }
 
 // Makes the empty holding.
+#[tactic(auto, unfolding(crate::specs::Handing::emptied, crate::specs::Handing::emptied_number))]
 pub fn hundurzek_empty(holding: &mut [u8]) -> u64
     ensures value { result ≡ emptied_number holding.old }
     ensures holding_after { holding.new ≡ emptied holding.old }
@@ -156,9 +161,7 @@ pub fn hundurzek_empty(holding: &mut [u8]) -> u64
         return 1;
     }
     let empty = Holding::empty();
-    let satellites = empty.satellites;
-    let strips = empty.strips;
-    holding_over(holding, empty.outline(), &satellites, &strips);
+    holding_over(holding, empty.outline(), &empty.satellites, &empty.strips);
     0
 }
 
@@ -212,16 +215,15 @@ fn halted(stop: Answer, tally: Tally) -> Walked
 }
 
 // Whether a walk changed what is held, or may have: it accepted a message, or dropped it (document 02, Ask 2).
+#[tactic(auto, unfolding(crate::specs::Handing::changing, crate::specs::Handing::number_said, format::specs::Answers::said_at, format::specs::Answers::number_of))]
 fn changes(stop: Answer, messages: usize) -> bool
     ensures { result ≡ changing stop messages }
 {
-    if messages > 0 {
-        return true;
-    }
-    answer_number(stop) == number(Refusal::Changed)
+    messages > 0 || matches!(stop, Answer::Refused(Refusal::Changed, _))
 }
 
 // What is held after a walk: where nothing changed, the bytes stay as they were, also such as were no holding.
+#[tactic(auto, unfolding(crate::specs::Handing::left_bytes))]
 fn leave(
     holding: &mut [u8],
     changed: bool,
@@ -232,10 +234,9 @@ fn leave(
     requires { changed ≡ true → (size ≤ length holding.old) × (sound (whole_of outline satellites.now strips.now) ≡ true) }
     ensures { holding.new ≡ left_bytes changed (whole_of outline satellites.now strips.now) holding.old }
 {
-    if !changed {
-        return;
+    if changed {
+        holding_over(holding, outline, satellites, strips);
     }
-    holding_over(holding, outline, satellites, strips);
 }
 
 // Reads a whole stretch, from place 0 until idle or a refusal.

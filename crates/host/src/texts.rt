@@ -10,11 +10,11 @@ ghost use Rattle.host.specs.Texts.{done_handed, answer_loaded, loaded_to, taking
 
 use format::{Refusal, number};
 use holding::Holding;
+use lines::said_by;
 use lines::stretch::stretch_of;
-use lines::{Line, said_by};
 use passing::give::holding_over;
 use passing::{SIZE, take};
-use saved::{LoadAnswer, Saving, load_parts, save_parts};
+use saved::{load_parts, save_parts};
 
 // What is done with a line: the answer's number, the start, and how long the saved line is, or the stretch in bits.
 #[repr(C)]
@@ -33,13 +33,15 @@ pub struct Loaded {
     pub holding: [u8; SIZE],
 }
 
-// The answer to what is done.
+// The answer to what is done. (The C interface has a name for it and one for a message's, and crate `host_write` shares
+// no crate of answers for C with this one: so each has its own.)
 const DONE: u64 = 255;
 
 // Where a line begins: the start that its answers name (document 01, "Answer numbers").
 const START: usize = 0;
 
 // What is done, and so long.
+#[tactic(auto, unfolding(crate::specs::Texts::done_handed))]
 fn finish(n: usize) -> Done
     ensures { result ≡ done_handed (done n) }
 {
@@ -51,6 +53,7 @@ fn finish(n: usize) -> Done
 }
 
 // What is refused.
+#[tactic(auto, unfolding(crate::specs::Texts::done_handed, format::specs::Answers::undone_at))]
 fn refuse(refusal: Refusal) -> Done
     ensures { result ≡ done_handed (undone_at 0 refusal) }
 {
@@ -62,12 +65,12 @@ fn refuse(refusal: Refusal) -> Done
 }
 
 // Saves the holding that lent bytes say, in parts.
-fn saved_in(holding: &[u8], line: &mut [u8]) -> Saving
+fn saved_in(holding: &[u8], line: &mut [u8]) -> Result<usize, Refusal>
     ensures value { result ≡ saving_by (saving (lent_by (holding_in holding.now)) line.old) }
     ensures line_after { line.new ≡ buffer_after (saving (lent_by (holding_in holding.now)) line.old) (mask_of (holding_in holding.now)) line.old }
 {
     if !take::passes(holding) {
-        return Saving::Refused(Refusal::Value);
+        return Err(Refusal::Value);
     }
     let satellites = take::satellites(holding);
     let strips = take::strips(holding);
@@ -80,20 +83,20 @@ pub fn hundurzek_save(holding: &[u8], line: &mut [u8]) -> Done
     ensures value { result ≡ done_handed (done_saving (saving (lent_by (holding_in holding.now)) line.old)) }
     ensures line_after { line.new ≡ buffer_after (saving (lent_by (holding_in holding.now)) line.old) (mask_of (holding_in holding.now)) line.old }
 {
-    let saving = saved_in(holding, line);
-    match saving {
-        Saving::Saved(n) => finish(n),
-        Saving::Refused(refusal) => refuse(refusal),
+    match saved_in(holding, line) {
+        Ok(n) => finish(n),
+        Err(refusal) => refuse(refusal),
     }
 }
 
 // The number of the answer to loading.
-fn load_number(answer: LoadAnswer) -> u64
+#[tactic(auto, unfolding(crate::specs::Texts::answer_loaded))]
+fn load_number(answer: Result<(), Refusal>) -> u64
     ensures { result ≡ answer_loaded answer }
 {
     match answer {
-        LoadAnswer::Loaded => DONE,
-        LoadAnswer::Refused(refusal) => number(refusal),
+        Ok(()) => DONE,
+        Err(refusal) => number(refusal),
     }
 }
 
@@ -104,12 +107,10 @@ pub fn hundurzek_load(line: &[u8]) -> Loaded
     let mut satellites = [0u64; Holding::SYSTEMS];
     let mut strips = [0u16; Holding::SATELLITES];
     let loading = load_parts(line, &mut satellites, &mut strips);
-    let answer = loading.answer;
-    let outline = loading.outline;
     let mut holding = [0u8; SIZE];
-    holding_over(&mut holding, outline, &satellites, &strips);
+    holding_over(&mut holding, loading.outline, &satellites, &strips);
     Loaded {
-        answer: load_number(answer),
+        answer: load_number(loading.answer),
         holding,
     }
 }
@@ -122,13 +123,12 @@ pub fn hundurzek_line(line: &[u8], bytes: &mut [u8]) -> Done
     ensures value { result ≡ done_handed (done_taking (taking (line_says line.now) bytes.old)) }
     ensures bytes_after { bytes.new ≡ stretch_after (taking (line_says line.now) bytes.old) bytes.old }
 {
-    let said = said_by(line);
-    let Line::Says(bits, first) = said else {
+    let Some(said) = said_by(line) else {
         return refuse(Refusal::Value);
     };
-    if bytes.len() < (bits + BYTE - 1) / BYTE {
+    if bytes.len() < said.bits.div_ceil(BYTE) {
         return refuse(Refusal::Room);
     }
-    stretch_of(line, first, bits, bytes);
-    finish(bits)
+    stretch_of(line, said.first, said.bits, bytes);
+    finish(said.bits)
 }

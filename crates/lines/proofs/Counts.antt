@@ -1,13 +1,14 @@
 -- The count that opens a line, character by character. Assumes nothing.
 use mathlib.Core.Path.{◌≡◌, refl, sym, ap, ◌∙◌}
-use mathlib.Core.Bool.{Bool, true, false, cond, ◌&&◌, and-true, and_assoc, and-false}
+use mathlib.Core.Bool.{Bool, true, false, cond, not, ◌&&◌, and-true, and_assoc, and-false}
 use mathlib.Core.List.{List, [], ◌∷◌, ◌++◌}
-use Prim.Native.Nat.{ℕ, zero, suc, ◌+◌, ◌-◌, ◌*◌, ◌/◌, ◌%◌, ◌≤◌, ◌<◌}
+use Prim.Native.Nat.{ℕ, zero, suc, ◌+◌, ◌*◌, ◌/◌, ◌%◌, ◌≤◌, ◌<◌}
 use native.Mathlib.Omega.{arith}
 use lib.Dec.{eqb}
-use lib.ListN.{length, get_or, take, drop, drop_of_length-le}
-use lib.Seq.{drop-cons, take-suc, length-take-le}
-use borrow.Author.Tests.{eq-eqb, ne_eqb}
+use lib.ListN.{length, get_or, take, length-append}
+use lib.Seq.{take-suc, length-take-le}
+use Rattle.std.specs.List.{prefix_len, take_while}
+use Rattle.std.proofs.lemmas.List.Folds.{length-prefix_len}
 use Rattle.format.specs.Same.{same_list}
 use Rattle.format.specs.Text.{tab, digit_char, char_digit, decimal, decimal_value}
 use Rattle.format.proofs.Texts.{value_more}
@@ -27,25 +28,24 @@ tab_near (suc n) (c ∷ cs) = go (eqb c tab) (tab_near n cs)
     go true near = omega arith
     go false near = omega arith
 
-module _ (line : List ℕ) (i : ℕ) where
-  pub tab_further : (n : ℕ) → i < length line → ¬ (get_or line i 0 ≡ tab) → tab_within (suc n) (drop i line) ≡ suc (tab_within n (drop (suc i) line))
-  unfolding tab_within
-  tab_further n there other = rw (drop-cons line i 0 there, tab_within, ne_eqb (get_or line i 0) tab other)
+-- as code counts them
+pub tab_counted : (n : ℕ) (line : List ℕ) → length (take_while (λ c. not (eqb c tab)) (take n line)) ≡ tab_within n line
+unfolding tab_within
+tab_counted n line = length-prefix_len (λ c. not (eqb c tab)) (take n line) ∙ passed n line
+  where
+    passed : (n : ℕ) (line : List ℕ) → prefix_len (λ c. not (eqb c tab)) (take n line) ≡ tab_within n line
+    passed zero line = refl
+    passed (suc n) [] = refl
+    passed (suc n) (c ∷ cs) = go (eqb c tab) (passed n cs)
+      where
+        go : (b : Bool) {k : ℕ} → k ≡ tab_within n cs → cond (not b) (1 + k) 0 ≡ cond b 0 (suc (tab_within n cs))
+        go true e = refl
+        go false e = omega (arith, e)
 
-  pub tab_here : (n : ℕ) → i < length line → get_or line i 0 ≡ tab → tab_within n (drop i line) ≡ 0
-  unfolding tab_within
-  tab_here zero there here = refl
-  tab_here (suc n) there here = rw (drop-cons line i 0 there, tab_within, eq-eqb (get_or line i 0) tab here)
+-- ---- what the characters say
 
-  pub tab_never : (n : ℕ) → length line ≤ i → tab_within n (drop i line) ≡ 0
-  unfolding tab_within
-  tab_never zero past = refl
-  tab_never (suc n) past = rw (drop_of_length-le line past)
-
-  -- ---- what the characters say
-
-  pub value_next : i < length line → decimal_value 0 (take (suc i) line) ≡ 10 * decimal_value 0 (take i line) + char_digit (get_or line i 0)
-  value_next there = rw (take-suc line i 0 there) (value_more 0 (take i line) (get_or line i 0))
+pub value_next : (line : List ℕ) (i : ℕ) → i < length line → decimal_value 0 (take (suc i) line) ≡ 10 * decimal_value 0 (take i line) + char_digit (get_or line i 0)
+value_next line i there = rw (take-suc line i 0 there) (value_more 0 (take i line) (get_or line i 0))
 
 -- ---- lists that are the same, from their ends
 
@@ -75,12 +75,15 @@ module _ (line : List ℕ) (k n : ℕ) (there : k ≤ length line) where
   unfolding opens_with
   opens_last long = ap (same_list eqb (take k line)) (own_digits n ∙ ap (λ (w : ℕ). last_digits 10 w n) long)
 
--- the last one first
-pub digits_last : (line : List ℕ) (i n : ℕ) → 0 < i → i ≤ length line
-    → same_list eqb (take i line) (last_digits 10 i n) ≡ (same_list eqb (take (i - 1) line) (last_digits 10 (i - 1) (n / 10)) && eqb (get_or line (i - 1) 0) (digit_char (n % 10)))
+-- the last one first: d is what it must be
+pub digits_last : {whole : Bool} {all : List ℕ} (rest : List ℕ) (c d n : ℕ) → whole ≡ same_list eqb all (last_digits 10 (length all) n) → all ≡ rest ++ (c ∷ []) → d ≡ digit_char (n % 10)
+    → whole ≡ (same_list eqb rest (last_digits 10 (length rest) (n / 10)) && eqb c d)
 unfolding last_digits
-digits_last line zero n some there = absurd (omega arith)
-digits_last line (suc i) n some there =
-    let last : suc i - 1 ≡ i = omega arith in
-    rw (last, take-suc line i 0 there)
-    (same_ends (take i line) (last_digits 10 i (n / 10)) (get_or line i 0) (digit_char (n % 10)) (length-take-le i line (omega arith) ∙ sym (length_digits 10 i (n / 10))))
+digits_last rest c d n so parts last =
+    let long : length (rest ++ (c ∷ [])) ≡ suc (length rest) = simp length-append (omega arith) in
+    so ∙ rw (parts, long, last) (same_ends rest (last_digits 10 (length rest) (n / 10)) c (digit_char (n % 10)) (sym (length_digits 10 (length rest) (n / 10))))
+
+pub digits_none : (rest : List ℕ) (n : ℕ) → length rest ≡ 0 → same_list eqb rest (last_digits 10 (length rest) n) ≡ true
+unfolding last_digits same_list
+digits_none [] n none = refl
+digits_none (c ∷ rest) n none = absurd (omega arith)

@@ -2,12 +2,11 @@
 use mathlib.Core.Path.{◌≡◌, refl, sym, ap, ap₂, ◌∙◌}
 use mathlib.Core.List.{List, [], ◌∷◌, ◌++◌, map, flat_map, append_assoc, append-nil}
 use Prim.Native.Nat.{ℕ, ◌+◌, ◌*◌, ◌^◌, ◌≤◌, ◌<◌}
-use native.Mathlib.Nat.{add-zero}
 use native.Mathlib.Numerals.{add-one}
 use native.Mathlib.Omega.{arith}
 use lib.IntN.{ℤ, pos}
-use lib.ListN.{length, get_or, take, drop, length-append, drop_of_length-le}
-use lib.Seq.{drop-cons}
+use lib.ListN.{length, get_or, drop, length-append, drop_of_length-le}
+use lib.Seq.{drop-cons, take_all}
 use lib.Signed.{mag}
 use borrow.Author.Tests.{eq-eqb, ne_eqb}
 use mir.Facts.{to_z-of_z}
@@ -16,11 +15,11 @@ use mir.Val.{to_z, of_z}
 use Rattle.bits.proofs.Lists.{elements, taken}
 use Rattle.format.proofs.Bodies.{All, none, more}
 use Rattle.format.specs.Answers.{number_of}
-use Rattle.format.specs.Listing.{value_text, record_text, letter_b, missing_value, bad_text}
+use Rattle.format.specs.Listing.{value_text, record_text, letter_r, letter_b, missing_value, bad_text}
 use Rattle.format.specs.Same.{sameℤ}
 use Rattle.format.specs.Text.{tab, line_feed, dash, decimal}
 use Rattle.text.proofs.Values.{value_long}
-use Rattle.lines.specs.Records.{values_text, record_long}
+use Rattle.lines.specs.Records.{values_text, record_long, row_long}
 
 -- ---- the values from the i-th on
 
@@ -96,10 +95,17 @@ as_read [] none = refl
 as_read (v ∷ vs) (more small rest) = ap₂ ◌∷◌ (to_z-of_z {w = w32} (record { sfits = small })) (as_read vs rest)
 
 -- the eight of a row
-pub row_read : (rows : List ℤ) (from : ℕ) → from + 8 ≤ length rows
-    → take 8 (drop from rows) ≡ get_or rows from (pos 0) ∷ elements (pos 0) rows from 1 7
+abbrev pub eight : List ℤ → List ℤ
+eight row =
+    get_or row 0 (pos 0) ∷ get_or row 1 (pos 0) ∷ get_or row 2 (pos 0) ∷ get_or row 3 (pos 0)
+    ∷ get_or row 4 (pos 0) ∷ get_or row 5 (pos 0) ∷ get_or row 6 (pos 0) ∷ get_or row 7 (pos 0) ∷ []
+
+pub row_read : (row : List ℤ) → length row ≡ 8 → All Small (eight row)
+    → (map (λ v. to_z w32 (of_z w32 v)) (eight row) ≡ row) × (length (record_text letter_r row) ≤ row_long)
 unfolding elements
-row_read rows from room = ap (λ (k : ℕ). take 8 (drop k rows)) (sym (add-zero from)) ∙ taken (pos 0) rows from 0 8 (omega arith) ∙ rw add-zero
+row_read row whole small =
+    let same : eight row ≡ row = sym (taken (pos 0) row 0 0 8 (omega arith)) ∙ take_all 8 row (omega arith) in
+    (as_read (eight row) small ∙ same, rw same at (record_long_lem letter_r (eight row) small))
 
 -- ---- the line of one number
 

@@ -7,7 +7,6 @@ use native.Mathlib.Numerals.{add-one}
 use native.Mathlib.Omega.{arith}
 use lib.ListN.{length, take, drop, replicate, length-append, length-take, length-drop, take-append-drop}
 use lib.Seq.{take-append-le, drop-append-le, take-append_seam, take-take, length-take-le}
-use denote.Enum.Declared.{tag_of}
 use Rattle.bits.specs.BitLists.{number, bits, bytes}
 use Rattle.bits.proofs.BitLists.{bits_append, bits_bytes, length_bytes}
 use Rattle.format.specs.Listing.{Line, line_says, says, bad, bytes_said}
@@ -16,10 +15,10 @@ use Rattle.format.specs.Text.{decimal, hex, hex_bits}
 use Rattle.format.proofs.InputLines.{says_line}
 use Rattle.format.proofs.Texts.{hex_bits_hex}
 use Rattle.text.proofs.HexDigits.{hex_long}
-use Rattle.lines.specs.declared.Line.TheVariants.{Says}
+use Rattle.std.specs.Prelude.{Some, None}
+use Rattle.lines.specs.declared.Line as Said
 use Rattle.lines.specs.Digits.{hex_says}
 use Rattle.lines.specs.Saying.{line_for}
-use Rattle.lines.specs.contracts.Line.{the_type}
 use Rattle.lines.proofs.StretchLines.{its_digits, its_length, its_middle}
 
 -- ---- its digits
@@ -100,14 +99,14 @@ pub record SaysSo (t : Line) (n first : ℕ) : Type 0 where
   pub long : n ≡ length stretch
   pub begins : first ≡ suc (length (decimal (length stretch)))
 
-pub says_so : (t : Line) (n first : ℕ) → line_for t ≡ Says n first → SaysSo t n first
+pub says_so : (t : Line) {said : Said.Line} → line_for t ≡ Some said → SaysSo t said.bits said.first
 unfolding line_for
-says_so (says l) n first e = record { stretch = l; same = refl; long = cc; begins = cc }
-says_so bad n first e = absurd (let z : ◌≡◌ {A = ℕ} 0 1 = cc in omega arith)
+says_so (says l) e = record { stretch = l; same = refl; long = cc; begins = cc }
+says_so bad e = absurd cc
 
-pub bad_so : (t : Line) → tag_of the_type (line_for t) ≡ 1 → t ≡ bad
+pub bad_so : (t : Line) → line_for t ≡ None → t ≡ bad
 unfolding line_for
-bad_so (says l) e = absurd (omega arith)
+bad_so (says l) e = absurd cc
 bad_so bad e = refl
 
 -- what making bytes of its digits asks for, and what they come to

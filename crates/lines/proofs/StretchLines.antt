@@ -2,12 +2,12 @@
 use mathlib.Core.Path.{◌≡◌, refl, sym, ap, ◌∙◌}
 use mathlib.Core.Bool.{Bool, true}
 use mathlib.Core.List.{List, [], ◌∷◌, ◌++◌}
-use Prim.Native.Nat.{ℕ, zero, suc, ◌+◌, ◌-◌, ◌≤◌}
+use Prim.Native.Nat.{ℕ, zero, suc, ◌+◌, ◌≤◌, ◌<◌}
 use native.Mathlib.Nat.{add-zero}
 use native.Mathlib.Numerals.{add-one}
 use native.Mathlib.Omega.{arith}
 use lib.Dec.{eqb}
-use lib.ListN.{length, get_or, take, drop, length-append, take-append-drop, drop_of_length-le}
+use lib.ListN.{length, get_or, take, drop, length-append, take-append-drop}
 use lib.Seq.{take-append_seam, drop-append_seam, take_at, get_or-append-add, drop-cons, drop-drop}
 use borrow.Author.Tests.{ne_eqb}
 use Rattle.format.specs.Listing.{stretch_line}
@@ -63,24 +63,15 @@ module _ (l : List Bool) (few : length l ≤ stretch_limit) where
   unfolding stretch_line
   its_tab_char = ap (λ (k : ℕ). get_or (stretch_line l) k 0) (sym (add-zero (length digits))) ∙ get_or-append-add digits _ 0 0
 
-  pub its_end_char : get_or (stretch_line l) (length digits + (length (hex l) + 1)) 0 ≡ line_feed
-  unfolding stretch_line
-  its_end_char =
-      let one : length (hex l) + 1 ≡ suc (length (hex l) + 0) = omega arith in
-      get_or-append-add digits _ (length (hex l) + 1) 0 ∙ rw one (get_or-append-add (hex l) (line_feed ∷ []) 0 0)
+  pub its_end : drop (length digits + 1) (stretch_line l) ≡ hex l ++ (line_feed ∷ [])
+  its_end = sym (drop-drop 1 (length digits) (stretch_line l)) ∙ ap (drop 1) its_rest
 
   pub its_middle : (k : ℕ) → length (hex l) ≡ k → take k (drop (length digits + 1) (stretch_line l)) ≡ hex l
-  its_middle k long = ap (take k) (sym (drop-drop 1 (length digits) (stretch_line l)) ∙ ap (drop 1) its_rest) ∙ take_at (hex l) (line_feed ∷ []) k long
+  its_middle k long = ap (take k) its_end ∙ take_at (hex l) (line_feed ∷ []) k long
 
 -- ---- a line in parts
 
-pub in_parts : (line : List ℕ) (t end : ℕ) → get_or line t 0 ≡ tab → t + 1 ≤ end → end + 1 ≡ length line → get_or line end 0 ≡ line_feed
-    → line ≡ take t line ++ (tab ∷ (take (end - (t + 1)) (drop (t + 1) line) ++ (line_feed ∷ [])))
-in_parts line t end tabbed room long ended =
-    let last : drop end line ≡ line_feed ∷ [] = drop-cons line end 0 (omega arith) ∙ rw (ended, drop_of_length-le line {i = suc end} (omega arith)) in
-    let there : t + 1 + (end - (t + 1)) ≡ end = omega arith in
-    let rest : drop (end - (t + 1)) (drop (t + 1) line) ≡ line_feed ∷ [] = drop-drop (end - (t + 1)) (t + 1) line ∙ rw there last in
-    let middle : drop (t + 1) line ≡ take (end - (t + 1)) (drop (t + 1) line) ++ (line_feed ∷ []) =
-    sym (take-append-drop (end - (t + 1)) (drop (t + 1) line)) ∙ ap (λ (l : List ℕ). take (end - (t + 1)) (drop (t + 1) line) ++ l) rest in
-    sym (take-append-drop t line)
-    ∙ ap (λ (l : List ℕ). take t line ++ l) (drop-cons line t 0 (omega arith) ∙ rw (tabbed, ← (add-one t)) (ap (◌∷◌ tab) middle))
+pub in_parts : (line : List ℕ) (t : ℕ) (middle : List ℕ) → t < length line → get_or line t 0 ≡ tab → drop (t + 1) line ≡ middle ++ (line_feed ∷ [])
+    → line ≡ take t line ++ (tab ∷ (middle ++ (line_feed ∷ [])))
+in_parts line t middle there tabbed behind =
+    sym (take-append-drop t line) ∙ ap (λ (l : List ℕ). take t line ++ l) (drop-cons line t 0 there ∙ rw (tabbed, ← (add-one t)) (ap (◌∷◌ tab) behind))

@@ -1,13 +1,14 @@
 -- Digits by the tests that code makes of them: those of four bits each, and the last one. Assumes nothing.
-use mathlib.Core.Path.{◌≡◌, refl, sym, ap, ◌∙◌}
+use mathlib.Core.Path.{◌≡◌, refl, sym, ap, ap₂, ◌∙◌}
 use mathlib.Core.Bool.{Bool, true, false, ◌&&◌, ◌||◌, and-true, and_assoc, and-eq-true_iff}
 use mathlib.Core.List.{List, [], ◌∷◌, ◌++◌}
 use Prim.Native.Nat.{ℕ, zero, suc, ◌+◌, ◌-◌, ◌*◌, ◌/◌, ◌%◌, ◌≤◌, ◌<◌}
 use native.Mathlib.Decide.{dec_lt}
+use native.Mathlib.Nat.{le_refl}
 use native.Mathlib.Omega.{arith}
 use lib.Dec.{eqb, leb, ltb}
-use lib.ListN.{length, get_or, take, drop, drop_of_length-le}
-use lib.Seq.{take-suc, drop-cons}
+use lib.ListN.{length, get_or, take, drop, length-append, drop_of_length-le}
+use lib.Seq.{take-suc, take-length, take-append_seam, drop-append_seam}
 use borrow.Author.Tests.{eq-eqb, ne_eqb, eqb-true, lt-ltb, le-ltb, le-leb, lt-leb}
 use Rattle.format.specs.Same.{same_list}
 use Rattle.format.specs.Text.{digit_char, char_digit, hex, hex_bits}
@@ -96,19 +97,21 @@ module _ (n : ℕ) (cs : List ℕ) where
           let both = (and-eq-true_iff (same_list eqb (hex l) cs) (eqb (length l) n)).0 (sym (digits_say n cs) ∙ e) in
           absurd (other (omega (arith, ap length (same_list_sound eqb eqb-true (hex l) cs both.0), eqb-true (length l) n both.1, hex_long l)))
 
-  pub says_even : n % 4 ≡ 0 → length cs ≡ n / 4 → hex_says n cs ≡ all_digits (take (n / 4) cs)
+  pub says_even : n % 4 ≡ 0 → length cs ≡ n / 4 → hex_says n cs ≡ all_digits cs
   unfolding hex_says
   says_even even count =
-      let parts : n ≡ 4 * (n / 4) + 0 = omega arith in
-      ap (λ (m : ℕ). hex_says m cs) parts ∙ says_whole (n / 4) 0 cs (omega arith) ∙ rw (drop_of_length-le cs {i = n / 4} (omega arith)) (and-true _)
+      let parts : n ≡ 4 * length cs + 0 = omega arith in
+      ap (λ (m : ℕ). hex_says m cs) parts ∙ says_whole (length cs) 0 cs (le_refl (length cs))
+      ∙ rw (take-length, drop_of_length-le cs {i = length cs} (le_refl (length cs))) (and-true _)
 
-  pub says_odd : ¬ (n % 4 ≡ 0) → length cs ≡ n / 4 + 1
-      → hex_says n cs ≡ (all_digits (take (n / 4) cs) && eqb (digit_char (kept (n % 4) (get_or cs (n / 4) 0))) (get_or cs (n / 4) 0))
-  unfolding hex_says
-  says_odd odd count =
-      let parts : n ≡ 4 * (n / 4) + n % 4 = omega arith in
-      let some : ltb 0 (n % 4) ≡ true = lt-ltb 0 (n % 4) (omega arith) in
-      let none : n % 4 - 4 ≡ 0 = omega arith in
-      ap (λ (m : ℕ). hex_says m cs) parts ∙ says_whole (n / 4) (n % 4) cs (omega arith)
-      ∙ rw (drop-cons cs (n / 4) 0 (omega arith), drop_of_length-le cs {i = suc (n / 4)} (omega arith), some, none)
-      (ap (λ (b : Bool). all_digits (take (n / 4) cs) && b) (and-true _))
+-- and one of fewer: the last one, whose digit is d
+pub says_odd : (n : ℕ) {cs : List ℕ} (whole : List ℕ) (last d : ℕ) → ¬ (n % 4 ≡ 0) → cs ≡ whole ++ (last ∷ []) → length whole ≡ n / 4 → d ≡ digit_char (kept (n % 4) last)
+    → hex_says n cs ≡ (all_digits whole && eqb d last)
+unfolding hex_says
+says_odd n whole last d odd parts count own =
+    let long : n ≡ 4 * length whole + n % 4 = omega arith in
+    let some : ltb 0 (n % 4) ≡ true = lt-ltb 0 (n % 4) (omega arith) in
+    let none : n % 4 - 4 ≡ 0 = omega arith in
+    let room : length whole ≤ length (whole ++ (last ∷ [])) = simp length-append (omega arith) in
+    ap₂ hex_says long parts ∙ says_whole (length whole) (n % 4) (whole ++ (last ∷ [])) room
+    ∙ rw (take-append_seam, drop-append_seam, some, none, own) (ap (λ (b : Bool). all_digits whole && b) (and-true _))

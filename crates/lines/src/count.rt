@@ -13,17 +13,7 @@ pub const DIGITS: usize = 5;
 pub fn before_tab(line: &[u8]) -> usize
     ensures { result ≡ tab_within 5 line.now }
 {
-    let mut i = 0;
-    while i < DIGITS {
-        if i >= line.len() {
-            return i;
-        }
-        if line[i] == TAB {
-            return i;
-        }
-        i += 1;
-    }
-    i
+    line.iter().take(DIGITS).take_while(|c| **c != TAB).count()
 }
 
 // The number that the first k characters of a line say.
@@ -32,11 +22,9 @@ pub fn number_in(line: &[u8], k: usize) -> u64
     ensures value { result ≡ decimal_value 0 (take k line.now) }
     ensures upper_bound { result < 2 ^ 32 }
 {
-    let mut sum: u64 = 0;
-    let mut i = 0;
-    while i < k {
-        sum = 10 * sum + said(line[i]);
-        i += 1;
+    let mut sum = 0;
+    for c in &line[..k] {
+        sum = 10 * sum + said(*c);
     }
     sum
 }
@@ -50,10 +38,8 @@ pub fn opens_with(line: &[u8], k: usize, n: u64) -> bool
         return false;
     }
     let mut left = n;
-    let mut i = k;
-    while i > 0 {
-        i -= 1;
-        if line[i] != digit(left % 10) {
+    for c in line[..k].iter().rev() {
+        if *c != digit(left % 10) {
             return false;
         }
         left /= 10;

@@ -1,5 +1,5 @@
 // The hex digits of a line of input: capitals, a quarter of the bits rounded up, spare bits zero.
-ghost use Rattle.std.specs.Prelude.{◌≡◌, ◌≤◌, ◌<◌, length, take};
+ghost use Rattle.std.specs.Prelude.{◌≡◌, ◌<◌};
 ghost use Rattle.lines.specs.Digits.{kept, is_digit, all_digits, hex_says};
 
 use text::number::{digit, said};
@@ -24,40 +24,34 @@ pub fn nibble(c: u8, n: usize) -> u64
 fn is_digit(c: u8) -> bool
     ensures { result ≡ is_digit c }
 {
-    ((c >= b'0') & (c <= b'9')) | ((c >= b'A') & (c <= b'F'))
+    c.is_ascii_digit() | ((c >= b'A') & (c <= b'F'))
 }
 
-// Whether the first k characters are digits: gathered and tested once, so that many are looked at at a time.
-fn all_digits(line: &[u8], k: usize) -> bool
-    requires { k ≤ length line.now }
-    ensures { result ≡ all_digits (take k line.now) }
+// Whether characters are digits: gathered and tested once, so that many are looked at at a time.
+fn all_digits(digits: &[u8]) -> bool
+    ensures { result ≡ all_digits digits.now }
 {
     let mut all = true;
-    let mut i = 0;
-    while i < k {
-        all = all & is_digit(line[i]);
-        i += 1;
+    for c in digits {
+        all &= is_digit(*c);
     }
     all
 }
 
 // Whether the characters are the digits of n bits.
-pub fn digits_say(line: &[u8], n: usize) -> bool
-    ensures { result ≡ hex_says n line.now }
+pub fn digits_say(digits: &[u8], n: usize) -> bool
+    ensures { result ≡ hex_says n digits.now }
 {
     let k = n / NIBBLE;
     let left = n % NIBBLE;
     if left == 0 {
-        if line.len() != k {
-            return false;
-        }
-        return all_digits(line, k);
+        return digits.len() == k && all_digits(digits);
     }
-    if line.len() != k + 1 {
+    let Some((&last, whole)) = digits.split_last() else {
+        return false;
+    };
+    if whole.len() != k {
         return false;
     }
-    if digit(nibble(line[k], left)) != line[k] {
-        return false;
-    }
-    all_digits(line, k)
+    digit(nibble(last, left)) == last && all_digits(whole)
 }

@@ -13,42 +13,30 @@ ghost use Rattle.lines.specs.Saying.{line_for};
 use format::STRETCH;
 use text::{LINE_FEED, TAB};
 
-// A line that says so many bits, whose digits begin at a place; or a bad one.
+// A line that says so many bits, whose digits begin at a place.
 #[derive(Clone, Copy)]
-pub enum Line {
-    Says(usize, usize),
-    Bad,
+pub struct Line {
+    pub bits: usize,
+    pub first: usize,
 }
 
-// What a line of input is: bit count, tab, digits, line feed.
-pub fn said_by(line: &[u8]) -> Line
+// What a line of input says, bit count, tab, digits, line feed; or nothing, if it is a bad one.
+pub fn said_by(line: &[u8]) -> Option<Line>
     ensures { result ≡ line_for (line_says line.now) }
 {
     let t = count::before_tab(line);
-    if t >= line.len() {
-        return Line::Bad;
-    }
-    if line[t] != TAB {
-        return Line::Bad;
+    if *line.get(t)? != TAB {
+        return None;
     }
     let n = count::number_in(line, t);
-    if n > STRETCH as u64 {
-        return Line::Bad;
-    }
-    if !count::opens_with(line, t, n) {
-        return Line::Bad;
+    if n > STRETCH as u64 || !count::opens_with(line, t, n) {
+        return None;
     }
     let first = t + 1;
-    let end = line.len() - 1;
-    if end < first {
-        return Line::Bad;
-    }
-    if line[end] != LINE_FEED {
-        return Line::Bad;
+    let (last, digits) = line[first..].split_last()?;
+    if *last != LINE_FEED {
+        return None;
     }
     let bits = n as usize;
-    if !digits::digits_say(&line[first..end], bits) {
-        return Line::Bad;
-    }
-    Line::Says(bits, first)
+    digits::digits_say(digits, bits).then_some(Line { bits, first })
 }

@@ -28,10 +28,8 @@ fn opened(out: &mut [u8], at: usize, letter: u8, values: &[i32]) -> usize
     ensures out_after { out.new ≡ sets out.old at (values_text letter values.now) }
 {
     let mut place = put(out, at, letter);
-    let mut i = 0;
-    while i < values.len() {
-        place = field(out, place, values[i]);
-        i += 1;
+    for v in values {
+        place = field(out, place, *v);
     }
     place
 }
@@ -49,23 +47,16 @@ pub fn record(out: &mut [u8], at: usize, letter: u8, values: &[i32]) -> usize
 // The letter of a row's line.
 const LETTER_R: u8 = b'R';
 
-// The line of the row that begins at a place of a row buffer. Its values are read first: of each that was read it is
-// known that it has 32 bits, and so that its line finds room.
-fn row(out: &mut [u8], at: usize, rows: &[i32], from: usize) -> usize
-    requires { (from + 8 ≤ length rows.now) × (at + row_long ≤ length out.old) }
-    ensures value { result ≡ at + length (record_text letter_r (take 8 (drop from rows.now))) }
-    ensures out_after { out.new ≡ sets out.old at (record_text letter_r (take 8 (drop from rows.now))) }
+// The line of a row. Its values are read first: of each that was read it is known that it has 32 bits, and so that its
+// line finds room.
+fn row(out: &mut [u8], at: usize, row: &[i32]) -> usize
+    requires { (length row.now ≡ 8) × (at + row_long ≤ length out.old) }
+    ensures value { result ≡ at + length (record_text letter_r row.now) }
+    ensures out_after { out.new ≡ sets out.old at (record_text letter_r row.now) }
     ensures upper_bound { result ≤ at + row_long }
 {
     let values = [
-        rows[from],
-        rows[from + 1],
-        rows[from + 2],
-        rows[from + 3],
-        rows[from + 4],
-        rows[from + 5],
-        rows[from + 6],
-        rows[from + 7],
+        row[0], row[1], row[2], row[3], row[4], row[5], row[6], row[7],
     ];
     record(out, at, LETTER_R, &values)
 }
@@ -81,10 +72,8 @@ pub fn rows(out: &mut [u8], at: usize, rows: &[i32], n: usize) -> usize
     ensures upper_bound { result ≤ at + row_long * n }
 {
     let mut place = at;
-    let mut i = 0;
-    while i < n {
-        place = row(out, place, rows, ROW * i);
-        i += 1;
+    for values in rows[..ROW * n].chunks_exact(ROW) {
+        place = row(out, place, values);
     }
     place
 }
@@ -136,7 +125,8 @@ pub fn message(
     crate::records::rows(out, first, rows, n)
 }
 
-// The letter of a stop's line, and the stop that says how many bits were missing.
+// The letter of a stop's line, and the stop that says how many bits were missing: a number, as the line prints it, since
+// Idle has one and is no refusal.
 const LETTER_E: u8 = b'E';
 
 const SHORT: u64 = 3;

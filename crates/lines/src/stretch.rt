@@ -8,7 +8,8 @@ ghost use Rattle.lines.specs.Digits.{hex_says};
 // What a digit says, without a branch: the digits from A on stand 64 and more behind 0, one place before what they say.
 fn four(c: u8) -> u8
     requires { (char_digit c < 16) × (digit_char (char_digit c) ≡ c) }
-    ensures { result ≡ char_digit c }
+    ensures value { result ≡ char_digit c }
+    ensures upper_bound { result < 16 }
 {
     c % 16 + 9 * (c / 64)
 }
@@ -18,35 +19,30 @@ pub fn stretch_in(line: &mut [u8], first: usize, n: usize)
     requires { (n ≤ 50850) × (first + (n + 3) / 4 ≤ length line.old) × (hex_says n (take ((n + 3) / 4) (drop first line.old)) ≡ true) }
     ensures { line.new ≡ sets line.old 0 (bytes_said (take n (hex_bits (take ((n + 3) / 4) (drop first line.old))))) }
 {
-    let digits = (n + 3) / 4;
+    let digits = n.div_ceil(4);
     let pairs = digits / 2;
-    let mut from = first;
-    let mut i = 0;
-    while i < pairs {
+    for i in 0..pairs {
+        let from = first + 2 * i;
         line[i] = four(line[from]) * 16 + four(line[from + 1]);
-        from += 2;
-        i += 1;
     }
     if digits % 2 == 1 {
-        line[i] = four(line[from]) * 16;
+        line[pairs] = four(line[first + 2 * pairs]) * 16;
     }
 }
 
-// The same bits as bytes into another buffer, from its first byte on.
+// The same bits as bytes into another buffer, from its first byte on. A loop of its own: a function for both would be
+// lent one buffer to read and one to write, and in place these are the same.
 pub fn stretch_of(line: &[u8], first: usize, n: usize, bytes: &mut [u8])
     requires { (n ≤ 50850) × (first + (n + 3) / 4 ≤ length line.now) × (hex_says n (take ((n + 3) / 4) (drop first line.now)) ≡ true) × ((n + 7) / 8 ≤ length bytes.old) }
     ensures { bytes.new ≡ sets bytes.old 0 (bytes_said (take n (hex_bits (take ((n + 3) / 4) (drop first line.now))))) }
 {
-    let digits = (n + 3) / 4;
+    let digits = n.div_ceil(4);
     let pairs = digits / 2;
-    let mut from = first;
-    let mut i = 0;
-    while i < pairs {
+    for i in 0..pairs {
+        let from = first + 2 * i;
         bytes[i] = four(line[from]) * 16 + four(line[from + 1]);
-        from += 2;
-        i += 1;
     }
     if digits % 2 == 1 {
-        bytes[i] = four(line[from]) * 16;
+        bytes[pairs] = four(line[first + 2 * pairs]) * 16;
     }
 }

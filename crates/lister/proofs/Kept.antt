@@ -1,21 +1,27 @@
 -- Bytes that come to a line. Assumes nothing.
-use mathlib.Core.Path.{◌≡◌, refl, ap}
-use mathlib.Core.List.{List, [], ◌∷◌}
-use Prim.Native.Nat.{ℕ, zero, suc, ◌+◌, ◌<◌, min}
+use mathlib.Core.Path.{◌≡◌, refl, sym, ap, ◌∙◌}
+use mathlib.Core.List.{List, [], ◌∷◌, ◌++◌, append_assoc}
+use Prim.Native.Nat.{ℕ, zero, suc, ◌+◌, ◌-◌, ◌≤◌, min}
 use native.Mathlib.Numerals.{unary_clauses}
 use native.Mathlib.Omega.{arith}
-use lib.ListN.{length, get_or, take, set}
-use lib.Seq.{take-suc, length-take-le, sets}
-use Rattle.text.proofs.Stores.{sets_append}
-
--- one byte more
-pub one_kept : (line : List ℕ) (filled : ℕ) (new : List ℕ) (i : ℕ) → i < length new
-    → sets line filled (take (suc i) new) ≡ set (sets line filled (take i new)) (filled + i) (get_or new i 0)
-one_kept line filled new i there =
-    rw (take-suc new i 0 there, sets_append line filled (take i new) (get_or new i 0 ∷ []), length-take-le i new (omega arith)) refl
+use lib.ListN.{length, take, drop, length-take}
+use lib.Seq.{sets-eq, drop-drop}
+use Rattle.lister.specs.Gathering.{kept_in}
 
 -- what finds room
-pub all_kept : (room : ℕ) (new : List ℕ) → take (min room (length new)) new ≡ take room new
-all_kept zero new = simp unary_clauses refl
+all_kept : (room : ℕ) (new : List ℕ) → take (min (length new) room) new ≡ take room new
+all_kept zero [] = refl
+all_kept zero (c ∷ cs) = simp unary_clauses refl
 all_kept (suc room) [] = simp unary_clauses refl
 all_kept (suc room) (c ∷ cs) = simp unary_clauses (ap (λ (l : List ℕ). c ∷ l) (all_kept room cs))
+
+-- the n bytes that find room, in the place of as many
+pub part_kept : (line : List ℕ) (filled : ℕ) (new part : List ℕ) (n k : ℕ) → filled ≤ length line → n ≡ min (length new) (length line - filled) → k ≡ n → part ≡ take n new
+    → take filled line ++ (part ++ drop k (drop filled line)) ≡ kept_in line filled new
+unfolding kept_in
+part_kept line filled new part n k there room count same =
+    let kept : List ℕ = take (length line - filled) new in
+    let whole : part ≡ kept = same ∙ rw room (all_kept (length line - filled) new) in
+    let long : length kept ≡ n = length-take (length line - filled) new ∙ omega arith in
+    let rest : drop k (drop filled line) ≡ drop (filled + length kept) line = drop-drop k filled line ∙ ap (λ (m : ℕ). drop (filled + m) line) (count ∙ sym long) in
+    rw (whole, rest) (sym (append_assoc (take filled line) kept (drop (filled + length kept) line)) ∙ sym (sets-eq kept line filled (omega arith)))

@@ -1,30 +1,42 @@
 -- Where a line ends in a piece of input, byte by byte. Assumes nothing.
 use mathlib.Core.Path.{◌≡◌, refl, sym, ap, ◌∙◌}
-use mathlib.Core.Bool.{Bool, true, false, cond}
+use mathlib.Core.Bool.{Bool, true, false, cond, not}
 use mathlib.Core.List.{List, [], ◌∷◌}
-use Prim.Native.Nat.{ℕ, zero, suc, ◌-◌, ◌≤◌, ◌<◌}
+use Prim.Native.Nat.{ℕ, zero, suc, ◌+◌, ◌-◌, ◌≤◌, ◌<◌, min}
 use native.Mathlib.Numerals.{unary_clauses}
 use native.Mathlib.Omega.{arith}
-use lib.Dec.{eqb}
-use lib.ListN.{length, get_or, drop, drop_of_length-le}
-use lib.Seq.{drop-cons}
-use borrow.Author.Tests.{eq-eqb, ne_eqb}
+use lib.Dec.{eqb, ltb}
+use lib.ListN.{length, get_or}
+use borrow.Author.Tests.{ltb-true, ltb-false}
+use Rattle.std.specs.Prelude.{Some, None}
+use Rattle.std.specs.List.{position, position_or_len}
+use Rattle.std.proofs.lemmas.Option.{cond_some, none-some}
 use Rattle.format.specs.Text.{line_feed}
 use Rattle.lister.specs.declared.Work.TheVariants.{Gathering, Whole}
 use Rattle.lister.specs.Gathering.{up_to, ends_in, filled_to, gathered}
 
-module _ (piece : List ℕ) (i : ℕ) where
-  pub feed_further : i < length piece → ¬ (get_or piece i 0 ≡ line_feed) → up_to (drop i piece) ≡ suc (up_to (drop (suc i) piece))
-  unfolding up_to
-  feed_further there other = rw (drop-cons piece i 0 there, up_to, ne_eqb (get_or piece i 0) line_feed other)
+-- by the place of the first line feed
+feed_at : (piece : List ℕ) → up_to piece ≡ min (position_or_len (λ c. eqb c line_feed) piece + 1) (length piece)
+unfolding up_to
+feed_at [] = refl
+feed_at (c ∷ cs) = go (eqb c line_feed) (position_or_len (λ c. eqb c line_feed) cs) (feed_at cs)
+  where
+    go : (b : Bool) (k : ℕ) → up_to cs ≡ min (k + 1) (length cs) → cond b 1 (suc (up_to cs)) ≡ min (cond (not b) (1 + k) 0 + 1) (suc (length cs))
+    go true k e = omega arith
+    go false k e = omega (arith, e)
 
-  pub feed_here : i < length piece → get_or piece i 0 ≡ line_feed → up_to (drop i piece) ≡ 1
-  unfolding up_to
-  feed_here there here = rw (drop-cons piece i 0 there, up_to, eq-eqb (get_or piece i 0) line_feed here)
+module _ (piece : List ℕ) where
+  pub feed_here : (i : ℕ) → position (λ c. eqb c line_feed) piece ≡ Some i → i + 1 ≡ up_to piece
+  feed_here i e =
+      let found = cond_some _ _ _ e in
+      omega (arith, feed_at piece, found.1, ltb-true _ _ found.0)
 
-  pub feed_never : length piece ≤ i → up_to (drop i piece) ≡ 0
-  unfolding up_to
-  feed_never past = rw (drop_of_length-le piece past)
+  pub feed_never : position (λ c. eqb c line_feed) piece ≡ None → length piece ≡ up_to piece
+  feed_never e = go (ltb (position_or_len (λ c. eqb c line_feed) piece) (length piece)) refl e
+    where
+      go : (b : Bool) → ltb (position_or_len (λ c. eqb c line_feed) piece) (length piece) ≡ b → cond b (Some (position_or_len (λ c. eqb c line_feed) piece)) None ≡ None → length piece ≡ up_to piece
+      go true t e = absurd (none-some _ (sym e))
+      go false t e = omega (arith, feed_at piece, ltb-false _ _ t)
 
 pub up_to_le : (piece : List ℕ) → up_to piece ≤ length piece
 unfolding up_to

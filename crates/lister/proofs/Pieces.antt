@@ -1,44 +1,60 @@
--- What taking a piece answers, by how many of its bytes belong to the line. Assumes nothing.
-use mathlib.Core.Path.{◌≡◌, refl, sym, ◌∙◌}
+-- What is under way after a piece, by how many of its bytes belong to the line. Assumes nothing.
+use mathlib.Core.Path.{◌≡◌, refl, sym, ap, ◌∙◌}
 use mathlib.Core.Bool.{cond}
 use mathlib.Core.List.{List}
-use Prim.Native.Nat.{ℕ, zero, suc, ◌-◌, ◌<◌}
+use Prim.Native.Nat.{ℕ, zero, suc, ◌-◌, ◌≤◌, ◌<◌}
 use native.Mathlib.Omega.{arith}
 use lib.Dec.{eqb}
 use lib.ListN.{length, get_or, take}
-use lib.Seq.{length-take-le, sets}
+use lib.Seq.{length-take-le, get_or-take}
+use Rattle.std.specs.Prelude.{Some, None}
+use Rattle.std.specs.List.{slice_get}
+use Rattle.std.proofs.lemmas.Option.{slice_get_within, get_or_from_slice_get, slice_get-get_or, none-some}
+use borrow.Author.Tests.{eq-eqb, ne_eqb}
 use Rattle.format.specs.Text.{line_feed}
-use Rattle.lister.specs.declared.gather.Gathered.{Gathered}
-use Rattle.lister.specs.declared.Work.{Work}
 use Rattle.lister.specs.declared.Work.TheVariants.{Gathering, Whole}
-use Rattle.lister.specs.Gathering.{up_to, kept_in, filled_to, gathered}
+use Rattle.lister.specs.Gathering.{up_to, filled_to, gathered}
 use Rattle.lister.proofs.LineFeeds.{some_gathered, none_gathered, up_to_le}
 
-abbrev pub Answers : Gathered → List ℕ → List ℕ → ℕ → List ℕ → Type 0
-Answers g after line filled piece =
-    (g ≡ record { work = gathered (length line) filled piece; taken = up_to piece }) × (after ≡ kept_in line filled (take (up_to piece) piece))
+module _ (room filled : ℕ) (piece : List ℕ) {n to : ℕ} (e : n ≡ up_to piece) (kept : to ≡ filled_to room filled (length (take n piece))) where
+  full : to ≡ filled_to room filled (up_to piece)
+  full = kept ∙ rw e (ap (filled_to room filled) (length-take-le (up_to piece) piece (up_to_le piece)))
 
-module _ (line : List ℕ) (filled : ℕ) (piece : List ℕ) where
-  -- none: nothing is stored
-  pub none_answers : (n : ℕ) → n ≡ up_to piece → n ≡ 0 → (work : Work) → cond (eqb filled 0) (Gathering 0) (Whole filled) ≡ work
-      → Answers (record { work = work; taken = 0 }) line line filled piece
-  unfolding kept_in
-  none_answers n e none work w =
-      let empty : up_to piece ≡ 0 = sym e ∙ none in
-      let same : work ≡ gathered (length line) filled piece = sym w ∙ sym (none_gathered (length line) filled piece empty) in
-      (λ i. record { work = same i; taken = sym empty i }, rw (empty) (nothing (length line - filled)))
+  long : length (take n piece) ≡ n
+  long = length-take-le n piece (omega (arith, e, up_to_le piece))
+
+  -- by the last of them
+  by_last : {x : ℕ} → Some x ≡ slice_get (take n piece) (length (take n piece) - 1) → cond (eqb x line_feed) (Whole to) (Gathering to) ≡ gathered room filled piece
+  by_last {x} last =
+      let new : List ℕ = take n piece in
+      let some : 0 < n = omega (arith, long, slice_get_within new (length new - 1) x (sym last)) in
+      let there : n - 1 < n = omega arith in
+      let same : x ≡ get_or piece (n - 1) 0 = sym (get_or_from_slice_get new (length new - 1) x 0 (sym last)) ∙ rw long (get_or-take n piece (n - 1) 0 there) in
+      rw (same, e, full) (sym (some_gathered room filled piece (omega (arith, e))))
+
+  pub line_ends : {x : ℕ} → Some x ≡ slice_get (take n piece) (length (take n piece) - 1) → x ≡ line_feed → Whole to ≡ gathered room filled piece
+  line_ends last feed = rw (eq-eqb _ _ feed) at (by_last last)
+
+  pub line_stays : {x : ℕ} → Some x ≡ slice_get (take n piece) (length (take n piece) - 1) → ¬ (x ≡ line_feed) → Gathering to ≡ gathered room filled piece
+  line_stays last other = rw (ne_eqb _ _ other) at (by_last last)
+
+  -- none: the input has ended
+  none : None ≡ slice_get (take n piece) (length (take n piece) - 1) → n ≡ 0
+  none last = go n refl
     where
-      nothing : (room : ℕ) → line ≡ sets line filled (take room (take 0 piece))
-      nothing zero = refl
-      nothing (suc room) = refl
+      go : (k : ℕ) → n ≡ k → n ≡ 0
+      go zero z = z
+      go (suc k) z = absurd (none-some _ (last ∙ slice_get-get_or (take n piece) (length (take n piece) - 1) 0 (omega (arith, long, z))))
 
-  -- some: by the last of them
-  pub some_answers : (n to : ℕ) (after : List ℕ) → n ≡ up_to piece → 0 < n → (work : Work) → cond (eqb (get_or piece (n - 1) 0) line_feed) (Whole to) (Gathering to) ≡ work
-      → (to ≡ filled_to (length line) filled (length (take n piece))) × (after ≡ kept_in line filled (take n piece))
-      → Answers (record { work = work; taken = n }) after line filled piece
-  some_answers n to after e some work w kept =
-      let long : length (take (up_to piece) piece) ≡ up_to piece = length-take-le (up_to piece) piece (up_to_le piece) in
-      let filled-to : to ≡ filled_to (length line) filled (up_to piece) = rw (e, long) at kept.0 in
-      let last : cond (eqb (get_or piece (up_to piece - 1) 0) line_feed) (Whole (filled_to (length line) filled (up_to piece))) (Gathering (filled_to (length line) filled (up_to piece))) ≡ work = rw (e, filled-to) at w in
-      let same : work ≡ gathered (length line) filled piece = sym last ∙ sym (some_gathered (length line) filled piece (omega (arith, e))) in
-      (λ i. record { work = same i; taken = e i }, rw e at kept.1)
+  alone : n ≡ 0 → filled ≤ room → to ≡ filled
+  unfolding filled_to
+  alone none there = full ∙ omega (arith, e)
+
+  pub input_ends : None ≡ slice_get (take n piece) (length (take n piece) - 1) → filled ≤ room → 0 < filled → Whole to ≡ gathered room filled piece
+  input_ends last there some =
+      ap Whole (alone (none last) there) ∙ sym (none_gathered room filled piece (sym e ∙ none last) ∙ rw (ne_eqb filled 0 (λ z. omega arith)))
+
+  pub nothing_comes : None ≡ slice_get (take n piece) (length (take n piece) - 1) → filled ≤ room → filled ≤ 0 → Gathering to ≡ gathered room filled piece
+  nothing_comes last there empty =
+      let zero : filled ≡ 0 = omega arith in
+      ap Gathering (alone (none last) there ∙ zero) ∙ sym (none_gathered room filled piece (sym e ∙ none last) ∙ rw (eq-eqb filled 0 zero))

@@ -1,29 +1,19 @@
 // A line gathered from pieces of input.
-ghost use Rattle.std.specs.Prelude.{◌≡◌, ◌≤◌, min, length, take};
+ghost use Rattle.std.specs.Prelude.{◌≡◌, ◌≤◌, length, take};
 ghost use Rattle.lister.specs.Gathering.{up_to, kept_in, filled_to, gathered};
 
 use crate::Work;
 use text::LINE_FEED;
 
-// How many bytes of a piece belong to the line under way.
+// How many bytes of a piece belong to the line under way: up to its line feed, or all.
 fn up_to(piece: &[u8]) -> usize
     ensures value { result ≡ up_to piece.now }
     ensures upper_bound { result ≤ length piece.now }
 {
-    let mut i = 0;
-    while i < piece.len() {
-        if piece[i] == LINE_FEED {
-            return i + 1;
-        }
-        i += 1;
+    match piece.iter().position(|c| *c == LINE_FEED) {
+        Some(i) => i + 1,
+        None => piece.len(),
     }
-    i
-}
-
-fn least(a: usize, b: usize) -> usize
-    ensures { result ≡ min a b }
-{
-    if a < b { a } else { b }
 }
 
 // Bytes come to a line of which so many have come, as long as there is room; how many it then has.
@@ -32,14 +22,10 @@ fn keep(line: &mut [u8], filled: usize, new: &[u8]) -> usize
     ensures value { result ≡ filled_to (length line.old) filled (length new.now) }
     ensures line_after { line.new ≡ kept_in line.old filled new.now }
 {
-    let room = line.len() - filled;
-    let n = least(room, new.len());
-    let mut i = 0;
-    while i < n {
-        line[filled + i] = new[i];
-        i += 1;
-    }
-    filled + n
+    let n = new.len().min(line.len() - filled);
+    let to = filled + n;
+    line[filled..to].copy_from_slice(&new[..n]);
+    to
 }
 
 // What is then under way, and how many bytes of the piece were taken.
@@ -55,29 +41,13 @@ pub fn gather(line: &mut [u8], filled: usize, piece: &[u8]) -> Gathered
     ensures value { result ≡ record { work = gathered (length line.old) filled piece.now; taken = up_to piece.now } }
     ensures line_after { line.new ≡ kept_in line.old filled (take (up_to piece.now) piece.now) }
 {
-    let n = up_to(piece);
-    if n == 0 {
-        if filled == 0 {
-            return Gathered {
-                work: Work::Gathering(0),
-                taken: 0,
-            };
-        }
-        return Gathered {
-            work: Work::Whole(filled),
-            taken: 0,
-        };
-    }
-    let last = piece[n - 1];
-    let to = keep(line, filled, &piece[..n]);
-    if last == LINE_FEED {
-        return Gathered {
-            work: Work::Whole(to),
-            taken: n,
-        };
-    }
-    Gathered {
-        work: Work::Gathering(to),
-        taken: n,
-    }
+    let taken = up_to(piece);
+    let new = &piece[..taken];
+    let to = keep(line, filled, new);
+    let work = match new.last() {
+        Some(last) if *last == LINE_FEED => Work::Whole(to),
+        None if filled > 0 => Work::Whole(to),
+        _ => Work::Gathering(to),
+    };
+    Gathered { work, taken }
 }

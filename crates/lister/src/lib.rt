@@ -11,7 +11,7 @@ ghost use Rattle.std.proofs.lemmas.List.Edits.{sets};
 ghost use Rattle.lines.specs.Records.{message_room};
 ghost use Rattle.lister.specs.Steps.{Good, step_of, answered};
 
-use crate::gather::gather;
+use crate::gather::{Gathered, gather};
 use crate::onward::onward;
 use crate::open::open;
 use holding::Holding;
@@ -61,19 +61,12 @@ pub fn advance(
     ensures out_after { out.new ≡ sets out.old 0 (step_of state line.old rows.old piece.now).text }
     ensures given_le_message_room { result.given ≤ message_room }
 {
-    let work = state.work;
-    let holding = state.holding;
-    match work {
+    match state.work {
         Work::Gathering(filled) => {
-            let gathered = gather(line, filled, piece);
-            let work = gathered.work;
+            let Gathered { work, taken } = gather(line, filled, piece);
             Step {
-                state: State {
-                    number: state.number,
-                    work,
-                    holding,
-                },
-                taken: gathered.taken,
+                state: State { work, ..state },
+                taken,
                 given: 0,
             }
         }

@@ -64,9 +64,9 @@ pub fn onward(
             };
             Step {
                 state: State {
-                    number: state.number,
                     work: Work::Walking(bits, behind),
                     holding,
+                    ..state
                 },
                 taken: 0,
                 given,

@@ -7,6 +7,7 @@ use native.Mathlib.Omega.{arith}
 use lib.Dec.{leb}
 use lib.ListN.{length}
 use borrow.Author.Tests.{leb-true}
+use Rattle.std.specs.Prelude.{Ok}
 use Rattle.format.specs.declared.Refusal.TheVariants.{Room, Value}
 use Rattle.format.specs.Good.{good}
 use Rattle.format.specs.Masks.{nothing, Lent, held_in}
@@ -16,7 +17,6 @@ use Rattle.format.proofs.SavedForm.{line_load}
 use Rattle.holding.specs.declared.Holding.{Holding}
 use Rattle.holding.specs.Pictures.{picture_of, sound}
 use Rattle.holding.proofs.Pictured.{sound_picture}
-use Rattle.saved.specs.declared.Saving.TheVariants as Savings
 use Rattle.saved.specs.Loads.{loading_by}
 use Rattle.saved.specs.Saves.{saving_by}
 
@@ -35,12 +35,12 @@ empty_sound h e = rw e (sound_picture nothing refl)
 
 -- the line fits
 fits : (size room n : ℕ) (h b : Bool) → leb size room ≡ b
-    → saving_by (verdict unsaved (saved size) (record { holds = h; else = Value } ∷ record { holds = b; else = Room } ∷ [])) ≡ Savings.Saved n → n ≤ room
+    → saving_by (verdict unsaved (saved size) (record { holds = h; else = Value } ∷ record { holds = b; else = Room } ∷ [])) ≡ Ok n → n ≤ room
 unfolding verdict saving_by
 fits size room n true true e s = let same : size ≡ n = cc in omega (arith, leb-true size room e)
 fits size room n true false e s = absurd (let z : ◌≡◌ {A = ℕ} 0 1 = cc in omega arith)
 fits size room n false b e s = absurd (let z : ◌≡◌ {A = ℕ} 0 1 = cc in omega arith)
 
-pub saved_fits : (holding : Lent) (buffer : List ℕ) (n : ℕ) → saving_by (saving holding buffer) ≡ Savings.Saved n → n ≤ length buffer
+pub saved_fits : (holding : Lent) (buffer : List ℕ) (n : ℕ) → saving_by (saving holding buffer) ≡ Ok n → n ≤ length buffer
 unfolding saving
 saved_fits holding buffer n e = fits (length (line_of (held_in holding))) (length buffer) n _ _ refl e

@@ -1,46 +1,44 @@
 // What the program's arguments ask for.
-ghost use Rattle.std.specs.Prelude.{◌≡◌, true};
+ghost use Rattle.std.specs.Prelude.{◌≡◌, true, IfOk};
 ghost use Rattle.holding.specs.Pictures.{sound};
 
 use holding::Holding;
-use saved::LoadAnswer;
 use std::env::FillError;
+use std::error::Error;
+use std::fmt;
 use std::rt::Env;
 use text::LINE_FEED;
 
-// Whether the listing is shown, whether the arguments are good, and the holding to start from.
+// Whether the listing is shown, and the holding to start from.
 #[derive(Clone, Copy)]
 pub struct Asked {
     pub shown: bool,
-    pub fine: bool,
     pub holding: Holding,
 }
 
-// The saved line that a buffer begins with, its line feed put behind it.
-fn from_line(buffer: &mut [u8], n: usize, shown: bool) -> Asked
-    ensures { sound result.holding ≡ true }
+// The second argument is no saved line: document 01's number of that, and what it means.
+#[derive(Clone, Copy, Debug, PartialEq, Eq)]
+pub struct NoSavedMask;
+
+impl fmt::Display for NoSavedMask {
+    fn fmt<W: fmt::Write>(&self, f: &mut fmt::Formatter<W>) -> fmt::Result {
+        write!(f, "12: no saved mask")
+    }
+}
+
+impl Error for NoSavedMask {}
+
+// The holding of the saved line that a buffer begins with, its line feed put behind it.
+fn from_line(buffer: &mut [u8], n: usize) -> Result<Holding, NoSavedMask>
+    ensures { IfOk result (λ h. sound h ≡ true) }
 {
     if n >= buffer.len() {
-        return Asked {
-            shown,
-            fine: false,
-            holding: Holding::empty(),
-        };
+        return Err(NoSavedMask);
     }
     buffer[n] = LINE_FEED;
-    let end = n + 1;
-    let loading = saved::load(&buffer[..end]);
-    let holding = loading.holding;
-    let answer = loading.answer;
-    let fine = match answer {
-        LoadAnswer::Loaded => true,
-        LoadAnswer::Refused(_) => false,
-    };
-    Asked {
-        shown,
-        fine,
-        holding,
-    }
+    let loading = saved::load(&buffer[..n + 1]);
+    loading.answer.map_err(|_| NoSavedMask)?;
+    Ok(loading.holding)
 }
 
 // Whether the first argument asks for the listing: it does unless it begins as `save` does, and where it is missing,
@@ -53,21 +51,14 @@ fn asks_listing(env: &impl Env, buffer: &mut [u8]) -> bool {
 }
 
 // The arguments, bytes of any kind, read into a buffer. A saved line that is longer than the buffer is none.
-pub fn arguments(env: &impl Env, buffer: &mut [u8]) -> Asked
-    ensures { sound result.holding ≡ true }
+pub fn arguments(env: &impl Env, buffer: &mut [u8]) -> Result<Asked, NoSavedMask>
+    ensures { IfOk result (λ asked. sound asked.holding ≡ true) }
 {
     let shown = asks_listing(env, buffer);
-    match env.arg(2, buffer) {
-        Ok(n) => from_line(buffer, n, shown),
-        Err(FillError::NotPresent) => Asked {
-            shown,
-            fine: true,
-            holding: Holding::empty(),
-        },
-        Err(FillError::TooLong) => Asked {
-            shown,
-            fine: false,
-            holding: Holding::empty(),
-        },
-    }
+    let holding = match env.arg(2, buffer) {
+        Ok(n) => from_line(buffer, n)?,
+        Err(FillError::NotPresent) => Holding::empty(),
+        Err(FillError::TooLong) => return Err(NoSavedMask),
+    };
+    Ok(Asked { shown, holding })
 }

@@ -4,59 +4,29 @@
 #![tactic(auto)]
 
 mod asked;
-mod input;
-mod output;
-mod pour;
+mod run;
 mod streams;
 
 use crate::asked::arguments;
-use crate::input::list;
-use crate::output::{Sink, flush, print_mask};
+use crate::run::{BUFFER, Run};
 use crate::streams::Streams;
-use format::ROOM;
-use lister::{LINE_ROOM, State, Work};
-
-// The number of the first line.
-const FIRST: u64 = 1;
-
-// How many bytes of input come at once at most, and how many of text wait.
-const BUFFER: usize = 65536;
 
 fn main(rt: HostRuntime) {
-    let mut line = [0u8; LINE_ROOM];
-    let mut rows = [0i32; ROOM];
     let mut input = [0u8; BUFFER];
-    let mut out = [0u8; BUFFER];
-    let start = arguments(&rt, &mut input);
-    let holding = start.holding;
-    if !start.fine {
-        let _ = eprintln!(rt; "12: no saved mask");
-        return;
-    }
-    let state = State {
-        number: FIRST,
-        work: Work::Gathering(0),
-        holding,
+    let asked = match arguments(&rt, &mut input) {
+        Ok(asked) => asked,
+        Err(error) => {
+            let _ = eprintln!(rt; "{error}");
+            return;
+        }
     };
-    let sink = Sink {
-        waiting: 0,
-        shown: start.shown,
-    };
-    let mut streams = Streams::new(rt.stdin(), rt.stdout());
-    let end = list(
-        &mut streams,
-        state,
-        &mut line,
-        &mut rows,
-        &mut input,
-        &mut out,
-        sink,
-    );
-    flush(&mut streams, &out, end.sink);
-    if !start.shown {
-        print_mask(&mut streams, end.state.holding, &mut out);
+    let mut run = Run::new(Streams::new(rt.stdin(), rt.stdout()), asked);
+    run.list(&mut input);
+    run.flush();
+    if !asked.shown {
+        run.print_mask();
     }
-    if let Some(error) = streams.failure {
+    if let Some(error) = run.streams.failure {
         let _ = eprintln!(rt; "listing: {error}");
     }
 }

@@ -1,46 +1,68 @@
--- Numbers of bytes, the least byte first, by places. Assumes nothing.
-use Rattle.bits.proofs.Words.{◌≡◌, refl, sym, ◌∙◌, Bool, true, false, ◌&&◌, List, [], ◌∷◌, ℕ, suc, ◌+◌, ◌*◌, ◌^◌, ◌≤◌, arith, leb, length, get_or, take, drop}
-use native.Mathlib.Nat.{add-zero}
-use borrow.Author.Tests.{leb-true, leb-false, le-leb, lt-leb}
-use lib.Bits.{bit_or, or_lt, or_add_and, and_le_l, and_le_r}
-use lib.Seq.{take_all, drop-drop, get_or-drop}
-use Rattle.bits.proofs.Lists.{elements, taken}
-use Rattle.passing.specs.Bytes.{little}
+-- Numbers of bytes, the least byte first, in std's words. Assumes nothing.
+use Rattle.std.proofs.Common.{◌≡◌, refl, sym, ap, ap₂, ◌∙◌, List, [], ◌∷◌, ℕ, zero, suc, ◌+◌, ◌*◌, ◌/◌, ◌%◌, ◌^◌, ◌<◌, arith, length, get_or, take, drop}
+use native.Mathlib.Nat.{div-div-eq-div-mul, mul_comm, pow-succ'}
+use lib.Seq.{get_or-drop, drop-drop}
+use Rattle.std.specs.Int.{sum_through, byte_worth, bytes_low_first}
+use Rattle.passing.specs.Bytes.{little, littles, parts}
 
--- the number from the j-th byte behind the i-th on: that byte, and 256 times the number from the next on
-little_step : (k : ℕ) (bs : List ℕ) (i j : ℕ) → little (suc k) (drop (i + j) bs) ≡ get_or bs (i + j) 0 + 256 * little k (drop (i + suc j) bs)
+-- a byte more, behind the others
+little_more : (k : ℕ) (bs : List ℕ) → little (suc k) bs ≡ little k bs + get_or bs k 0 * 256 ^ k
 unfolding little
-little_step k bs i j =
-    let next : i + j + 1 ≡ i + suc j = omega arith in
-    rw (get_or-drop (i + j) bs 0 0, add-zero (i + j), drop-drop 1 (i + j) bs, next)
+little_more zero bs = omega arith
+little_more (suc k) bs =
+    let next : 1 + k ≡ suc k = omega arith in
+    rw (little_more k (drop 1 bs), get_or-drop 1 bs k 0, next, pow-succ' 256 k) (omega arith)
 
-pub word_at : (bs : List ℕ) (i : ℕ) → get_or bs i 0 + get_or bs (i + 1) 0 * 256 ≡ little 2 (drop i bs)
+-- only these bytes are read
+little_take : (k : ℕ) (bs : List ℕ) → little k (take k bs) ≡ little k bs
 unfolding little
-word_at bs i = omega (arith, rw add-zero at (little_step 1 bs i 0), little_step 0 bs i 1)
+little_take zero bs = refl
+little_take (suc k) [] = refl
+little_take (suc k) (b ∷ bs) = rw (little_take k bs)
 
-pub long_at : (bs : List ℕ) (i : ℕ)
-    → get_or bs (i + 7) 0 * 2 ^ 56 + get_or bs (i + 6) 0 * 2 ^ 48 + get_or bs (i + 5) 0 * 2 ^ 40 + get_or bs (i + 4) 0 * 2 ^ 32 + get_or bs (i + 3) 0 * 2 ^ 24
-    + get_or bs (i + 2) 0 * 2 ^ 16 + get_or bs (i + 1) 0 * 2 ^ 8 + get_or bs i 0
-    ≡ little 8 (drop i bs)
+-- what `from_le_bytes` sums up
+worth : (k : ℕ) (bs : List ℕ) → sum_through (λ i. byte_worth i (get_or bs i 0)) k ≡ little (suc k) bs
 unfolding little
-long_at bs i =
-    omega (arith, rw add-zero at (little_step 7 bs i 0), little_step 6 bs i 1, little_step 5 bs i 2, little_step 4 bs i 3, little_step 3 bs i 4, little_step 2 bs i 5, little_step 1 bs i 6, little_step 0 bs i 7)
+worth zero bs = omega arith
+worth (suc k) bs = rw (worth k bs, little_more (suc k) bs) refl
 
--- five elements from one on
-pub five : {A : Type 0} (d : A) (l : List A) (i : ℕ) → i + 5 ≤ length l
-    → take 5 (drop i l) ≡ get_or l i d ∷ get_or l (i + 1) d ∷ get_or l (i + 2) d ∷ get_or l (i + 3) d ∷ get_or l (i + 4) d ∷ []
-unfolding elements
-five d l i room = rw add-zero at (taken d l i 0 5 (omega arith))
+pub little_worth : (k : ℕ) (bs : List ℕ) → sum_through (λ i. byte_worth i (get_or (take (suc k) bs) i 0)) k ≡ little (suc k) bs
+little_worth k bs = worth k (take (suc k) bs) ∙ little_take (suc k) bs
 
--- and all of five
-pub all_five : {A : Type 0} (d : A) (l : List A) → length l ≡ 5 → get_or l 0 d ∷ get_or l 1 d ∷ get_or l 2 d ∷ get_or l 3 d ∷ get_or l 4 d ∷ [] ≡ l
-all_five d l e = sym (five d l 0 (omega arith)) ∙ take_all 5 l (omega arith)
+-- ---- some numbers
 
--- two bytes stand for truths where their bits together do
-pub or_truth : (a b : ℕ) → leb (bit_or a b) 1 ≡ (leb a 1 && leb b 1)
-or_truth a b = go (leb a 1) (leb b 1) refl refl
-  where
-    go : (x y : Bool) → leb a 1 ≡ x → leb b 1 ≡ y → leb (bit_or a b) 1 ≡ (x && y)
-    go true true e f = le-leb (bit_or a b) 1 (omega (arith, or_lt 1 a b (omega (arith, leb-true a 1 e)) (omega (arith, leb-true b 1 f))))
-    go true false e f = lt-leb (bit_or a b) 1 (omega (arith, leb-false b 1 f, or_add_and a b, and_le_l a b))
-    go false y e f = lt-leb (bit_or a b) 1 (omega (arith, leb-false a 1 e, or_add_and a b, and_le_r a b))
+pub littles_length : (k n : ℕ) (bs : List ℕ) → length (littles k n bs) ≡ n
+unfolding littles
+littles_length k zero bs = refl
+littles_length k (suc n) bs = ap suc (littles_length k n (drop k bs))
+
+pub littles_at : (k n i from : ℕ) (bs : List ℕ) → i < n → little k (drop (from + k * i) bs) ≡ get_or (littles k n (drop from bs)) i 0
+unfolding littles
+littles_at k zero i from bs inside = elim inside [ ]
+littles_at k (suc n) zero from bs inside =
+    let here : from + k * 0 ≡ from = omega arith in
+    rw here refl
+littles_at k (suc n) (suc i) from bs inside =
+    let there : from + k * suc i ≡ from + k + k * i = omega arith in
+    rw (there, drop-drop k from bs) (littles_at k n i (from + k) bs (omega arith))
+
+-- each is what `from_le_bytes` sums up of the bytes that it has
+pub number_there : (k n i from : ℕ) (bs : List ℕ) → i < length (littles (suc k) n (drop from bs))
+    → get_or (littles (suc k) n (drop from bs)) i 0 ≡ sum_through (λ j. byte_worth j (get_or (take (suc k) (drop (from + suc k * i) bs)) j 0)) k
+number_there k n i from bs inside =
+    sym (littles_at (suc k) n i from bs (omega (arith, littles_length (suc k) n (drop from bs)))) ∙ sym (little_worth k (drop (from + suc k * i) bs))
+
+-- what `to_le_bytes` gives
+low : (i k n : ℕ) → bytes_low_first i k n ≡ parts k (n / 256 ^ i)
+unfolding parts
+low i zero n = refl
+low zero (suc k) n =
+    let first : n % 256 ≡ n / 1 % 256 = omega arith in
+    let next : n / 256 ^ 1 ≡ n / 1 / 256 = omega arith in
+    ap₂ ◌∷◌ first (low 1 k n ∙ ap (parts k) next)
+low (suc i) (suc k) n =
+    let next : n / 256 ^ suc (suc i) ≡ n / 256 ^ suc i / 256 = rw (div-div-eq-div-mul n (256 ^ suc i) 256) (ap (λ (d : ℕ). n / d) (pow-succ' 256 (suc i) ∙ mul_comm 256 (256 ^ suc i))) in
+    ap (λ (l : List ℕ). n / 256 ^ suc i % 256 ∷ l) (low (suc (suc i)) k n ∙ ap (parts k) next)
+
+pub low_first : (k n : ℕ) → bytes_low_first 0 k n ≡ parts k n
+low_first k n = low 0 k n ∙ ap (parts k) (omega arith)

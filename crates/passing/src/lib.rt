@@ -6,9 +6,12 @@ pub mod take;
 
 use holding::Holding;
 
-// Where the parts begin, behind what is said of the whole mask: by system IDs, flags, signal masks of two bytes and
-// satellite masks of eight; then the strips, of two. And how many bytes a holding has.
-pub const IDS: usize = 6;
+// Where the parts begin, behind four bytes that are said of the whole mask: how many cells it has, in two bytes; by
+// system IDs, flags, signal masks of two bytes and satellite masks of eight; then the strips, of two. And how many
+// bytes a holding has.
+pub const CELLS: usize = 4;
+
+pub const IDS: usize = CELLS + 2;
 
 pub const FLAGS: usize = IDS + Holding::SYSTEMS;
 

@@ -1,105 +1,56 @@
 // A holding out of lent bytes.
-ghost use Rattle.std.specs.Prelude.{◌≡◌, map, ◌+◌, ◌*◌, ◌≤◌, length, take, drop};
+ghost use Rattle.std.specs.Prelude.{◌≡◌, ◌+◌, ◌*◌, ◌≤◌, length, take, drop};
 ghost use Rattle.holding.specs.Outlines.{outline_of};
-ghost use Rattle.passing.specs.Bytes.{little, littles};
-ghost use Rattle.passing.specs.Passing.{size, truths, truth, passes, said};
+ghost use Rattle.passing.specs.Bytes.{littles};
+ghost use Rattle.passing.specs.Passing.{size, truths, passes, said};
 
-use crate::{FLAGS, IDS, SATELLITES, SIGNALS, SIZE, STRIPS};
-use bits::window::{four, join};
+use crate::{CELLS, FLAGS, IDS, SATELLITES, SIGNALS, SIZE, STRIPS};
 use holding::{Holding, Outline};
+use std::array;
 
-// Two bytes from one on, and eight, as a number, the least byte first.
-fn word(bytes: &[u8], i: usize) -> u16
-    requires { i + 2 ≤ length bytes.now }
-    ensures { result ≡ little 2 (drop i bytes.now) }
+// N bytes from one on.
+fn part<const N: usize>(bytes: &[u8], from: usize) -> [u8; N]
+    requires { from + N ≤ length bytes.now }
+    ensures { result ≡ take N (drop from bytes.now) }
 {
-    (bytes[i] as u16) + (bytes[i + 1] as u16) * 256
+    array::from_fn(|i| bytes[from + i])
 }
 
-fn long(bytes: &[u8], i: usize) -> u64
-    requires { i + 8 ≤ length bytes.now }
-    ensures { result ≡ little 8 (drop i bytes.now) }
+// N numbers of two bytes from one on, each with its least byte first.
+fn words<const N: usize>(bytes: &[u8], from: usize) -> [u16; N]
+    requires { from + 2 * N ≤ length bytes.now }
+    ensures { result ≡ littles 2 N (drop from bytes.now) }
 {
-    join(
-        four(bytes[i + 7], bytes[i + 6], bytes[i + 5], bytes[i + 4]),
-        four(bytes[i + 3], bytes[i + 2], bytes[i + 1], bytes[i]),
-    )
+    array::from_fn(|i| u16::from_le_bytes(part(bytes, from + 2 * i)))
 }
 
-// Some numbers of two bytes, from a byte on, and of eight.
-fn words(to: &mut [u16], bytes: &[u8], from: usize)
-    requires { (from + 2 * length to.old ≤ length bytes.now) × (length to.old ≤ 64) }
-    ensures { to.new ≡ littles 2 (length to.old) (drop from bytes.now) }
-{
-    let mut i = 0;
-    while i < to.len() {
-        to[i] = word(bytes, from + 2 * i);
-        i += 1;
-    }
-}
-
-fn longs(to: &mut [u64], bytes: &[u8], from: usize)
-    requires { (from + 8 * length to.old ≤ length bytes.now) × (length to.old ≤ 64) }
-    ensures { to.new ≡ littles 8 (length to.old) (drop from bytes.now) }
-{
-    let mut i = 0;
-    while i < to.len() {
-        to[i] = long(bytes, from + 8 * i);
-        i += 1;
-    }
-}
-
-// Whether the bytes that stand for a truth are 0 or 1: all of them are where their bits together are.
+// Whether the bytes that stand for a truth are 0 or 1: all of them are where their bits together are,
+// which takes no branch for each.
+#[tactic(auto, using(crate::proofs::Truths::or_truths))]
 fn truths(bytes: &[u8]) -> bool
     requires { size ≤ length bytes.now }
     ensures { result ≡ truths (take 5 (drop 11 bytes.now)) }
 {
-    let last = bytes[FLAGS + 3] | bytes[FLAGS + 4];
-    (bytes[FLAGS] | (bytes[FLAGS + 1] | (bytes[FLAGS + 2] | last))) <= 1
+    bytes[FLAGS..SIGNALS].iter().fold(0, |all, b| all | *b) <= 1
 }
 
-// By system: IDs, flags, signal masks and satellite masks.
-fn ids(bytes: &[u8]) -> [u8; Holding::SYSTEMS]
+// The satellite masks, by system. They are put into a lent array by a function of its own: copied whole, as `from_fn`
+// would, they take a writer 10 instructions a message more.
+fn masks(to: &mut [u64; Holding::SYSTEMS], bytes: &[u8])
     requires { size ≤ length bytes.now }
-    ensures { result ≡ take 5 (drop 6 bytes.now) }
+    ensures { to.new ≡ littles 8 5 (drop 26 bytes.now) }
 {
-    let mut ids = [0u8; Holding::SYSTEMS];
-    let mut i = 0;
-    while i < Holding::SYSTEMS {
-        ids[i] = bytes[IDS + i];
-        i += 1;
+    for (i, mask) in to.iter_mut().enumerate() {
+        *mask = u64::from_le_bytes(part(bytes, SATELLITES + 8 * i));
     }
-    ids
-}
-
-fn flags(bytes: &[u8]) -> [bool; Holding::SYSTEMS]
-    requires { size ≤ length bytes.now }
-    ensures { result ≡ map truth (take 5 (drop 11 bytes.now)) }
-{
-    [
-        bytes[FLAGS] == 1,
-        bytes[FLAGS + 1] == 1,
-        bytes[FLAGS + 2] == 1,
-        bytes[FLAGS + 3] == 1,
-        bytes[FLAGS + 4] == 1,
-    ]
-}
-
-fn signals(bytes: &[u8]) -> [u16; Holding::SYSTEMS]
-    requires { size ≤ length bytes.now }
-    ensures { result ≡ littles 2 5 (drop 16 bytes.now) }
-{
-    let mut signals = [0u16; Holding::SYSTEMS];
-    words(&mut signals, bytes, SIGNALS);
-    signals
 }
 
 pub fn satellites(bytes: &[u8]) -> [u64; Holding::SYSTEMS]
     requires { size ≤ length bytes.now }
     ensures { result ≡ littles 8 5 (drop 26 bytes.now) }
 {
-    let mut satellites = [0u64; Holding::SYSTEMS];
-    longs(&mut satellites, bytes, SATELLITES);
+    let mut satellites = [0; Holding::SYSTEMS];
+    masks(&mut satellites, bytes);
     satellites
 }
 
@@ -108,13 +59,11 @@ pub fn strips(bytes: &[u8]) -> [u16; Holding::SATELLITES]
     requires { size ≤ length bytes.now }
     ensures { result ≡ littles 2 64 (drop 66 bytes.now) }
 {
-    let mut strips = [0u16; Holding::SATELLITES];
-    words(&mut strips, bytes, STRIPS);
-    strips
+    words(bytes, STRIPS)
 }
 
-// What so many bytes say but for masks and strips. A caller that goes on with a holding in parts asks for each of them, and no
-// holding is made to be taken apart.
+// What so many bytes say but for masks and strips. A caller that goes on with a holding in parts asks for each of them,
+// and no holding is made to be taken apart.
 pub fn outline(bytes: &[u8]) -> Outline
     requires { size ≤ length bytes.now }
     ensures { result ≡ outline_of (said bytes.now) }
@@ -124,14 +73,15 @@ pub fn outline(bytes: &[u8]) -> Outline
         iod: bytes[1],
         count: bytes[2],
         nsat: bytes[3],
-        ids: ids(bytes),
-        flags: flags(bytes),
-        signals: signals(bytes),
-        ncell: word(bytes, 4) as usize,
+        ids: part(bytes, IDS),
+        flags: part(bytes, FLAGS).map(|byte| byte == 1),
+        signals: words(bytes, SIGNALS),
+        ncell: u16::from_le_bytes(part(bytes, CELLS)) as usize,
     }
 }
 
 // All that they say.
+#[tactic(auto, unfolding(crate::specs::Passing::said))]
 pub fn said(bytes: &[u8]) -> Holding
     requires { size ≤ length bytes.now }
     ensures { result ≡ said bytes.now }
@@ -140,14 +90,9 @@ pub fn said(bytes: &[u8]) -> Holding
 }
 
 // Whether there are 194, and those that stand for a truth are 0 or 1: others say no holding.
+#[tactic(auto, unfolding(crate::specs::Passing::passes))]
 pub fn passes(bytes: &[u8]) -> bool
     ensures { result ≡ passes bytes.now }
 {
-    if bytes.len() < SIZE {
-        return false;
-    }
-    if bytes[0] > 1 {
-        return false;
-    }
-    truths(bytes)
+    bytes.len() >= SIZE && bytes[0] <= 1 && truths(bytes)
 }

@@ -80,10 +80,7 @@ fn sole(bytes: &[u8], at: usize, c: Column) -> i32
 fn paired(s: Shape) -> bool
     ensures { result ≡ (eqb s.v3.width 0 && ltb 0 s.v1.width) }
 {
-    if s.v3.width > 0 {
-        return false;
-    }
-    s.v1.width > 0
+    s.v3.width == 0 && s.v1.width > 0
 }
 
 // A row of five columns: four values are cut from one window, moved so that the last of them is lowest, and the fifth
@@ -239,7 +236,7 @@ fn anywhere(row: &mut [i32], key: Key, bytes: &[u8], at: usize, s: Shape)
 }
 
 // How many bits an IODE has, by a row's first key.
-fn iode_by(system: i32) -> usize
+pub fn iode_by(system: i32) -> usize
     ensures { result ≡ iode_width (mag system) }
 {
     if magnitude(system) == shapes::GALILEO as u64 {
@@ -256,10 +253,10 @@ fn shape_in(s: Shape, system: i32) -> Shape
     if !s.iode {
         return s;
     }
-    let mut own = s;
-    let iode = shape::plain(iode_by(system));
-    own.v1 = iode;
-    own
+    Shape {
+        v1: shape::plain(iode_by(system)),
+        ..s
+    }
 }
 
 // The values of a row whose keys stand there, wherever the string ends; and the place behind them.

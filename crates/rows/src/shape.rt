@@ -53,9 +53,8 @@ pub fn counts(w: usize) -> Column
     ensures { result ≡ column_for (counts w) }
 {
     Column {
-        width: w,
         half: 1u32 << (w - 1),
-        mask: (1u32 << w) - 1,
+        ..plain(w)
     }
 }
 

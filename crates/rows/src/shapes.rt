@@ -1,5 +1,6 @@
 // The table of the rows' shapes (document 01, "What is handed out"; document 02, Ask 1), by number: those by the flags
-// of orbit and clock first, those by the flags of code and phase biases from BIASES on.
+// of orbit and clock first, those by the flags of code and phase biases from BIASES on. Numbers, and no enum: a head's
+// two flags are added to the first of four, and specs/Table.antt has a shape by its number.
 ghost use Rattle.std.specs.Prelude.{◌≡◌, false, ◌≤◌};
 ghost use Rattle.format.specs.Messages.{iode_width};
 ghost use Rattle.format.specs.Rows.{gap, shape_width};

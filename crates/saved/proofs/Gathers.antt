@@ -8,7 +8,7 @@ use native.Mathlib.Numerals.{add-one}
 use native.Mathlib.Omega.{arith}
 use lib.Count.{ones}
 use lib.Dec.{eqb}
-use lib.ListN.{length, get_or, take, drop}
+use lib.ListN.{length, get_or, drop, drop_of_length-le}
 use lib.Pow.{pow_mono}
 use lib.Seq.{drop-cons}
 use borrow.Author.Tests.{eq-eqb, ne_eqb}
@@ -91,16 +91,12 @@ all_gathered {signals} {strip} {bits} g none = sym (rw none at g.all ∙ omega a
 -- ---- satellite by satellite
 
 -- the next one's bits come first
-pub next_strip : (signals : ℕ) (strips : List ℕ) (i end : ℕ) → i < end → end ≤ length strips
-    → cell_bits signals (take (end - i) (drop i strips)) ≡ strip_bits signals (get_or strips i 0) ++ cell_bits signals (take (end - (i + 1)) (drop (i + 1) strips))
+pub next_strip : (signals : ℕ) (strips : List ℕ) (i : ℕ) → i < length strips
+    → cell_bits signals (drop i strips) ≡ strip_bits signals (get_or strips i 0) ++ cell_bits signals (drop (i + 1) strips)
 unfolding flat_map
-next_strip signals strips i end more room =
-    let left : end - i ≡ suc (end - (i + 1)) = omega arith in
-    rw (left, drop-cons strips i 0 (omega arith), add-one i)
+next_strip signals strips i more = rw (drop-cons strips i 0 more, add-one i)
 
 -- none is left
-pub no_strip : (signals : ℕ) (strips : List ℕ) (i end : ℕ) → end ≤ i → cell_bits signals (take (end - i) (drop i strips)) ≡ []
+pub no_strip : (signals : ℕ) (strips : List ℕ) (i : ℕ) → length strips ≤ i → cell_bits signals (drop i strips) ≡ []
 unfolding flat_map
-no_strip signals strips i end all =
-    let none : end - i ≡ 0 = omega arith in
-    rw none
+no_strip signals strips i all = rw (drop_of_length-le strips all)

@@ -6,6 +6,7 @@ use Prim.Native.Nat.{ℕ}
 use lib.Dec.{eqb}
 use lib.ListN.{replicate}
 use borrow.Author.Tests.{eqb-true}
+use Rattle.std.specs.Prelude.{Ok, Err}
 use Rattle.format.proofs.Sames.{same_list_sound, same_list_refl, eqb_refl}
 use Rattle.format.proofs.SavedForm.{load_line, line_load}
 use Rattle.format.specs.declared.Refusal.TheVariants.{Value}
@@ -20,7 +21,6 @@ use Rattle.holding.specs.declared.Holding.{Holding}
 use Rattle.holding.specs.declared.Outline.{Outline}
 use Rattle.holding.specs.Outlines.{outline_of}
 use Rattle.holding.specs.Pictures.{picture_of, mask_of, sound}
-use Rattle.saved.specs.declared.LoadAnswer.TheVariants.{Loaded, Refused}
 use Rattle.saved.specs.Loads.{loading_of, loading_by, done_loaded}
 use Rattle.saved.proofs.MasksSaid.{empty_whole}
 
@@ -51,18 +51,18 @@ module _ (line : List ℕ) (h : Holding) (would : (held : Held) → good held �
   pub not_own : same_list eqb (line_of (mask_of h)) line ≡ false → load line ≡ unloaded Value
   not_own off = not_loaded line (λ held e. false≢true (sym off ∙ (own_line held e).1))
 
-  pub is_loaded : sound h ≡ true → same_list eqb (line_of (mask_of h)) line ≡ true → loading_by (load line) ≡ record { answer = Loaded; holding = h }
+  pub is_loaded : sound h ≡ true → same_list eqb (line_of (mask_of h)) line ≡ true → loading_by (load line) ≡ record { answer = Ok tt; holding = h }
   unfolding loading_by
   is_loaded on same =
       let sounds = picture_sound h on in
       let loads : load line ≡ loaded (mask_of h) = ap load (sym (same_list_sound eqb eqb-true (line_of (mask_of h)) line same)) ∙ load_line (mask_of h) sounds.0 in
-      ap loading_by loads ∙ ap (λ (g : Holding). record { answer = Loaded; holding = g }) sounds.1
+      ap loading_by loads ∙ ap (λ (g : Holding). record { answer = Ok tt; holding = g }) sounds.1
 
 -- the empty holding in parts beside a refusal
 pub is_refused : (line : List ℕ) → load line ≡ unloaded Value → {o : Outline} → o ≡ outline_of (picture_of nothing)
-    → loading_of (record { answer = Refused Value; outline = o }) (replicate 5 0) (replicate 64 0) ≡ loading_by (load line)
+    → loading_of (record { answer = Err Value; outline = o }) (replicate 5 0) (replicate 64 0) ≡ loading_by (load line)
 unfolding loading_by
-is_refused line off empty = ap (λ (h : Holding). record { answer = Refused Value; holding = h }) (empty_whole empty) ∙ sym (ap loading_by off)
+is_refused line off empty = ap (λ (h : Holding). record { answer = Err Value; holding = h }) (empty_whole empty) ∙ sym (ap loading_by off)
 
 -- ---- what the code answers is the paper's answer
 

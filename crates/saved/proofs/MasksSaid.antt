@@ -1,5 +1,5 @@
 -- The mask that a line says, system by system: what is built, and the systems that are left. Assumes nothing.
-use mathlib.Core.Path.{◌≡◌, refl, sym, ap, ◌∙◌}
+use mathlib.Core.Path.{◌≡◌, refl, sym, ap, subst, ◌∙◌}
 use mathlib.Core.Bool.{true}
 use mathlib.Core.List.{List, [], ◌∷◌, ◌++◌, append_assoc, append-nil, flat_map}
 use Prim.Native.Nat.{ℕ, ◌+◌, ◌*◌, ◌≤◌, ◌<◌}
@@ -179,17 +179,17 @@ none_built line iod at {o} {sats} {strips} empty masks none =
       says = λ ss fine text. record { before = []; rest = ss; all = refl; fit = fine; picture = is; text = text };
     }
 
--- with a slot more, of some satellites and cells
-abbrev pub slotted : Outline → Slot → ℕ → ℕ → Outline
-slotted o s n cells =
+-- with a slot more at a place, of some satellites and cells
+abbrev pub slotted : Outline → ℕ → Slot → ℕ → ℕ → Outline
+slotted o i s n cells =
     record {
       held = o.held;
       iod = o.iod;
-      count = o.count + 1;
+      count = i + 1;
       nsat = o.nsat + n;
-      ids = set o.ids o.count s.id;
-      flags = set o.flags o.count s.flag;
-      signals = set o.signals o.count s.signals;
+      ids = set o.ids i s.id;
+      flags = set o.flags i s.flag;
+      signals = set o.signals i s.signals;
       ncell = o.ncell + cells;
     }
 
@@ -199,14 +199,16 @@ module _ {line : List ℕ} {iod at : ℕ} {o : Outline} {sats strips : List ℕ}
   said s = strips_said s (ones s.satellites) (hex_bits (drop (place + 21) line))
 
   slotted_is : (s : Slot) {n cells : ℕ} {after : List ℕ} → n ≡ ones s.satellites → cells ≡ ones_in (said s) → after ≡ sets strips o.nsat (said s)
-      → whole_of (slotted o s n cells) (set sats o.count s.satellites) after ≡ with_slot (whole_of o sats strips) s (drop (place + 21) line)
+      → whole_of (slotted o o.count s n cells) (set sats o.count s.satellites) after ≡ with_slot (whole_of o sats strips) s (drop (place + 21) line)
   unfolding with_system with_strips
   slotted_is s count sum stored = rw (count, sum, stored, length_said s (ones s.satellites) (hex_bits (drop (place + 21) line)))
 
-  pub next_built : o.count < 5 → get_or line place 0 ≡ tab → {s : Slot} → s ≡ slot_said (drop place line) → {n : ℕ} → n ≡ ones s.satellites → o.nsat + n ≤ 64
+  pub next_built : {i : ℕ} → o.count ≡ i → i < 5 → get_or line place 0 ≡ tab → {s : Slot} → s ≡ slot_said (drop place line) → {n : ℕ} → n ≡ ones s.satellites → o.nsat + n ≤ 64
       → {cells : ℕ} {after : List ℕ} → ((cells ≡ ones_in (said s)) × (cells ≤ 1024)) × (after ≡ sets strips o.nsat (said s)) → {long : ℕ} → (long ≡ system_long s) × (long ≤ 5000)
-      → Building line iod at (slotted o s n cells) (set sats o.count s.satellites) after (place + long)
-  next_built room here {s} e count few stored size =
+      → Building line iod at (slotted o i s n cells) (set sats i s.satellites) after (place + long)
+  next_built {i} counted below here {s} e {n} count few {cells} {after} stored {long} size =
+      let room : o.count < 5 = omega (arith, counted, below) in
+      subst (λ (i : ℕ). Building line iod at (slotted o i s n cells) (set sats i s.satellites) after (place + long)) counted
       record {
         slots = omega arith;
         satellites = omega arith;

@@ -87,13 +87,11 @@ fn strips_said(
     let w = set_places::count(s.signals as u64);
     let mut first = 0;
     let mut cells = 0;
-    let mut i = 0;
-    while i < n {
+    for i in 0..n {
         let strip = strip_said(s, line, at, first);
         strips[from + i] = strip;
         cells += set_places::count(strip as u64);
         first += w;
-        i += 1;
     }
     cells
 }
@@ -110,17 +108,15 @@ fn mask_said(
     requires { (at < 2 ^ 16) × (satellites.old ≡ replicate 5 0) × (strips.old ≡ replicate 64 0) }
     ensures { (ss : List System) → good_systems [] ss ≡ true → drop at line.now ≡ text_from ss → whole_of result satellites.new strips.new ≡ picture_of (mask (record { iod = iod; systems = ss })) }
 {
-    let empty = Holding::empty();
-    let mut h = empty.outline();
+    let mut h = Holding::empty().outline();
     h.held = true;
     h.iod = iod;
     let mut place = at;
-    while (h.count as usize) < Holding::SYSTEMS {
+    for i in 0..Holding::SYSTEMS {
         if char_at(line, place) != TAB {
             return h;
         }
         let s = slot_said(line, place);
-        let i = h.count as usize;
         let first = h.nsat as usize;
         let n = set_places::count(s.satellites);
         if first + n > Holding::SATELLITES {
@@ -164,8 +160,7 @@ pub fn candidate(
     *satellites = [0; Holding::SYSTEMS];
     *strips = [0; Holding::SATELLITES];
     if char_at(line, ISSUE) == DASH {
-        let empty = Holding::empty();
-        return empty.outline();
+        return Holding::empty().outline();
     }
     let iod = issue_said(line);
     let at = ISSUE + number::decimals(iod as u64);

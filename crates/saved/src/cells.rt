@@ -16,9 +16,7 @@ pub fn gather(signals: u16, strip: u16) -> u64
     ensures { result ≡ number (strip_bits signals strip) }
 {
     let mut bits: u64 = 0;
-    let mut i = Holding::SIGNAL_MASK;
-    while i > 0 {
-        i -= 1;
+    for i in (0..Holding::SIGNAL_MASK).rev() {
         if (signals >> i) % 2 == 1 {
             bits = bits * 2 + ((strip >> i) % 2) as u64;
         }
@@ -26,33 +24,23 @@ pub fn gather(signals: u16, strip: u16) -> u64
     bits
 }
 
-// The parts of n satellites from one on, as text from a place on; the place behind it. A digit is stored when its four bits
+// The parts of some satellites, as text from a place on; the place behind it. A digit is stored when its four bits
 // are there.
-pub fn mask_text(
-    line: &mut [u8],
-    at: usize,
-    strips: &[u16],
-    from: usize,
-    n: usize,
-    signals: u16,
-) -> usize
-    requires { (from + n ≤ length strips.now) × (at + length (hex (cell_bits signals (take n (drop from strips.now)))) ≤ length line.old) }
-    ensures value { result ≡ at + length (hex (cell_bits signals (take n (drop from strips.now)))) }
-    ensures line_after { line.new ≡ sets line.old at (hex (cell_bits signals (take n (drop from strips.now)))) }
+pub fn mask_text(line: &mut [u8], at: usize, strips: &[u16], signals: u16) -> usize
+    requires { at + length (hex (cell_bits signals strips.now)) ≤ length line.old }
+    ensures value { result ≡ at + length (hex (cell_bits signals strips.now)) }
+    ensures line_after { line.new ≡ sets line.old at (hex (cell_bits signals strips.now)) }
 {
     let w = set_places::count(signals as u64);
     let mut place = at;
     let mut pending: u64 = 0;
     let mut bits = 0;
-    let end = from + n;
-    let mut i = from;
-    while i < end {
-        let all = (pending << w) + gather(signals, strips[i]);
+    for strip in strips {
+        let all = (pending << w) + gather(signals, *strip);
         let digits = (bits + w) / DIGIT;
         bits = (bits + w) % DIGIT;
         place = number::hex(line, place, digits, all >> bits);
         pending = all % (1u64 << bits);
-        i += 1;
     }
     if bits == 0 {
         return place;

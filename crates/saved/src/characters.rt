@@ -11,10 +11,7 @@ use text::number::said;
 pub fn char_at(line: &[u8], i: usize) -> u8
     ensures { result ≡ get_or line.now i 0 }
 {
-    if i < line.len() {
-        return line[i];
-    }
-    0
+    line.get(i).copied().unwrap_or(0)
 }
 
 // A bit of the digits from a place on.
@@ -33,9 +30,7 @@ pub fn spread_at(line: &[u8], at: usize, first: usize, places: u64, w: usize) ->
 {
     let mut word: u64 = 0;
     let mut next = first;
-    let mut i = w;
-    while i > 0 {
-        i -= 1;
+    for i in (0..w).rev() {
         if (places >> i) % 2 == 1 {
             word = word * 2 + bit_at(line, at, next);
             next += 1;

@@ -17,62 +17,52 @@ ghost use Rattle.saved.specs.Saves.{saving_by};
 use format::Refusal;
 use holding::{Holding, Outline};
 
-// How saving ends: how long the line is, or the refusal.
-#[derive(Clone, Copy)]
-pub enum Saving {
-    Saved(usize),
-    Refused(Refusal),
-}
-
-// How loading ends: a holding is loaded, or the line is refused.
-#[derive(Clone, Copy)]
-pub enum LoadAnswer {
-    Loaded,
-    Refused(Refusal),
-}
-
-// The answer, and the holding: the empty one beside a refusal.
+// Whether a holding is loaded or the line is refused, and the holding. Not one `Result`: C is handed the empty holding beside
+// a refusal, and the clauses of `load` and `load_parts` say so.
 #[derive(Clone, Copy)]
 pub struct Loading {
-    pub answer: LoadAnswer,
+    pub answer: Result<(), Refusal>,
     pub holding: Holding,
 }
 
 // The same with the holding in parts: its masks and strips stand in arrays that are lent, as `load_parts` leaves them.
 #[derive(Clone, Copy)]
 pub struct LoadingParts {
-    pub answer: LoadAnswer,
+    pub answer: Result<(), Refusal>,
     pub outline: Outline,
 }
 
-// A holding in parts as a line, from the lent buffer's first byte on; later bytes stay. A refusal changes nothing.
+// A holding in parts as a line, from the lent buffer's first byte on; later bytes stay. How long the line is, or a refusal,
+// which changes nothing.
 pub fn save_parts(
     outline: Outline,
     satellites: &[u64; Holding::SYSTEMS],
     strips: &[u16; Holding::SATELLITES],
     line: &mut [u8],
-) -> Saving
+) -> Result<usize, Refusal>
     ensures value { result ≡ saving_by (saving (lent_by (whole_of outline satellites.now strips.now)) line.old) }
     ensures line_after { line.new ≡ buffer_after (saving (lent_by (whole_of outline satellites.now strips.now)) line.old) (mask_of (whole_of outline satellites.now strips.now)) line.old }
 {
     if !outline.is_sound(satellites, strips) {
-        return Saving::Refused(Refusal::Value);
+        return Err(Refusal::Value);
     }
     if line.len() < line::line_long(outline, satellites) {
-        return Saving::Refused(Refusal::Room);
+        return Err(Refusal::Room);
     }
-    Saving::Saved(line::line_text(line, outline, satellites, strips))
+    Ok(line::line_text(line, outline, satellites, strips))
 }
 
 // The same of a holding by value.
-pub fn save(holding: Holding, line: &mut [u8]) -> Saving
+pub fn save(holding: Holding, line: &mut [u8]) -> Result<usize, Refusal>
     ensures value { result ≡ saving_by (saving (lent_by holding) line.old) }
     ensures line_after { line.new ≡ buffer_after (saving (lent_by holding) line.old) (mask_of holding) line.old }
 {
-    let satellites = holding.satellites;
-    let strips = holding.strips;
-    let outline = holding.outline();
-    save_parts(outline, &satellites, &strips, line)
+    save_parts(
+        holding.outline(),
+        &holding.satellites,
+        &holding.strips,
+        line,
+    )
 }
 
 // The holding that a line says, in parts: the one that it would say, if that is a holding and the line is its own. A form is
@@ -89,17 +79,16 @@ pub fn load_parts(
     if outline.is_sound(satellites, strips) {
         if line::is_own(outline, satellites, strips, line) {
             return LoadingParts {
-                answer: LoadAnswer::Loaded,
+                answer: Ok(()),
                 outline,
             };
         }
     }
     *satellites = [0; Holding::SYSTEMS];
     *strips = [0; Holding::SATELLITES];
-    let empty = Holding::empty();
     LoadingParts {
-        answer: LoadAnswer::Refused(Refusal::Value),
-        outline: empty.outline(),
+        answer: Err(Refusal::Value),
+        outline: Holding::empty().outline(),
     }
 }
 
@@ -110,10 +99,8 @@ pub fn load(line: &[u8]) -> Loading
     let mut satellites = [0; Holding::SYSTEMS];
     let mut strips = [0; Holding::SATELLITES];
     let parts = load_parts(line, &mut satellites, &mut strips);
-    let outline = parts.outline;
-    let answer = parts.answer;
     Loading {
-        answer,
-        holding: outline.with(satellites, strips),
+        answer: parts.answer,
+        holding: parts.outline.with(satellites, strips),
     }
 }

@@ -23,10 +23,8 @@ fn systems_long(outline: Outline, satellites: &[u64; Holding::SYSTEMS]) -> usize
     ensures upper_bound { result ≤ 25000 }
 {
     let mut long = 0;
-    let mut i = 0;
-    while i < outline.count as usize {
+    for i in 0..outline.count as usize {
         long += systems::system_long(systems::slot_in(outline, satellites, i));
-        i += 1;
     }
     long
 }
@@ -61,12 +59,10 @@ fn systems_text(
 {
     let mut place = at;
     let mut from = 0;
-    let mut i = 0;
-    while i < outline.count as usize {
+    for i in 0..outline.count as usize {
         let slot = systems::slot_in(outline, satellites, i);
         place = systems::system(line, place, slot, strips, from);
         from += set_places::count(slot.satellites);
-        i += 1;
     }
     place
 }
@@ -102,18 +98,12 @@ pub fn line_text(
 }
 
 // Whether a text stands at a place of a line.
+#[tactic(auto, using(crate::proofs::Compared::stood))]
 fn stands(line: &[u8], at: usize, text: &[u8]) -> bool
     requires { at + length text.now ≤ length line.now }
     ensures { result ≡ stands_at line.now at text.now }
 {
-    let mut i = 0;
-    while i < text.len() {
-        if line[at + i] != text[i] {
-            return false;
-        }
-        i += 1;
-    }
-    true
+    line[at..].starts_with(text)
 }
 
 // A piece of a line is the text of one system at most: what is fixed, its ID and a dash; for each place of its satellite mask a
@@ -140,8 +130,7 @@ pub fn is_own(
         return false;
     }
     let mut from = 0;
-    let mut i = 0;
-    while i < outline.count as usize {
+    for i in 0..outline.count as usize {
         let slot = systems::slot_in(outline, satellites, i);
         let long = systems::system(&mut piece, 0, slot, strips, from);
         if !stands(line, place, &piece[..long]) {
@@ -149,7 +138,6 @@ pub fn is_own(
         }
         place += long;
         from += set_places::count(slot.satellites);
-        i += 1;
     }
     line[place] == LINE_FEED
 }

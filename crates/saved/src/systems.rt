@@ -76,7 +76,8 @@ pub fn system_long(s: Slot) -> usize
     number::decimals(s.id as u64) + FIXED + digits
 }
 
-// A number after a tab, and a mask.
+// A number after a tab, and a mask: one function of both would take the writing of the digits as a closure and say its text by
+// it, which is no plainer.
 fn after_tab(line: &mut [u8], at: usize, n: u64) -> usize
     requires { at + length (tab ∷ decimal n) ≤ length line.old }
     ensures value { result ≡ at + length (tab ∷ decimal n) }
@@ -117,7 +118,7 @@ fn cell_text(line: &mut [u8], at: usize, s: Slot, strips: &[u16], from: usize) -
         return put(line, at, DASH);
     }
     let n = set_places::count(s.satellites);
-    cells::mask_text(line, at, strips, from, n, s.signals)
+    cells::mask_text(line, at, &strips[from..from + n], s.signals)
 }
 
 pub fn system(line: &mut [u8], at: usize, s: Slot, strips: &[u16], from: usize) -> usize

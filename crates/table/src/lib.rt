@@ -56,7 +56,7 @@ fn alone(cells: bool, shape: usize) -> Kind
     })
 }
 
-// Rows behind flags.
+// Rows behind flags. (A function of its own: a line of the table is plainer with a word than with two truths.)
 fn flagged(cells: bool, shape: usize) -> Kind
     ensures { result ≡ Masked (record { cells = cells; flagged = true; shape = shape }) }
 {

@@ -1,7 +1,8 @@
 -- The last digits of a number: how many there are, the store of one, and that a number's own digits are its last. Assumes nothing.
 use mathlib.Core.Path.{◌≡◌, refl, sym, ap, ◌∙◌}
 use mathlib.Core.List.{List, [], ◌∷◌, ◌++◌}
-use Prim.Native.Nat.{ℕ, zero, suc, ◌+◌, ◌/◌, ◌%◌, ◌≤◌, ◌<◌}
+use Prim.Native.Nat.{ℕ, zero, suc, ◌+◌, ◌*◌, ◌/◌, ◌%◌, ◌^◌, ◌≤◌, ◌<◌}
+use native.Mathlib.Nat.{pow-suc, one-le-pow}
 use native.Mathlib.Omega.{arith}
 use lib.ListN.{length, set, length-append}
 use lib.Seq.{sets}
@@ -39,3 +40,10 @@ short n small = ap length (decimal_one n small)
 
 pub longer : (n : ℕ) → 10 ≤ n → length (decimal n) ≡ length (decimal (n / 10)) + 1
 longer n large = ap length (decimal_more n large) ∙ length-append (decimal (n / 10)) (digit_char (n % 10) ∷ [])
+
+pub width : (k n : ℕ) → 10 ^ k ≤ n → n < 10 * 10 ^ k → length (decimal n) ≡ k + 1
+width zero n low high = short n (omega arith)
+width (suc k) n low high =
+    let least : 10 ^ k * 10 ≤ n = rw pow-suc at low in
+    let most : n < 10 * (10 ^ k * 10) = rw pow-suc at high in
+    omega (arith, longer n (omega (arith, one-le-pow k 10 (omega arith))), width k (n / 10) (omega arith) (omega arith))

@@ -3,4 +3,3 @@ pub mod LastDigits
 pub mod HexDigits
 pub mod Values
 pub mod Characters
-pub mod MoreDigits

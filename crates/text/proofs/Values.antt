@@ -2,10 +2,10 @@
 use mathlib.Core.Path.{◌≡◌, refl}
 use mathlib.Core.Bool.{Bool, true, false, cond, false≢true}
 use mathlib.Core.List.{[], ◌∷◌}
-use Prim.Native.Nat.{ℕ, zero, suc, ◌+◌, ◌/◌, ◌^◌, ◌≤◌, ◌<◌}
+use Prim.Native.Nat.{ℕ, zero, suc, ◌/◌, ◌^◌, ◌≤◌, ◌<◌}
 use native.Mathlib.Decide.{dec_lt}
 use native.Mathlib.Nat.{pow-suc}
-use native.Mathlib.Numerals.{add-one}
+use Rattle.std.specs.Prelude.{unsigned_abs}
 use native.Mathlib.Omega.{arith}
 use lib.IntN.{ℤ, pos, negsuc}
 use lib.ListN.{length}
@@ -31,24 +31,23 @@ absent_text (pos n) fits e = absurd (omega (arith, fits.sfits))
 absent_text (negsuc n) fits e = rw (eq-eqb n 32767 (omega (arith, fits.sfits)))
 
 -- from 0 on
-pub plain_text : (v : ℤ) → le_z (pos 0) v ≡ true → value_text v ≡ decimal (mag v)
+pub plain_text : (v : ℤ) → le_z (pos 0) v ≡ true → value_text v ≡ decimal (unsigned_abs v)
 unfolding value_text
 plain_text (pos n) e = refl
 plain_text (negsuc n) e = absurd (false≢true e)
 
 -- below 0
-pub negative_text : (v : ℤ) → SFits w32 v → (of_z w32 v ≡ absent_bits → ⊥) → le_z (pos 0) v ≡ false → value_text v ≡ dash ∷ decimal (mag v + 1)
+pub negative_text : (v : ℤ) → SFits w32 v → (of_z w32 v ≡ absent_bits → ⊥) → le_z (pos 0) v ≡ false → value_text v ≡ dash ∷ decimal (unsigned_abs v)
 unfolding value_text sameℤ
 negative_text (pos n) fits there e = absurd (omega (arith, leb-false 0 n e))
-negative_text (negsuc n) fits there e =
-    rw (ne_eqb n 32767 (λ same. there (omega (arith, fits.sfits))), add-one n)
+negative_text (negsuc n) fits there e = rw (ne_eqb n 32767 (λ same. there (omega (arith, fits.sfits))))
 
 -- the same of what code reads back from the bits
-pub plain_read : (v : ℤ) → SFits w32 v → le_z (pos 0) (to_z w32 (of_z w32 v)) ≡ true → value_text v ≡ decimal (mag (to_z w32 (of_z w32 v)))
+pub plain_read : (v : ℤ) → SFits w32 v → le_z (pos 0) (to_z w32 (of_z w32 v)) ≡ true → value_text v ≡ decimal (unsigned_abs (to_z w32 (of_z w32 v)))
 plain_read v fits e = rw (to_z-of_z fits) (plain_text v (rw (to_z-of_z fits) at e))
 
 pub negative_read : (v : ℤ) → SFits w32 v → (of_z w32 v ≡ absent_bits → ⊥) → le_z (pos 0) (to_z w32 (of_z w32 v)) ≡ false
-    → value_text v ≡ dash ∷ decimal (mag (to_z w32 (of_z w32 v)) + 1)
+    → value_text v ≡ dash ∷ decimal (unsigned_abs (to_z w32 (of_z w32 v)))
 negative_read v fits there e = rw (to_z-of_z fits) (negative_text v fits there (rw (to_z-of_z fits) at e))
 
 -- ---- how long

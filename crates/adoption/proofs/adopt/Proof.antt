@@ -33,18 +33,18 @@ module _ (c : tie.After-front_at-f) where
   answer f = over (end_from mask_message bs f.end f.start)
 
 -- the common head, where it is there
-module _ (c : tie.In-Whole) where
+module _ (c : tie.In-Ok) where
   abbrev t : tie.After-front_at-f
   t = c.before.before
 
-  read : Read (opens t).within 20 c.in-Whole.h
-  read = common_whole (opens t).within 20 (omega arith) (sym (c.head.ensures (bs t) (opens t)) ∙ c.in-Whole.is)
+  read : Read (opens t).within 20 c.in-Ok.h
+  read = common_whole (opens t).within 20 (omega arith) (sym (c.head.ensures (bs t) (opens t)) ∙ c.in-Ok.is)
 
-returns-in-Short : tie.Need-returns-in-Short
+returns-in-Err : tie.Need-returns-in-Err
 unfolding mask_message made_by
-returns-in-Short c =
+returns-in-Err c =
     let t = c.before.before.before in
-    let cut = common_short (opens t).within 20 (sym (c.head.ensures (bs t) (opens t)) ∙ c.in-Short.is) in
+    let cut = common_short (opens t).within 20 (sym (c.head.ensures (bs t) (opens t)) ∙ c.in-Err.is) in
     let x = t.args in
     ap (λ (a : Adoption). made x.held a x.satellites.now x.strips.now) c.keeping.ensures ∙ ap (over t) (sym (then_badly (opens t).within (common 20) _ cut)) ∙ ap (answer t) t.front_at-f.ensures
 
@@ -53,5 +53,5 @@ unfolding mask_message after_common_head with_systems head_with common_of
 adopt_spec =
     tie.close
     (tie.spec (λ c κs. search rules) (λ c κs. record { bytes = bs c; opens = opens c }) (λ c. search rules) (λ c κs. search rules) (λ c. search rules)
-    (λ c κs. let k = c.before.before in ((read k).small, (read k).after, opens (t k), (t k).requires.1)) returns-in-Short
+    (λ c κs. let k = c.before.before in ((read k).small, (read k).after, opens (t k), (t k).requires.1)) returns-in-Err
     (λ c. let k = c.before.before.before in let t = t k in c.after_head.ensures ∙ ap (over t) (sym (then_well (opens t).within (common 20) _ (read k).ran)) ∙ ap (answer t) t.front_at-f.ensures))

@@ -37,7 +37,7 @@ returns c =
       | then-is_sound+else-is_own w ↦ not_own (line t) (h t) would (sym w.is_own.ensures ∙ w.if-is_own.false)
       | else-is_sound w ↦ not_sound (line t) (h t) would (sym t.is_sound.ensures ∙ w.if-is_sound.false)
     ] in
-    is_refused (line t) off (c.outline.ensures ∙ ap (λ (h : Holding). outline_of h) c.empty-empty.ensures)
+    is_refused (line t) off (c.outline.ensures ∙ ap (λ (h : Holding). outline_of h) c.empty.ensures)
 
 pub load_parts_spec : {M : Type 1} → statement M
 load_parts_spec =

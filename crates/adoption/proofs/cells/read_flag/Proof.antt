@@ -2,11 +2,11 @@
 use Rattle.bits.proofs.Words.{◌≡◌, refl, sym, ap, ◌∙◌, not, List, ℕ, zero, suc, ◌+◌, ◌-◌, ◌^◌, ◌≤◌, ◌<◌, arith, rules, eqb}
 use Rattle.adoption.proofs.StageEnds.{cells_cut, cells_there}
 use Rattle.adoption.specs.Stages.{with_cells, end_system, HasMasks}
-use Rattle.bits.specs.declared.read.Taken.{Taken}
-use Rattle.bits.specs.declared.read.Taken.TheVariants.{Whole}
+use Rattle.bits.specs.declared.read.Short.{Short}
+use Rattle.std.specs.Prelude.{Result, Ok}
 use Rattle.bits.specs.Short.{taken_at}
 use Rattle.format.proofs.Ends.{onward, after_field, fits, number_short}
-use Rattle.format.specs.declared.Refusal.TheVariants.{Short}
+use Rattle.format.specs.declared.Refusal.TheVariants as Refusal
 use Rattle.format.specs.Ends.{Within}
 use Rattle.format.specs.Programs.{badly}
 use Rattle.heads.specs.Fronts.{Opens}
@@ -31,19 +31,19 @@ module _ (c : tie.After-taken-taken) where
     at : Within bs s.args.f.end place
     at = onward opens.within s.requires.2
 
-    taken_is : {t : Taken} → c.taken-taken.result ≡ t → taken_at bs s.args.f.end place 1 ≡ t
+    taken_is : {t : Result ℕ Short} → c.taken-taken.result ≡ t → taken_at bs s.args.f.end place 1 ≡ t
     taken_is e = sym (c.taken-taken.ensures bs opens) ∙ e
 
 -- the flag, where its bit is there
-module _ (c : tie.In-Whole) where
+module _ (c : tie.In-Ok) where
   abbrev took : tie.After-taken-taken
   took = c.before
 
   abbrev n : ℕ
-  n = c.in-Whole.bit
+  n = c.in-Ok.bit
 
-  there : {bs : List ℕ} → Opens bs (s took).args.f → taken_at bs (s took).args.f.end (place took) 1 ≡ Whole n
-  there opens = taken_is took opens c.in-Whole.is
+  there : {bs : List ℕ} → Opens bs (s took).args.f → taken_at bs (s took).args.f.end (place took) 1 ≡ Ok n
+  there opens = taken_is took opens c.in-Ok.is
 
   after : place took + 1 ≤ (s took).args.f.end
   after = let o = (s took).requires.1.opens in (after_field (at took o) 1 (there o)).room
@@ -60,7 +60,7 @@ returns-then-left-cells c =
     let p = c.before.before.before.before in
     let x = (s (took p)).args in
     let w = c.width-cells.ensures in
-    let missing = ap (λ (w : ℕ). badly Short (w - (x.f.end - (x.f.start + 16 + 1)))) w in
+    let missing = ap (λ (w : ℕ). badly Refusal.Short (w - (x.f.end - (x.f.start + 16 + 1)))) w in
     (λ bs opens. missing ∙ sym (cells_cut (at (took p) opens) x.m (s (took p)).requires.0 (low p) (there p opens) (is p) (omega (arith, w, c.if-left-cells.true))), tt)
 
 returns-else-left-cells : tie.Need-returns-else-left-cells
@@ -75,5 +75,5 @@ read_flag_spec =
     tie.close
     (tie.spec (λ c κs. search rules) (λ c. search rules) (λ c. search rules) (λ c. omega (arith, after c.before)) (λ c. omega (arith, after c.before))
     (λ c κs. (s (took c.before)).requires.0) (λ c. after c.before.before.before) (λ c. search rules) returns-then-left-cells
-    (λ c. let took = c.before in (λ bs opens. sym (number_short (at took opens) 1 (taken_is took opens c.in-Short.is) _), tt))
+    (λ c. let took = c.before in (λ bs opens. sym (number_short (at took opens) 1 (taken_is took opens c.in-Err.is) _), tt))
     returns-else-left-cells)

@@ -7,7 +7,7 @@ use Rattle.adoption.proofs.StageEnds.{opens_at, satellites_end}
 use Rattle.format.specs.Ends.{Within, end_from}
 use Rattle.adoption.specs.Stages.{end_masked, FitsMasked}
 use Rattle.bits.specs.BitLists.{spell}
-use Rattle.bits.specs.declared.read.Taken.TheVariants.{Whole}
+use Rattle.std.specs.Prelude.{Ok}
 use Rattle.bits.specs.Short.{taken_at}
 use Rattle.format.specs.Assigned.{satellite_places, assigned}
 use Rattle.format.specs.declared.Refusal.TheVariants.{Size, Reserved}
@@ -19,15 +19,15 @@ use Rattle.adoption.proofs.stages.read_masks.Statement.{statement}
 use Rattle.adoption.proofs.stages.read_masks.Tie as tie
 
 -- the satellite mask, where its bits are there
-module _ (c : tie.In-Whole) where
+module _ (c : tie.In-Ok) where
   abbrev s : tie.Start
   s = c.before.before.before
 
   abbrev sats : ℕ
-  sats = c.in-Whole.satellites
+  sats = c.in-Ok.satellites
 
-  there : taken_at s.args.bytes.now s.args.f.end (s.args.f.start + 4) 40 ≡ Whole sats
-  there = sym (c.taken-taken.ensures _ s.requires.3) ∙ c.in-Whole.is
+  there : taken_at s.args.bytes.now s.args.f.end (s.args.f.start + 4) 40 ≡ Ok sats
+  there = sym (c.taken-taken.ensures _ s.requires.3) ∙ c.in-Ok.is
 
   low : sats < 2 ^ 40
   low = fits s.requires.2 40 there
@@ -43,7 +43,7 @@ module _ (c : tie.In-Whole) where
 
 -- how many satellites there are
 module _ (c : tie.After-count) where
-  abbrev p : tie.In-Whole
+  abbrev p : tie.In-Ok
   p = c.before.before.before
 
   few : c.count.result ≤ 40
@@ -54,7 +54,7 @@ module _ (c : tie.After-count) where
 
 -- the front of the signal mask
 module _ (c : tie.After-front_at) where
-  abbrev k : tie.In-Whole
+  abbrev k : tie.In-Ok
   k = p c.before.before.before
 
   opens : Opens (s k).args.bytes.now c.front_at.result
@@ -81,5 +81,5 @@ read_masks_spec =
     (λ c. let at = p c.before in (sym (ends at ∙ rw (on c.before, lt-leb ((s at).args.n + ones (sats at)) 64 (omega (arith, c.count.ensures, c.if-n-count-gt-SATELLITES.true)))), tt))
     (λ c. search rules) (λ c. omega (arith, after (p c.before.before))) (λ c κs. search rules)
     (λ c κs. (search rules, low (k c), record { bytes = _; opens = opens c }))
-    (λ c. (sym (bits_short c.requires.2 40 (sym (c.taken-taken.ensures _ c.requires.3) ∙ c.in-Short.is) _), tt))
+    (λ c. (sym (bits_short c.requires.2 40 (sym (c.taken-taken.ensures _ c.requires.3) ∙ c.in-Err.is) _), tt))
     returns-else-n-count-gt-SATELLITES)

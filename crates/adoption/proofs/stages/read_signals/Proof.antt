@@ -5,24 +5,24 @@ use Rattle.format.proofs.Ends.{fits, bits_short}
 use Rattle.adoption.proofs.StageEnds.{first_taken, signals_end}
 use Rattle.adoption.specs.Stages.{end_masked, FitsMasked}
 use Rattle.bits.specs.BitLists.{spell}
-use Rattle.bits.specs.declared.read.Taken.TheVariants.{Whole}
+use Rattle.std.specs.Prelude.{Ok}
 use Rattle.bits.specs.Short.{taken_at}
 use Rattle.heads.specs.Fronts.{Opens}
 use Rattle.adoption.proofs.stages.read_signals.Statement.{statement}
 use Rattle.adoption.proofs.stages.read_signals.Tie as tie
 
 -- the mask, where its bits are there
-module _ (c : tie.In-Whole) where
+module _ (c : tie.In-Ok) where
   abbrev took : tie.After-taken-taken
   took = c.before
 
   abbrev s : tie.Start
   s = took.before
 
-  there : {bs : List ℕ} → Opens bs s.args.f → taken_at bs s.args.f.end s.args.f.start 16 ≡ Whole c.in-Whole.signals
-  there opens = first_taken opens 16 took.taken-taken.ensures c.in-Whole.is
+  there : {bs : List ℕ} → Opens bs s.args.f → taken_at bs s.args.f.end s.args.f.start 16 ≡ Ok c.in-Ok.signals
+  there opens = first_taken opens 16 took.taken-taken.ensures c.in-Ok.is
 
-  low : c.in-Whole.signals < 2 ^ 16
+  low : c.in-Ok.signals < 2 ^ 16
   low = let o = s.requires.2.opens in fits o.within 16 (there o)
 
 returns-then-not-signals_assigned : tie.Need-returns-then-not-signals_assigned
@@ -45,5 +45,5 @@ read_signals_spec =
     tie.close
     (tie.spec (λ c κs. (c.requires.2, omega arith, omega (arith, c.requires.2.opens.within))) (λ c. search rules) (λ c. search rules) (λ c κs. (search rules, low c))
     returns-then-not-signals_assigned (λ c. omega (arith, low c.before.before))
-    (λ c. (λ bs opens. sym (bits_short opens.within 16 (first_taken opens 16 c.taken-taken.ensures c.in-Short.is) _), λ bs opens. tt))
+    (λ c. (λ bs opens. sym (bits_short opens.within 16 (first_taken opens 16 c.taken-taken.ensures c.in-Err.is) _), λ bs opens. tt))
     returns-else-not-signals_assigned)

@@ -2,7 +2,8 @@
 use Rattle.bits.proofs.Words.{◌≡◌, refl, sym, ap, ◌∙◌, List, ℕ, ◌+◌, ◌/◌, ◌%◌, ◌<◌, add-one, arith, rules}
 use mir.Facts.{to_z_pos}
 use mir.Syntax.{w32}
-use Rattle.bits.specs.declared.read.Taken.{Taken}
+use Rattle.bits.specs.declared.read.Short.{Short}
+use Rattle.std.specs.Prelude.{Result}
 use Rattle.bits.specs.Short.{taken_at, bits_of, widths_of}
 use Rattle.bits.proofs.Short.{field_whole, field_short}
 use Rattle.format.proofs.Ends.{onward, fits}
@@ -27,32 +28,32 @@ module _ (c : tie.After-taken-taken) where
     at : Within bs start.args.f.end (start.args.f.start + 16)
     at = onward opens.within start.requires.1
 
-    is : {t : Taken} → c.taken-taken.result ≡ t → taken_at bs start.args.f.end (start.args.f.start + 16) 6 ≡ t
+    is : {t : Result ℕ Short} → c.taken-taken.result ≡ t → taken_at bs start.args.f.end (start.args.f.start + 16) 6 ≡ t
     is e = sym (c.taken-taken.ensures bs opens) ∙ e
 
-returns-in-Short : tie.Need-returns-in-Short
+returns-in-Err : tie.Need-returns-in-Err
 unfolding said_by FitsHeading HasBody widths_of
-returns-in-Short c =
+returns-in-Err c =
     let took = c.before.before.before in
-    (λ bs opens v. ap (badly Refusal.Short) c.short_by.ensures ∙ sym (packet_short (at took opens) (is took opens c.in-Short.is)), λ bs opens. record { fits = tt; this = tt })
+    (λ bs opens v. ap (badly Refusal.Short) c.short_by.ensures ∙ sym (packet_short (at took opens) (is took opens c.in-Err.is)), λ bs opens. record { fits = tt; this = tt })
 
 -- where they are there
-module _ (c : tie.In-Whole) where
+module _ (c : tie.In-Ok) where
   abbrev took : tie.After-taken-taken
   took = c.before
 
   abbrev n : ℕ
-  n = c.in-Whole.n
+  n = c.in-Ok.n
 
   small : n < 64
-  small = let o = (start took).requires.0.opens in fits (at took o) 6 (is took o c.in-Whole.is)
+  small = let o = (start took).requires.0.opens in fits (at took o) 6 (is took o c.in-Ok.is)
 
-returns-in-Whole : tie.Need-returns-in-Whole
+returns-in-Ok : tie.Need-returns-in-Ok
 unfolding said_by FitsHeading HasBody packet_body FitsKeys lines_in lines_over packet_of packet_heading
-returns-in-Whole c = (
+returns-in-Ok c = (
   λ bs opens v.
       rw (
-        packet_there (at (took c) opens) (is (took c) opens c.in-Whole.is),
+        packet_there (at (took c) opens) (is (took c) opens c.in-Ok.is),
         to_z_pos w32 {n = n c / 32} (omega (arith, small c)),
         to_z_pos w32 {n = n c / 4 % 8} (omega arith),
         to_z_pos w32 {n = n c % 4} (omega arith),
@@ -61,7 +62,7 @@ returns-in-Whole c = (
   λ bs opens.
       record {
         fits = (omega arith, refl);
-        this = ap (λ (k : ℕ). record { keys = Parts (k % 4 + 1); shape = 7 }) (field_whole _ _ _ 6 _ (is (took c) opens c.in-Whole.is)).1;
+        this = ap (λ (k : ℕ). record { keys = Parts (k % 4 + 1); shape = 7 }) (field_whole _ _ _ 6 _ (is (took c) opens c.in-Ok.is)).1;
       },
 )
 
@@ -70,6 +71,6 @@ unfolding bits_of widths_of
 packet_spec =
     tie.close
     (tie.spec (λ c. search rules) (λ c κs. search rules) (λ c. search rules) (λ c. search rules)
-    (λ c κs. let took = c.before.before in (field_short _ _ _ 6 _ (is took (start took).requires.0.opens c.in-Short.is)).0)
-    (λ c. search rules) (λ c. record { sfits = omega (arith, small c) }) (λ c. search rules) (λ c. search rules) (λ c. search rules) (λ c. search rules) returns-in-Short
-    returns-in-Whole)
+    (λ c κs. let took = c.before.before in (field_short _ _ _ 6 _ (is took (start took).requires.0.opens c.in-Err.is)).0)
+    (λ c. search rules) (λ c. record { sfits = omega (arith, small c) }) (λ c. search rules) (λ c. search rules) (λ c. search rules) (λ c. search rules) returns-in-Err
+    returns-in-Ok)

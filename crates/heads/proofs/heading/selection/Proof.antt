@@ -2,7 +2,7 @@
 use Rattle.bits.proofs.Words.{◌≡◌, sym, ap, ◌∙◌, true, cond, ℕ, ◌+◌, ◌<◌, arith, take, rules}
 use mir.Facts.{to_z_pos}
 use mir.Syntax.{w32}
-use Rattle.bits.specs.declared.read.Taken.TheVariants.{Whole}
+use Rattle.std.specs.Prelude.{Ok}
 use Rattle.bits.specs.BitLists.{spell}
 use Rattle.bits.specs.Short.{taken_at}
 use Rattle.format.proofs.Ends.{after_field, fits}
@@ -23,15 +23,15 @@ use Rattle.table.specs.Kinds.{keys_for, keys_by}
 use Rattle.rows.specs.Table.{shape_at}
 
 -- the network, where its bits are there
-module _ (c : tie.In-Whole) where
+module _ (c : tie.In-Ok) where
   abbrev s : tie.Start
   s = c.before.before.before.before
 
   abbrev n : ℕ
-  n = c.in-Whole.network
+  n = c.in-Ok.network
 
-  there : taken_at s.args.bytes.now s.args.f.end (s.args.f.start + 40) 5 ≡ Whole n
-  there = sym (c.taken-taken.ensures _ s.requires.4) ∙ c.in-Whole.is
+  there : taken_at s.args.bytes.now s.args.f.end (s.args.f.start + 40) 5 ≡ Ok n
+  there = sym (c.taken-taken.ensures _ s.requires.4) ∙ c.in-Ok.is
 
   after : Within s.args.bytes.now s.args.f.end (s.args.f.start + 40 + 5)
   after = after_field s.requires.3 5 there
@@ -44,7 +44,7 @@ module _ (c : tie.After-nameable) where
   abbrev some : tie.Else-network-eq0
   some = c.before.before.before.before.before
 
-  abbrev p : tie.In-Whole
+  abbrev p : tie.In-Ok
   p = some.before
 
   abbrev l : Layout
@@ -83,11 +83,11 @@ returns-then-not-nameable c =
       record { fits = tt; this = tt },
     )
 
-returns-in-Short : tie.Need-returns-in-Short
+returns-in-Err : tie.Need-returns-in-Err
 unfolding said_by FitsHeading HasBody
-returns-in-Short c =
+returns-in-Err c =
     let x = c.args in
-    (λ v shows. sym (network_short c.requires.3 (keys_by x.under.layout) (sky_in v) x.numbers (shape_at x.shape) (sym (c.taken-taken.ensures _ c.requires.4) ∙ c.in-Short.is)), record { fits = tt; this = tt })
+    (λ v shows. sym (network_short c.requires.3 (keys_by x.under.layout) (sky_in v) x.numbers (shape_at x.shape) (sym (c.taken-taken.ensures _ c.requires.4) ∙ c.in-Err.is)), record { fits = tt; this = tt })
 
 returns-else-not-nameable : tie.Need-returns-else-not-nameable
 unfolding said_by FitsHeading HasBody chosen_body lines_in sky_in
@@ -114,4 +114,4 @@ selection_spec =
     (λ c. let x = (s c.before).args in (λ v shows. sym (network_none (s c.before).requires.3 (keys_by x.under.layout) (sky_in v) x.numbers (shape_at x.shape) (there c.before) c.if-network-eq0.true), record { fits = tt; this = tt }))
     (λ c. search rules) (λ c. search rules) (λ c. (after c.before.before.before).room) (λ c. search rules) returns-then-left-n
     (λ c κs. let q = c.before.before.before.before in (omega (arith, after q), (s q).requires.0)) (λ c κs. (s c.before.before.before.before.before).requires.1) returns-then-not-nameable
-    (λ c. record { sfits = omega (arith, low (p c.before)) }) (λ c κs. search rules) (λ c κs. search rules) (λ c. search rules) returns-in-Short returns-else-not-nameable)
+    (λ c. record { sfits = omega (arith, low (p c.before)) }) (λ c κs. search rules) (λ c κs. search rules) (λ c. search rules) returns-in-Err returns-else-not-nameable)

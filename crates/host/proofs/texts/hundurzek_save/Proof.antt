@@ -13,7 +13,7 @@ use Rattle.saved.specs.Saves.{saving_by, done_by}
 use Rattle.saved.proofs.SavedLines.{saving_said}
 
 -- how saving ends, under the holding that the lent bytes say
-module _ (c : tie.After-saved_in-saving) where
+module _ (c : tie.After-saved_in) where
   abbrev s : tie.Start
   s = c.before.before.before.before
 
@@ -23,26 +23,26 @@ module _ (c : tie.After-saved_in-saving) where
   abbrev ended : Saved
   ended = saving (lent_by (holding_in lent)) s.args.line.now
 
-  said : (c.saved_in-saving.result ≡ saving_by ended) × (c.saved_in-saving.new.line ≡ buffer_after ended (mask_of (holding_in lent)) s.args.line.now)
-  said = c.saved_in-saving.ensures
+  said : (c.saved_in.result ≡ saving_by ended) × (c.saved_in.new.line ≡ buffer_after ended (mask_of (holding_in lent)) s.args.line.now)
+  said = c.saved_in.ensures
 
-  answered : done_by c.saved_in-saving.result ≡ done_saving ended
+  answered : done_by c.saved_in.result ≡ done_saving ended
   answered = ap done_by said.0 ∙ saving_said ended
 
-returns-in-Saved : tie.Need-returns-in-Saved
+returns-in-Ok : tie.Need-returns-in-Ok
 unfolding done_by
-returns-in-Saved c =
+returns-in-Ok c =
     let k = c.before.before.before.before in
-    (c.finish.ensures ∙ ap done_handed (sym (ap done_by c.in-Saved.is) ∙ answered k), (said k).1)
+    (c.finish.ensures ∙ ap done_handed (sym (ap done_by c.in-Ok.is) ∙ answered k), (said k).1)
 
-returns-in-Refused : tie.Need-returns-in-Refused
+returns-in-Err : tie.Need-returns-in-Err
 unfolding done_by
-returns-in-Refused c =
+returns-in-Err c =
     let k = c.before.before.before.before in
-    (c.refuse.ensures ∙ ap done_handed (sym (ap done_by c.in-Refused.is) ∙ answered k), (said k).1)
+    (c.refuse.ensures ∙ ap done_handed (sym (ap done_by c.in-Err.is) ∙ answered k), (said k).1)
 
 pub hundurzek_save_spec : {M : Type 1} → statement M
 hundurzek_save_spec =
     tie.close
     (tie.spec (λ c κs. search rules) (λ c. search rules) (λ c κs. search rules) (λ c. search rules) (λ c κs. search rules)
-    (λ c. search rules) returns-in-Saved (λ c. search rules) returns-in-Refused)
+    (λ c. search rules) returns-in-Ok (λ c. search rules) returns-in-Err)

@@ -18,7 +18,7 @@ use Rattle.saved.proofs.candidate.candidate.Statement.{statement}
 use Rattle.saved.proofs.candidate.candidate.Tie as tie
 
 returns-then-char_at-eq-DASH : tie.Need-returns-then-char_at-eq-DASH
-returns-then-char_at-eq-DASH c nothing fine same = empty_whole (c.outline.ensures ∙ ap (λ (h : Holding). outline_of h) c.empty-empty.ensures)
+returns-then-char_at-eq-DASH c nothing fine same = empty_whole (c.outline.ensures ∙ ap (λ (h : Holding). outline_of h) c.empty.ensures)
 returns-then-char_at-eq-DASH c (mask m) fine same =
     let t = c in
     absurd (no_dash m (ap (λ (l : List ℕ). get_or l 2 0) same ∙ sym t.char_at.ensures ∙ t.if-char_at-eq-DASH.true))

@@ -1,0 +1,6 @@
+-- So many IDs stand in the part.
+use Rattle.std.proofs.Common.{◌≡◌, ℕ, ◌<◌, get_or}
+use Rattle.passing.proofs.give.ids.Given as goal
+
+abbrev pub invariant-loop-i : goal.invariant-loop-i
+invariant-loop-i l = (k : ℕ) → k < l.i → get_or l.part k 0 ≡ get_or l.ids k 0
