@@ -115,6 +115,7 @@ impl<R: Read, W: Write> Run<R, W> {
     fn pour(&mut self, piece: &[u8])
         requires { Good self.old.state self.old.line self.old.rows }
         ensures good { Good self.new.state self.new.line self.new.rows }
+        ensures room { self.new.waiting + message_room ≤ 65536 }
     {
         let mut state = self.state;
         let mut taken = 0;
@@ -127,6 +128,7 @@ impl<R: Read, W: Write> Run<R, W> {
             taken += step.taken;
         }
         self.state = state;
+        self.make_room();
     }
 
     // Lists the whole input, read into a buffer piece by piece; a reading that fails ends it, too. A proved loop has to end,
@@ -134,6 +136,7 @@ impl<R: Read, W: Write> Run<R, W> {
     pub fn list(&mut self, input: &mut [u8])
         requires { Good self.old.state self.old.line self.old.rows }
         ensures good { Good self.new.state self.new.line self.new.rows }
+        ensures room { self.new.waiting + message_room ≤ 65536 }
     {
         for _ in 0..u64::MAX {
             let n = self.streams.read_once(input);
@@ -142,6 +145,7 @@ impl<R: Read, W: Write> Run<R, W> {
                 break;
             }
         }
+        self.make_room();
     }
 
     // Writes the mask that is held, as a saved line that the buffer for text then begins with.
