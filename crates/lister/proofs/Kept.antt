@@ -9,7 +9,7 @@ use lib.Seq.{sets-eq, drop-drop}
 use Rattle.lister.specs.Gathering.{kept_in}
 
 -- what finds room
-all_kept : (room : ℕ) (new : List ℕ) → take (min (length new) room) new ≡ take room new
+pub all_kept : (room : ℕ) (new : List ℕ) → take (min (length new) room) new ≡ take room new
 all_kept zero [] = refl
 all_kept zero (c ∷ cs) = simp unary_clauses refl
 all_kept (suc room) [] = simp unary_clauses refl
