@@ -1,6 +1,8 @@
 // What the program's arguments ask for.
-ghost use Rattle.std.specs.Prelude.{◌≡◌, true, IfOk};
+ghost use Rattle.std.specs.Prelude.{◌≡◌, ◌+◌, true, take, Ok, IfOk};
+ghost use Rattle.format.specs.Saved.{load};
 ghost use Rattle.holding.specs.Pictures.{sound};
+ghost use Rattle.saved.specs.Loads.{loading_by};
 
 use holding::Holding;
 use std::env::FillError;
@@ -30,7 +32,8 @@ impl Error for NoSavedMask {}
 
 // The holding of the saved line that a buffer begins with, its line feed put behind it.
 fn from_line(buffer: &mut [u8], n: usize) -> Result<Holding, NoSavedMask>
-    ensures { IfOk result (λ h. sound h ≡ true) }
+    ensures sound { IfOk result (λ h. sound h ≡ true) }
+    ensures loaded { IfOk result (λ h. loading_by (load (take (n + 1) buffer.new)) ≡ record { answer = Ok tt; holding = h }) }
 {
     if n >= buffer.len() {
         return Err(NoSavedMask);

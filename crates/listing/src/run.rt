@@ -64,6 +64,7 @@ impl<R: Read, W: Write> Run<R, W> {
         ensures state { self.new.state ≡ self.old.state }
         ensures line { self.new.line ≡ self.old.line }
         ensures rows { self.new.rows ≡ self.old.rows }
+        ensures text { self.new.out ≡ self.old.out }
     {
         if self.shown {
             self.streams.write_all(&self.out[..self.waiting]);
@@ -72,11 +73,12 @@ impl<R: Read, W: Write> Run<R, W> {
     }
 
     // Sees to room for a message.
-    fn make_room(&mut self)
+    pub fn make_room(&mut self)
         ensures message_room_in_bounds { self.new.waiting + message_room ≤ 65536 }
         ensures state { self.new.state ≡ self.old.state }
         ensures line { self.new.line ≡ self.old.line }
         ensures rows { self.new.rows ≡ self.old.rows }
+        ensures text { self.new.out ≡ self.old.out }
     {
         if BUFFER - self.waiting < MESSAGE_ROOM {
             self.flush();
@@ -150,7 +152,12 @@ impl<R: Read, W: Write> Run<R, W> {
 
     // Writes the mask that is held, as a saved line that the buffer for text then begins with.
     pub fn print_mask(&mut self)
-        ensures { self.new.out ≡ buffer_after (saving (lent_by self.old.state.holding) self.old.out) (mask_of self.old.state.holding) self.old.out }
+        ensures text { self.new.out ≡ buffer_after (saving (lent_by self.old.state.holding) self.old.out) (mask_of self.old.state.holding) self.old.out }
+        ensures state { self.new.state ≡ self.old.state }
+        ensures line { self.new.line ≡ self.old.line }
+        ensures rows { self.new.rows ≡ self.old.rows }
+        ensures waiting { self.new.waiting ≡ self.old.waiting }
+        ensures shown { self.new.shown ≡ self.old.shown }
     {
         match saved::save(self.state.holding, &mut self.out) {
             Ok(n) => self.streams.write_all(&self.out[..n]),
