@@ -8,23 +8,41 @@ use borrow.Author.Tests.{lt-ltb}
 use lib.Dec.{eqb}
 use lib.IntN.{ℤ}
 use lib.ListN.{length}
+use denote.Enum.Declared.{tag_of}
 use Rattle.bits.proofs.Windows.{Bytes}
+use Rattle.format.specs.declared.Answer.{Answer}
+use Rattle.format.specs.declared.Answer.TheVariants as Answers
 use Rattle.format.specs.declared.Refusal.TheVariants.{Changed}
 use Rattle.format.specs.Answers.{number_of, said_at}
 use Rattle.format.specs.Good.{is_holding}
 use Rattle.format.specs.Masks.{nothing, Lent, stray, lent}
 use Rattle.format.specs.Reading.{Outcome, accepted, idle, refused, changed, kept_by, lent_after, answer_of}
 use Rattle.format.specs.Walking.{Walk, messages}
+use Rattle.format.specs.contracts.Answer.{the_type}
 use Rattle.format.proofs.Walks.{none_kept, walk_good, walk_stray}
 use Rattle.holding.specs.declared.Holding.{Holding}
 use Rattle.holding.specs.Pictures.{sound, lent_by}
-use Rattle.host.specs.Handing.{number_said, walked_at, walked_to, changing, bytes_after, kept_bytes, left_bytes, walk_bytes}
+use Rattle.host.specs.Handing.{message_number, number_said, missing_said, walked_at, walked_to, changing, bytes_after, kept_bytes, left_bytes, walk_bytes}
 use Rattle.host.proofs.Outcomes.{bytes_pass, bytes_kept, after_sound, after_bytes}
 use Rattle.passing.specs.Passing.{size, holding_in}
 use Rattle.reader.specs.Readings.{struct_of}
 use Rattle.reader.proofs.Lents.{is_holding_lem}
 use Rattle.walk.specs.declared.Halt.{Halt}
 use Rattle.walk.specs.Walks.{walk_at, walked_of}
+
+-- a message's number, by its tag
+pub message_number_lem : (a : Answer) → tag_of the_type a ≡ 0 → (place : ℕ) → message_number ≡ number_said (said_at place a)
+unfolding number_said said_at
+message_number_lem (Answers.Message h next rows) e place = refl
+message_number_lem Answers.Idle e place = absurd (omega arith)
+message_number_lem (Answers.Refused r missing) e place = absurd (omega arith)
+
+-- no bits are missing of it, nor where a reading is idle
+pub message_missing : (a : Answer) → tag_of the_type a ≡ 0 → (place : ℕ) → 0 ≡ missing_said (said_at place a)
+unfolding missing_said said_at
+message_missing (Answers.Message h next rows) e place = refl
+message_missing Answers.Idle e place = absurd (omega arith)
+message_missing (Answers.Refused r missing) e place = absurd (omega arith)
 
 -- 13 is told by its number
 dropped_number : (o : Outcome) → eqb (number_said (said_at 0 (answer_of o))) (number_of Changed) ≡ changed o

@@ -8,6 +8,7 @@ use lib.Dec.{eqb, ltb}
 use lib.ListN.{length, take}
 use borrow.Author.Tests.{eq-eqb, ne_eqb, lt-ltb}
 use native.Mathlib.Decide.{ℕ_discrete}
+use native.Mathlib.Nat.{div-mul-le_self}
 use Rattle.bits.specs.BitLists.{digit, number, spell}
 use Rattle.bits.proofs.BitLists.{digit_eqb, number_append, number_spell}
 use Rattle.bits.proofs.Windows.{one_shifted}
@@ -66,6 +67,10 @@ kept_whole n c whole =
 pub kept_part : (n c : ℕ) → n < 4 → let spare = 1 * 2 ^ (4 - n) % 2 ^ 64 in char_digit c % 16 / spare * spare ≡ kept n c
 unfolding kept
 kept_part n c few = rw (one_shifted (4 - n) (omega arith))
+
+pub kept_small : (n c : ℕ) → kept n c < 16
+unfolding kept
+kept_small n c = omega (arith, div-mul-le_self (char_digit c % 16) (2 ^ (4 - n)))
 
 -- none are left
 none_say : (cs : List ℕ) → hex_says 0 cs ≡ same_list eqb [] cs

@@ -88,13 +88,15 @@ module _ (line : List ℕ) (t : ℕ) (tab-at : t ≡ tab_within 5 line) (n : ℕ
     pub no_end : ¬ (last ≡ line_feed) → None ≡ line_for (line_says line)
     no_end = fails (λ l few same. (digits_there l few same parts).1)
 
+    pub no_digits : hex_says n middle ≡ false → None ≡ line_for (line_says line)
+    no_digits e = fails (λ l few same. rw (counted l few same, (digits_there l few same parts).0) (its_digits l few)) (λ some. false≢true (sym e ∙ some))
+
     -- ---- all pass but the last one, which may
 
     pub says_bits : (said : Bool) → said ≡ hex_says n middle → t < length line → get_or line t 0 ≡ tab → n ≤ stretch_limit → opens_with line t n ≡ true → last ≡ line_feed
         → then_some said (record { bits = n; first = t + 1 }) ≡ line_for (line_says line)
     unfolding line_for opens_with stretch_line
-    says_bits false e there at_tab few opened ended =
-        fails (λ l few same. rw (counted l few same, (digits_there l few same parts).0) (its_digits l few)) (λ some. false≢true (e ∙ some))
+    says_bits false e there at_tab few opened ended = no_digits (sym e)
     says_bits true e there at_tab few opened ended =
         let l : List Bool = take n (hex_bits middle) in
         let both = (and-eq-true_iff (same_list eqb (hex l) middle) (eqb (length l) n)).0 (sym (digits_say n middle) ∙ sym e) in

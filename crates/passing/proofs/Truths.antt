@@ -7,7 +7,7 @@ use Rattle.holding.specs.Bounds.{every}
 use Rattle.passing.specs.Passing.{truths}
 
 -- of two
-or_truth : (a b : ℕ) → leb (bit_or a b) 1 ≡ (leb a 1 && leb b 1)
+pub or_truth : (a b : ℕ) → leb (bit_or a b) 1 ≡ (leb a 1 && leb b 1)
 or_truth a b = go (leb a 1) (leb b 1) refl refl
   where
     go : (x y : Bool) → leb a 1 ≡ x → leb b 1 ≡ y → leb (bit_or a b) 1 ≡ (x && y)

@@ -2,15 +2,14 @@
 use mathlib.Core.Path.{◌≡◌, refl, sym, ap, ◌∙◌}
 use mathlib.Core.Bool.{Bool, true, false, ◌&&◌, and-true, and_assoc}
 use mathlib.Core.List.{List, [], ◌∷◌, ◌++◌, append_assoc}
-use Prim.Native.Nat.{ℕ, suc, ◌+◌, ◌-◌, ◌≤◌, ◌<◌}
+use Prim.Native.Nat.{ℕ, suc, ◌+◌, ◌≤◌, ◌<◌}
 use native.Mathlib.Nat.{add-zero}
 use native.Mathlib.Numerals.{add-one}
 use native.Mathlib.Omega.{arith}
 use lib.Count.{ones}
 use lib.Dec.{eqb}
-use lib.ListN.{length, get_or, take, drop, length-append, length-drop, drop_of_length-le}
-use lib.Pointwise.{pointwise}
-use lib.Seq.{drop-cons, take_at, take-length}
+use lib.ListN.{length, get_or, take, drop, length-append, drop_of_length-le}
+use lib.Seq.{drop-cons, take_at}
 use borrow.Author.Tests.{eqb-true}
 use Rattle.format.proofs.Sames.{same_list_sound}
 use Rattle.format.specs.Same.{same_list}
@@ -52,16 +51,6 @@ lengths_differ a b other = go (same_list eqb a b) refl
     go : (same : Bool) → same_list eqb a b ≡ same → same_list eqb a b ≡ false
     go true e = absurd (other (ap length (same_list_sound eqb eqb-true a b e)))
     go false e = e
-
--- it does if it is the first of what is there, which code has as a part of the line
-first : (line : List ℕ) (at : ℕ) (text : List ℕ) → at + length text ≤ length line → stands_at line at text ≡ pointwise eqb text (take (length text) (drop at line))
-unfolding stands_at
-first line at [] fits = refl
-first line at (c ∷ text) fits =
-    rw (drop-cons line at 0 (omega arith), add-one at) (ap (λ (b : Bool). eqb c (get_or line at 0) && b) (first line (suc at) text (omega arith)))
-
-pub stood : (line : List ℕ) (at : ℕ) (text : List ℕ) → at + length text ≤ length line → stands_at line at text ≡ pointwise eqb text (take (length text) (take (length line - at) (drop at line)))
-stood line at text fits = rw (← (length-drop at line), take-length (drop at line)) (first line at text fits)
 
 -- a text of which the front stands: it does so whole just where the rest stands from a place on
 pub record StandsLeft (line : List ℕ) (start : ℕ) (all : List ℕ) (place : ℕ) (rest : List ℕ) : Type 0 where

@@ -98,12 +98,16 @@ pub fn line_text(
 }
 
 // Whether a text stands at a place of a line.
-#[tactic(auto, using(crate::proofs::Compared::stood))]
 fn stands(line: &[u8], at: usize, text: &[u8]) -> bool
     requires { at + length text.now ≤ length line.now }
     ensures { result ≡ stands_at line.now at text.now }
 {
-    line[at..].starts_with(text)
+    for i in 0..text.len() {
+        if line[at + i] != text[i] {
+            return false;
+        }
+    }
+    true
 }
 
 // A piece of a line is the text of one system at most: what is fixed, its ID and a dash; for each place of its satellite mask a
