@@ -1,8 +1,9 @@
 # retarget.awk -v layout=LINE -v triple=LINE -v also=LINE: a module of `rt lib`, as text, for another processor: its
 # data layout and triple replaced, what names x86-64 taken away, a line added. Every other word of the module must be one
 # of those listed here, none of which means another thing on another processor. So a module that turns a pointer into a
-# number (ptrtoint), passes a struct by value (sret, byval), has machine code or features of one machine (asm,
-# target-features), or another type than these, is refused, and a new kit cannot make the library wrong in silence.
+# number (ptrtoint; a place alone, ptrtoaddr, is taken), passes a struct by value (sret, byval), has machine code or
+# features of one machine (asm, target-features), or another type than these, is refused, and a new kit cannot make the
+# library wrong in silence.
 
 BEGIN {
     known = "define internal declare attributes" # what a line begins with
