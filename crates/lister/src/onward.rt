@@ -14,8 +14,8 @@ use walk::{Tally, single};
 // Idle's number.
 const IDLE: u64 = 0;
 
-// The stop's line of text, after which the next line is gathered. It is made part of its callers: as a call it is handed
-// the state in memory, and a line takes 270 instructions more.
+// The stop's line of text, after which the next line is gathered. It is made part of its callers: as a call it is
+// handed the state in memory, and a line takes 270 instructions more.
 #[inline(always)]
 fn stop(next: State, tally: Tally, number: u64, missing: usize, out: &mut [u8]) -> Step
     requires { (number < 2 ^ 31) × (tally.place < 2 ^ 31) × (tally.messages < 2 ^ 31) × (tally.rows < 2 ^ 31) × (message_room ≤ length out.old) }

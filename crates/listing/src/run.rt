@@ -114,7 +114,7 @@ impl<R: Read, W: Write> Run<R, W> {
     }
 
     // Steps until all of a piece is taken, and all is listed that it brought. No piece says that the input has ended.
-    fn pour(&mut self, piece: &[u8])
+    pub fn pour(&mut self, piece: &[u8])
         requires { Good self.old.state self.old.line self.old.rows }
         ensures good { Good self.new.state self.new.line self.new.rows }
         ensures room { self.new.waiting + message_room ≤ 65536 }

@@ -97,7 +97,8 @@ pub fn line_text(
     put(line, second, LINE_FEED)
 }
 
-// Whether a text stands at a place of a line.
+// Whether a text stands at a place of a line. Not by `starts_with`: there no wrong program that takes another character
+// for the right one has a fact of its own (docs/DESIGN-PASS.md).
 fn stands(line: &[u8], at: usize, text: &[u8]) -> bool
     requires { at + length text.now ≤ length line.now }
     ensures { result ≡ stands_at line.now at text.now }

@@ -22,9 +22,8 @@ loop-i-preserved g c =
     let done = parts_of k (map value (take i ns)) in
     let few : length done ≡ k * i = length_parts_of k (map value (take i ns)) ∙ rw (length-map (take i ns) value, length-take-le i ns (omega arith)) in
     let new : c.copy_from_slice.new.self ≡ parts k (value x) = c.copy_from_slice.ensures.after ∙ c.bytes.ensures in
-    let long : length (parts k (value x)) ≡ k * (i + 1) - k * i = length_parts k (value x) ∙ omega arith in
     let more = parts_more k value ns i x (omega arith) ∙ ap (λ (y : g.row.T.Denot). done ++ parts k (value y)) (sym c.index-ns-i.is) in
-    rw (c.loop-i.invariant, new) (over_more (k * i) (k * (i + 1) - k * i) done (parts k (value x)) c.args.part.now few long ∙ ap (λ (l : List ℕ). over l c.args.part.now) (sym more))
+    rw (c.loop-i.invariant, new) (over_more _ _ done (parts k (value x)) c.args.part.now (few ∙ omega arith) (length_parts k (value x) ∙ omega arith) ∙ ap (λ (l : List ℕ). over l c.args.part.now) (sym more))
 
 pub returns : goal.returns
 returns g c =
